@@ -1,18 +1,22 @@
 #!/usr/bin/env python3
 # SPDX-License-Identifier: MIT
-"""Runs the merge gate in a fresh clone with an empty home, and tells where its time goes.
+"""Runs the merge gate from nothing, in a fresh clone with an empty home, and tells where its time goes.
 
-    bench/gate.py [COMMIT] > FILE
+    bench/gate.py [COMMIT] > FILE                        on all processors
+    taskset -c 0,1 bench/gate.py [COMMIT] > FILE         on two
 
-Each line that the gate prints comes with the minutes since its start; after its end come the
-processor minutes of each crate's proof and tests, of the second proof with which its must-fail edits
-begin, and of these, as sampled every three seconds. Checks that others run meanwhile aren't counted.
-Nothing is compared with a limit. Run it alone: the gate reckons with the memory that is free at its
-start, and the figures are the machine's. Python 3 and git are all that it needs.
+What `rt ci` keeps between runs lies in a folder beside the kit; an empty one is mounted over it for this run
+alone, which takes root. Each line that the gate prints goes to standard error, with the minutes since its
+start. The summary goes to standard output: the gate's last lines, the processor minutes of all of it, of its
+checks, and of each crate's proof, tests and must-fail edits, as sampled every three seconds, and how many
+times the proof of argus_texts that is. Checks that others run meanwhile aren't counted. Nothing is compared
+with a limit. Run it alone: the figures are the machine's.
 """
 
 import collections
 import os
+import resource
+import shutil
 import subprocess
 import sys
 import tempfile
@@ -24,9 +28,8 @@ TICK = os.sysconf("SC_CLK_TCK")
 
 def kind_of(words, folder):
     """What a check of the gate is for."""
-    if "/rt-edit-" in folder:
-        kept = words[words.index("--incremental") + 1] if "--incremental" in words else ""
-        return "second" if kept.endswith("/seed") else "edits"
+    if "/mistakes-" in folder:
+        return "edits"
     return "tests" if "--test" in words else "proof"
 
 
@@ -65,6 +68,50 @@ def sample(top, seen, peak):
         peak[what] = max(peak[what], int(fields[21]) * os.sysconf("SC_PAGESIZE"))
 
 
+def results():
+    """The folder beside the kit in which `rt ci` keeps results."""
+    kit = os.path.dirname(subprocess.check_output(["rt", "doc"], text=True).strip())
+    return os.path.join(os.path.dirname(kit), "rattle-kept")
+
+
+def command_over(kept):
+    """The gate's command, with this empty folder in place of the one with kept results."""
+    os.makedirs(results(), exist_ok=True)
+    os.mkdir(kept, 0o700)
+    steps = 'mount --bind "$1" "$2" && exec bash .ci/run'
+    return ["unshare", "--mount", "sh", "-c", steps, "gate", kept, results()]
+
+
+def keep(kept):
+    """Moves what the run kept to the other kept results, so that the next `rt ci` begins with it."""
+    for name in os.listdir(kept):
+        if not os.path.exists(f"{results()}/{name}"):
+            shutil.move(f"{kept}/{name}", f"{results()}/{name}")
+
+
+def run(gate, start):
+    """Passes on what the gate prints, and returns its last lines."""
+    last = collections.deque(maxlen=2)
+    for line in gate.stdout:
+        print(f"{(time.time() - start) / 60:7.2f} {line}", end="", file=sys.stderr, flush=True)
+        last.append(line)
+    return last
+
+
+def tell(seen, peak, all_minutes):
+    """Prints the processor minutes, by crate and kind."""
+    sums = collections.defaultdict(float)
+    for what, seconds in seen.values():
+        sums[what] += seconds / 60
+    measure = sums["argus_texts", "proof"]
+    print(f"processors: {len(os.sched_getaffinity(0))}")
+    print(f"processor minutes: {all_minutes:.0f} in all, {sum(sums.values()):.0f} of them checks")
+    if measure:
+        print(f"times the proof of argus_texts, {measure:.1f} minutes: {all_minutes / measure:.1f}")
+    for what, minutes in sorted(sums.items(), key=lambda it: -it[1]):
+        print(f"{what[0]:24} {what[1]:6} {minutes:6.1f}   at most {peak[what] / 1e9:.1f} GB a process")
+
+
 def main():
     top = subprocess.check_output(["git", "rev-parse", "--show-toplevel"], text=True).strip()
     commit = sys.argv[1] if len(sys.argv) > 1 else "HEAD"
@@ -80,7 +127,7 @@ def main():
 
         start = time.time()
         gate = subprocess.Popen(
-            ["bash", ".ci/run"],
+            command_over(f"{room}/kept"),
             cwd=f"{room}/clone",
             env={"HOME": f"{room}/home", "PATH": os.environ["PATH"], "CI": "true"},
             stdin=subprocess.DEVNULL,
@@ -90,17 +137,15 @@ def main():
             errors="replace",
         )
         threading.Thread(target=watch, args=(gate.pid,)).start()
-        for line in gate.stdout:
-            print(f"{(time.time() - start) / 60:7.2f} {line}", end="", flush=True)
+        last = run(gate, start)
+        status = gate.wait()
         ended.set()
-        print(f"{(time.time() - start) / 60:7.2f} status {gate.wait()}")
-    sums = collections.defaultdict(float)
-    for what, seconds in seen.values():
-        sums[what] += seconds / 60
-    print(f"processor minutes, by crate and kind; in all {sum(sums.values()):.0f}")
-    for what, minutes in sorted(sums.items(), key=lambda it: -it[1]):
-        print(f"{what[0]:20} {what[1]:6} {minutes:6.1f}   at most {peak[what] / 1e9:.1f} GB a process")
-    return gate.returncode
+        keep(f"{room}/kept")
+    used = resource.getrusage(resource.RUSAGE_CHILDREN)
+    print("".join(last), end="")
+    print(f"status: {status}, minutes: {(time.time() - start) / 60:.1f}")
+    tell(seen, peak, (used.ru_utime + used.ru_stime) / 60)
+    return status
 
 
 if __name__ == "__main__":

@@ -20,7 +20,7 @@ EXPORTS = TOP / "crates/argus_c/src/lib.rt"
 READYING = TOP / "crates/argus_c/src/readying.rt"
 LISTED = TOP / "crates/argus_embed/src/listed_call.rt"
 HEADER = TOP / "crates/argus_c/include/argus.h"
-RUST = TOP / "hosts/rust/src/sys.rs"
+RUST = TOP / "hosts/rust/sys/src/lib.rs"
 PYTHON = TOP / "hosts/python/argus_guardian/library.py"
 QUICK = TOP / "hosts/python/argus_guardian/_call.c"
 
@@ -104,7 +104,7 @@ def listed_fields():
     declared = {
         LISTED: (r"pub struct ListedCall<'a> \{(.*?)\n\}", r"pub (?P<name>\w+): (?P<kind>.*),$", IN_RATTLE),
         HEADER: (r"typedef struct argus_listed_call \{(.*?)\n\}", r"^    (?P<kind>[\w ]+[ *])(?P<name>\w+);", IN_C),
-        RUST: (r"pub\(crate\) struct ListedCall \{(.*?)\n\}", r"pub\(crate\) (?P<name>\w+): (?P<kind>.*),$", IN_RUST),
+        RUST: (r"pub struct ListedCall \{(.*?)\n\}", r"pub (?P<name>\w+): (?P<kind>.*),$", IN_RUST),
         PYTHON: (r"class ListedCall.*?_fields_ = \[(.*?)\n    \]", r'\("(?P<name>\w+)", (?P<kind>.*)\),$', IN_PYTHON),
     }
     kinds = {LISTED: {**IN_RATTLE, "u32": "u32", "i64": "i64"}}
@@ -118,7 +118,7 @@ def answer_fields():
     """Of a status with its number, by file."""
     declared = {
         HEADER: (r"typedef struct argus_answer \{(.*?)\n\}", r"^    (?P<kind>\w+ )(?P<name>\w+);", IN_C),
-        RUST: (r"pub\(crate\) struct Answer \{(.*?)\n\}", r"pub\(crate\) (?P<name>\w+): (?P<kind>.*),$", IN_RUST),
+        RUST: (r"pub struct Answer \{(.*?)\n\}", r"pub (?P<name>\w+): (?P<kind>.*),$", IN_RUST),
         PYTHON: (r"class Answer.*?_fields_ = \[(.*?)\]\n", r'\("(?P<name>\w+)", (?P<kind>[\w.]+)\)', IN_PYTHON),
     }
     return {file: fields_of(file.read_text(encoding="utf-8"), *it) for file, it in declared.items()}

@@ -11,7 +11,6 @@ set -euo pipefail
 
 top=$(cd "$(dirname "$0")/.." && pwd)
 name=argus_c
-most=
 . "$top/tools/program.sh"
 rt=$(find_kit)
 kit=$(dirname "$("$rt" doc)")

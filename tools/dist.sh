@@ -14,6 +14,8 @@
 #   DIST/include/argus_values.h     that for values, which includes it
 #   DIST/share/doc/argus/LICENSE    the license
 #
+# tools/release.sh then adds what is handed on: programs, manual page, crates, a list, an archive and a wheel.
+#
 # FOLDER is that of libargus_c.a, else where `rt lib` in crates/argus_c leaves it. DIST is the folder dist
 # at the repository's top where nothing is said; make -C hosts/c install PREFIX=.. installs what is in it.
 # It needs a compiler for C (Debian: gcc).
@@ -23,7 +25,6 @@ set -euo pipefail
 
 top=$(cd "$(dirname "$0")/.." && pwd)
 name=dist
-most=
 . "$top/tools/program.sh"
 archive=${ARGUS_ARCHIVE:-$top/crates/argus_c/out}/libargus_c.a
 headers=$top/crates/argus_c/include
@@ -108,3 +109,4 @@ install -m 644 "$room/argus.pc" "$dist/lib/pkgconfig/"
 install -m 644 "$header" "$headers/argus_values.h" "$dist/include/"
 install -m 644 "$top/LICENSE" "$dist/share/doc/argus/"
 echo "dist: $(cd "$dist" && pwd) has argus $version, $(origin)"
+"$top/tools/release.sh" "$dist"

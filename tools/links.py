@@ -9,13 +9,13 @@ In each page (*.md) outside its blocks of code it looks at these:
 - A link: its file or folder has to be there, from the page's own folder; behind a # there has to be
   a heading of that name.
 - A path in backticks. Text without a blank is a path where it begins with a folder: one at the top, a
-  crate, or one that crates have (src/, specs/, proofs/, must-fail/, must-fail-nightly/, data/); or where
+  crate, or one that crates have (src/, specs/, proofs/, data/); or where
   it ends as the repository's files do (.rt, .antt, .md ..). It has to be a file or folder of the
   repository, or the end of one's path: `specs/Query.antt`, `query.rt`. `*` stands for any characters. A
   word in capitals stands for a name, and what .gitignore names is made by a build: neither is looked for.
   A page may shorten a folder to one capital letter, as CONTRIBUTING does: "`C` is crates/argus_contents".
 - A path outside of backticks, where it begins with a folder at the top.
-- An edit that the prover has to refuse, CRATE/edit, named in docs/MISTAKES.md, with those behind it.
+- An edit that the prover has to refuse, named in docs/MISTAKES.md as CRATE/edit.
 - A definition, in a row of docs/DEFINITIONS.md that begins with a link to its file: it stands there.
 
 It prints a line for each that isn't there, and how many it looked at. Python 3 is all that it needs.
@@ -34,7 +34,7 @@ SPAN = re.compile(r"`([^`\n]+)`")
 PLAIN = re.compile(r"(?<![\w./-])(?:\.ci|bench|crates|docs|examples|hosts|tools)/[\w.*/+-]*[\w*]")
 LETTER = re.compile(r"`([A-Z])` (?:is |the files of .*?\()?(?:crates/)?((?:argus_\w+)[\w/]*)")
 PLACEHOLDER = re.compile(r"[A-Z_]*[A-Z][A-Z_]+")
-EDIT = re.compile(r"\b((?:argus_\w+|test_rows)/)?([a-z0-9]+(?:_[a-z0-9]+)+)\b")
+EDIT = re.compile(r"\b(argus_\w+/\w+)\b")
 
 
 def ignored():
@@ -44,7 +44,7 @@ def ignored():
 
 def tree():
     """All files of the repository, and all folders but those that builds make."""
-    files, folders = set(), {"examples"}
+    files, folders = set(), set()
     for folder, inner, names in os.walk(TOP):
         inner[:] = [name for name in inner if name not in ignored() | {".git"}]
         where = pathlib.Path(folder).relative_to(TOP)
@@ -80,8 +80,8 @@ class Checker:
 
     def __init__(self):
         self.files, self.folders = tree()
-        self.heads = {name.split("/")[0] for name in self.files if "/" in name} | {"examples"}
-        self.heads |= {"src", "specs", "proofs", "must-fail", "must-fail-nightly", "data"} | self.crates
+        self.heads = {name.split("/")[0] for name in self.files if "/" in name}
+        self.heads |= {"src", "specs", "proofs", "data"} | self.crates
         self.made = ignored()
         self.looked_at = 0
         self.missing = 0
@@ -138,16 +138,11 @@ class Checker:
             self.say(page, number, f"no file or folder {text}")
 
     def check_edits(self, page, number, cell):
-        """The edits that a row of docs/MISTAKES.md names: CRATE/edit, edit; CRATE/edit."""
-        crate = None
-        for match in EDIT.finditer(cell.replace("`", "")):
-            crate = match.group(1) or crate
-            if crate is None or (match.group(2) in self.crates and not match.group(1)):
-                return
+        """The edits that a row of docs/MISTAKES.md names as CRATE/edit."""
+        for edit in EDIT.findall(cell):
             self.looked_at += 1
-            edits = {f"crates/{crate}{it}/{match.group(2)}.edit" for it in ("must-fail", "must-fail-nightly")}
-            if not edits & self.files:
-                self.say(page, number, f"no edit {crate}{match.group(2)}")
+            if f"must-fail/{edit}.edit" not in self.files:
+                self.say(page, number, f"no edit {edit}")
 
     def check_definitions(self, page, number, target, cell):
         """The definitions that a row of docs/DEFINITIONS.md names: they stand in the file of its link."""

@@ -9,7 +9,7 @@
 set -u
 top=$(cd "$(dirname "$0")/.." && pwd)
 command -v valgrind > /dev/null || { echo 'memcheck.sh: needs the package valgrind' >&2; exit 2; }
-[ $# -gt 0 ] || set -- argus replay picture argus_embedding_example parts_tests scripts_tests argus_fuzz
+[ $# -gt 0 ] || set -- argus replay picture argus_embedding_example parts_tests scripts_tests
 work=$(mktemp -d)
 trap 'rm -rf "$work"' EXIT
 wrong=0
@@ -18,7 +18,6 @@ wrong=0
 run() {
     local crate=$top/crates/$1 words=() input=/dev/null wanted=0 status
     [ -f "$crate/args" ] && mapfile -t words < "$crate/args"
-    [ "$1" = argus_fuzz ] && words=(20 20)
     [ -f "$crate/stdin" ] && input=$crate/stdin
     [ -f "$crate/status" ] && wanted=$(cat "$crate/status")
     cd "$crate/data" 2> /dev/null || cd "$work"
@@ -27,7 +26,7 @@ run() {
     status=$?
     cd "$top"
     [ "$status" = "$wanted" ] || { echo "$1: status $status"; cat "$work/log"; return 1; }
-    [ "$1" = argus_fuzz ] || cmp -s "$work/out" "$crate/stdout" || { echo "$1: prints something else"; return 1; }
+    cmp -s "$work/out" "$crate/stdout" || { echo "$1: prints something else"; return 1; }
     judge "$1"
 }
 

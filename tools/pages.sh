@@ -20,7 +20,7 @@ tools/maps.py --check || status=1
 tools/design.py --check || status=1
 tools/readme.py --texts || status=1
 version=$(sed -n 's/^## \([0-9.]*\).*/\1/p' CHANGELOG.md | head -n 1)
-places=(crates/argus_usage/src/command.rt crates/argus_c/include/argus.h hosts/rust/Cargo.toml
+places=(crates/argus_usage/src/command.rt crates/argus_c/include/argus.h hosts/rust/Cargo.toml hosts/rust/sys/Cargo.toml
     hosts/rust/etcd/Cargo.toml hosts/rust/host/Cargo.toml hosts/rust/log_c/Cargo.toml
     hosts/python/argus_guardian/__init__.py)
 for place in "${places[@]}"; do
@@ -35,7 +35,7 @@ if [ "$numbers" != "$version" ]; then
 fi
 IFS=. read -r major minor patch <<< "$version"
 number=$((10000 * major + 100 * minor + patch))
-for place in crates/argus_c/include/argus.h crates/argus_c/src/lib.rt hosts/rust/src/sys.rs hosts/python/argus_guardian/library.py; do
+for place in crates/argus_c/include/argus.h crates/argus_c/src/lib.rt hosts/rust/sys/src/lib.rs hosts/python/argus_guardian/library.py; do
     grep -Eq "VERSION_NUMBER\b.*[ =]$number\b" "$place" && continue
     echo "$place: its VERSION_NUMBER isn't $number, that of CHANGELOG.md"
     status=1

@@ -1,17 +1,16 @@
 # SPDX-License-Identifier: MIT
-# What ./argus, ./picture and ./replay have in common: how a program is proved, and how it is run. Whoever
-# takes this in has set `top`, the repository's folder; `name`, the program's crate; and `most`, how
-# many bytes of its input it reads.
+# What ./argus, ./picture and ./replay have in common: how a program is found, made or proved, and how it is
+# run. Whoever takes this in has set `top`, the repository's folder, and `name`, the program's crate.
 
-program=$top/crates/$name/out/$name
+proved=$top/crates/$name/out/$name
 
 say() {
     printf '%s: %s\n' "$name" "$1" >&2
 }
 
-# The program's crate and those that it stands on, in the order of crates.txt: lowest first.
+# A crate, by default the program's, and those that it stands on, in the order of crates.txt: lowest first.
 crates() {
-    awk -F: -v name="$name" '
+    awk -F: -v name="${1:-$name}" '
         /^[a-z]/ { split($1, head, " "); list[++count] = head[1]; libraries[head[1]] = $2 }
         END {
             needed[name] = 1
@@ -29,14 +28,19 @@ crates() {
         }' "$top/crates.txt"
 }
 
-# Whether the program is there, and no source is newer.
+# The folders of a crate and those that it stands on: folders_of CRATE KIND..
+folders_of() {
+    list=$(crates "$1")
+    shift
+    for kind; do printf '%s\n' "$list" | sed "s|.*|crates/&/$kind|"; done
+}
+
+# Whether the proved program is there, and no source is newer.
 is_proved() {
-    [ -x "$program" ] || return 1
-    for crate in $(crates); do
-        sources=$top/crates/$crate
-        newer=$(find "$sources/src" "$sources/specs" "$sources/proofs" -newer "$program" 2> /dev/null | head -n 1)
-        [ -z "$newer" ] || return 1
-    done
+    [ -x "$proved" ] || return 1
+    # A folder that isn't there has nothing newer.
+    newer=$(cd "$top" && find $(folders_of "$name" src specs proofs) -newer "$proved" 2> /dev/null | head -n 1)
+    [ -z "$newer" ]
 }
 
 # The command of the Rattle kit: on the path, or where a kit usually lies.
@@ -49,6 +53,104 @@ find_kit() {
         say "no Rattle kit found: put its command rt on the path, or its folder into RATTLE_KIT"
         return 1
     fi
+}
+
+# The file that says which kit it is; where there is none, one that says nothing new.
+identity_of_kit() {
+    kit=$(readlink -f "$(find_kit 2> /dev/null)") || kit=
+    kit=${kit%/bin/rt}/KIT-ID
+    if [ -f "$kit" ]; then echo "$kit"; else echo crates.txt; fi
+}
+
+# The folder of a crate's unproved build, which is named by a sum of the sources, of what makes it and of the
+# kit: kept_folder CRATE
+kept_folder() {
+    sum=$(
+        cd "$top"
+        {
+            find $(folders_of "$1" src) -name '*.rt' | LC_ALL=C sort
+            printf '%s\n' crates.txt tools/unproved.py "$(identity_of_kit)"
+        } | xargs sha256sum | sha256sum
+    )
+    printf '%s/build/unproved/%s-%.16s\n' "$top" "$1" "$sum"
+}
+
+# What an unproved build of a crate is called.
+file_of() {
+    if [ "$1" = argus_c ]; then echo libargus_c.a; else echo "$1"; fi
+}
+
+# Counts the seconds until it is ended: on a terminal in one line, else in a line each half minute.
+tell_seconds() {
+    trap 'exit 0' TERM
+    seconds=0
+    while :; do
+        if [ -t 2 ]; then
+            printf '\r%s: %s: %s s so far' "$name" "$1" "$seconds" >&2
+        elif [ $((seconds % 30)) = 0 ]; then
+            say "$1: $seconds s so far"
+        fi
+        sleep 1 > /dev/null 2>&1
+        seconds=$((seconds + 1))
+    done
+}
+
+# Lets one call at a time make builds of a crate.
+wait_for_turn() {
+    command -v flock > /dev/null || return 0
+    exec 9> "$top/build/unproved/$1.lock"
+    flock -n 9 || {
+        say "another call compiles it; waiting for that"
+        flock 9
+    }
+    # What an earlier call left that was killed.
+    rm -rf "$top/build/unproved/$1-making".*
+}
+
+# Keeps the newest builds of a crate, for those who go back and forth between versions.
+leave_newest() {
+    (cd "$top/build/unproved" && ls -dt "$1"-[0-9a-f]* | tail -n +5 | xargs -r rm -rf)
+}
+
+# Makes the unproved build in the folder `making`: compile CRATE
+compile() {
+    begin=$(date +%s)
+    tell_seconds "compiling $1 without proof" 9>&- &
+    ticker=$!
+    "$top/tools/unproved.py" "$1" "$making/$(file_of "$1")" < /dev/null > "$making/log" 2>&1 9>&- || compiled=no
+    kill "$ticker"
+    ticker=
+    [ ! -t 2 ] || printf '\r' >&2
+    if [ "${compiled:-}" = no ]; then
+        cat "$making/log" >&2
+        say "not compiled, as the lines above say"
+        exit 1
+    fi
+    rm "$making/log"
+}
+
+# Makes an unproved build of the sources as they stand, if another call hasn't meanwhile: keep CRATE
+keep() {
+    find_kit > /dev/null
+    mkdir -p "$top/build/unproved"
+    wait_for_turn "$1"
+    kept=$(kept_folder "$1")
+    if [ ! -e "$kept" ]; then
+        making=$(mktemp -d "$top/build/unproved/$1-making.XXXXXX")
+        ticker=
+        trap '[ -z "$ticker" ] || kill "$ticker"; rm -rf "$making"' EXIT
+        trap 'exit 1' HUP INT TERM
+        compile "$1"
+        if [ "$(kept_folder "$1")" != "$kept" ]; then
+            say "the sources changed while they were compiled: try again"
+            exit 1
+        fi
+        mv "$making" "$kept"
+        trap - EXIT HUP INT TERM
+        say "compiled in $(($(date +%s) - begin)) s, and kept; this build isn't proved"
+        leave_newest "$1"
+    fi
+    exec 9>&-
 }
 
 # Says how far the proof is, now and each minute until it is ended: tell_minutes WHERE BEGIN
@@ -91,92 +193,87 @@ prove() {
         ticker=
     done
     # What was saved since the proof began is newer: it may not have been read.
-    touch -r "$begun" "$program"
+    touch -r "$begun" "$proved"
     say "proved and built in $((($(date +%s) - begin + 30) / 60)) min; it starts at once from now on"
 }
 
-# Whether an argument asks for help or the version, which reads no input.
+# Whether the words are one, and that asks for help or the version.
 asks_for_text() {
-    for word; do
-        case $word in -h | --help | -V | --version) return 0 ;; esac
-    done
+    [ "$#" = 1 ] || return 1
+    case $1 in -h | --help | -V | --version) return 0 ;; esac
     return 1
 }
 
-# Ends as the program does where an argument isn't UTF-8, which the kit can't hand to it.
-refuse_broken_text() {
-    python3 -c 'import os, sys; [os.fsencode(word).decode() for word in sys.argv[1:]]' "$@" 2> /dev/null && return
-    printf 'error: invalid UTF-8 was detected in one or more arguments\n\n%s\n' \
-        "For more information, try '--help'." >&2
-    exit 2
-}
-
-# Keeps what the program reads of its input at the most.
-keep_input() {
-    if asks_for_text "$@"; then
-        : > "$room/input"
-    else
-        head -c "$most" > "$room/input" 2> /dev/null
-    fi
-}
-
-# The path of a file, from the root on.
-from_root() {
+# Prints what the program prints for this word, from where its texts are kept, without a build.
+show_text() {
     case $1 in
-        /* | '') printf '%s\n' "$1" ;;
-        *) printf '%s/%s\n' "$PWD" "$1" ;;
+        -h | --help) cat "$top/tools/help/$name.txt" ;;
+        *)
+            source=$top/crates/argus_usage/src/command.rt
+            printf '%s %s\n' "$name" "$(sed -n 's/^pub const VERSION: &str = "\(.*\)";/\1/p' "$source")"
+            say "neither proved nor compiled yet"
+            ;;
     esac
 }
 
-# Runs the program by `rt try`, whose own lines stand behind the program's on standard error.
-run_unproved() {
-    kit=$(find_kit)
-    refuse_broken_text "$@"
-    room=$(mktemp -d)
-    trap 'rm -rf "$room"' EXIT
-    trap 'exit 1' INT TERM
-    say "this run is unproved, and takes most of a minute; ./$name --prove proves and builds the program"
-    is_read=yes
-    keep_input "$@" || { is_read=no; : > "$room/input"; }
-    # It runs in its crate's folder, where a script's path has to lead to the same file.
-    left=$#
-    before=
-    while [ "$left" -gt 0 ]; do
-        word=$1
-        shift
-        left=$((left - 1))
-        [ "$before" != --script ] || word=$(from_root "$word")
-        case $word in --script=*) word=--script=$(from_root "${word#--script=}") ;; esac
-        before=$word
-        set -- "$@" "$word"
+# Finds the program, or makes it without proof. It is `program` then.
+find_program() {
+    program=$proved
+    ! is_proved || return 0
+    kept=$(kept_folder "$name")
+    program=$kept/$name
+    if [ ! -x "$program" ]; then
+        if asks_for_text "$@"; then
+            show_text "$1"
+            exit
+        fi
+        keep "$name"
+        program=$kept/$name
+    fi
+    case $* in -V | --version) say "this build isn't proved" ;; esac
+}
+
+# Runs the program on the file. What it says of a line then names the file, too.
+run_on_file() {
+    status=0
+    exec 3>&1
+    errors=$("$program" "$@" < "$file" 2>&1 >&3 3>&-) || status=$?
+    [ -z "$errors" ] || printf '%s\n' "$errors" | while IFS= read -r line; do
+        case $line in line\ * | 'read fault') line="$file: $line" ;; esac
+        printf '%s\n' "$line" >&2
     done
-    (cd "$top/crates/$name" && "$kit" try -- "$@") < "$room/input" > "$room/output" 2> "$room/errors" || true
-    status=$(tail -n 1 "$room/errors" | sed -n 's/^run=ended status=\([0-9]*\) .*/\1/p')
-    if [ -z "$status" ]; then
-        cat "$room/errors" >&2
-        say "the unproved run gave no answer"
-        exit 1
-    fi
-    # The input would have been read here: all but a text of help or the version comes of it.
-    if [ "$is_read$status" = no0 ] && ! asks_for_text "$@"; then
-        echo "read fault" >&2
-        exit 5
-    fi
-    if ! cat "$room/output" 2> /dev/null; then
-        echo "write fault" >&2
-        exit 5
-    fi
-    sed '/^checked: ended status=/,$d' "$room/errors" >&2
     exit "$status"
 }
 
-# Proves the program, or runs it.
+# Proves the program, or runs it: on the file that is named, which the program itself would refuse, or else on
+# standard input.
 start() {
     if [ "$#" = 1 ] && [ "$1" = --prove ]; then
         prove
-    elif is_proved; then
-        exec "$program" "$@"
-    else
-        run_unproved "$@"
+        return
     fi
+    file=
+    takes_value=
+    for word; do
+        shift
+        case $word in
+            --list | --patience | --script | --workers) takes_value=yes ;;
+            -* | '') takes_value= ;;
+            *)
+                if [ -z "$takes_value$file" ]; then
+                    file=$word
+                    continue
+                fi
+                takes_value=
+                ;;
+        esac
+        set -- "$@" "$word"
+    done
+    if [ -n "$file" ] && [ ! -r "$file" ]; then
+        printf '%s: read fault\n' "$file" >&2
+        exit 5
+    fi
+    find_program "$@"
+    if [ -n "$file" ]; then run_on_file "$@"; fi
+    exec "$program" "$@"
 }

@@ -3,10 +3,13 @@
 # The program itself on streams that fail: a full device, closed streams, a folder for its input, and
 # a pipe that nobody reads; and the help, the version and the mistakes of all three programs on a full
 # device. Each has to end with status 5, told on standard error unless that is what is full.
-# The programs have to be built (.ci/run leaves them). Needs /dev/full.
+# The programs have to be built (.ci/run leaves them); ARGUS, REPLAY and PICTURE in the environment name
+# others. Needs /dev/full.
 set -u
 top=$(cd "$(dirname "$0")/.." && pwd)
-program=$top/crates/argus/out/argus
+program=${ARGUS:-$top/crates/argus/out/argus}
+replay=${REPLAY:-$top/crates/replay/out/replay}
+picture=${PICTURE:-$top/crates/picture/out/picture}
 script=$top/examples/account.argus
 told=$(mktemp)
 trap 'rm -f "$told"' EXIT
@@ -36,8 +39,8 @@ check 'closed input' 'read fault' $?
 check 'a pipe that nobody reads' 'write fault' "$(cat "$told.status")"
 rm -f "$told.status"
 
-for name in argus replay picture; do
-    named=$top/crates/$name/out/$name
+for named in "$program" "$replay" "$picture"; do
+    name=${named##*/}
     "$named" --help > /dev/full 2> "$told"
     check "the help of $name, and a full device" 'write fault' $?
     "$named" --version > /dev/full 2> "$told"

@@ -3,14 +3,23 @@
 # The program where the system makes no thread for a worker, or for one of several. Each run has to
 # end with status 4, told as want of memory on standard error, with nothing listed. With as many
 # threads as there are workers with an arm it has to end with status 0: one of them is the program's.
-# The program has to be built (.ci/run or ./argus --prove leaves it). Needs setpriv (util-linux)
-# where it is run as root, whose threads the system doesn't count.
+# The program has to be built (.ci/run or ./argus --prove leaves it); ARGUS in the environment names
+# another. Needs setpriv (util-linux) where it is run as root, whose threads the system doesn't count.
 set -u
 top=$(cd "$(dirname "$0")/.." && pwd)
 room=$(mktemp -d)
 trap 'rm -r "$room"' EXIT
-cp "$top/crates/argus/out/argus" "$room/argus"
-cp "$top/examples/visitors.argus" "$room/script"
+cp "${ARGUS:-$top/crates/argus/out/argus}" "$room/argus"
+# Three arms with so many steps that none is over before the last one's thread is asked for.
+{
+    printf 'declare %s atomic_array[int]\n' a b c
+    echo coenter
+    for arm in a b c; do
+        echo topaction
+        yes "touch $arm" | head -n 30000
+    done
+    echo end
+} > "$room/script"
 chmod -R a+rX "$room"
 wrong=0
 
@@ -54,7 +63,6 @@ try_enough() {
     fi
 }
 
-# The script's coenter has three arms.
 for patience in 0 1000; do
     try_few 1 --workers 2 --patience $patience
     try_enough 2 --workers 2 --patience $patience

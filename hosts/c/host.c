@@ -1,5 +1,5 @@
 /* A program in C that holds a guardian: host [bank [ORDERS] | each | statuses | values | stress
- * [CALLS] | flat [TURNS] | listed [TURNS] | careless | test]. */
+ * [CALLS] | flat [TURNS] | listed [TURNS] | inside [SECONDS] | careless | test]. */
 #include "modes.h"
 
 #include <errno.h>
@@ -9,7 +9,7 @@
 
 static int usage(void) {
     fprintf(stderr, "host [bank [ORDERS] | each | statuses | values | stress [CALLS] | flat [TURNS] | listed [TURNS] | "
-                    "careless | test]\n");
+                    "inside [SECONDS] | careless | test]\n");
     return 2;
 }
 
@@ -27,6 +27,7 @@ int main(int count, char **words) {
     if (strcmp(mode, "stress") == 0) return stress(count == 3 ? number : 10000000);
     if (strcmp(mode, "flat") == 0) return flat(count == 3 ? (uint32_t)number : 90000, 0);
     if (strcmp(mode, "listed") == 0) return flat(count == 3 ? (uint32_t)number : 90000, 1);
+    if (strcmp(mode, "inside") == 0) return inside(count == 3 ? (uint32_t)number : 1);
     if (strcmp(mode, "each") == 0 && count <= 2) return each();
     if (strcmp(mode, "statuses") == 0 && count == 2) return statuses();
     if (strcmp(mode, "values") == 0 && count == 2) return values();

@@ -24,6 +24,9 @@ int statuses(void);
 /* Tests of values and contents, written and read by argus_values.h. */
 int values(void);
 
+/* Calls inside calls, of a handler and of a thread without the mutex, three times for so many seconds. */
+int inside(uint32_t seconds);
+
 /* Two threads call one guardian without a mutex, one after the other: a program's mistake, which
  * ThreadSanitizer reports. Returns 0 if it isn't reported. */
 int careless(void);

@@ -254,7 +254,7 @@ static void test_names(void) {
         CHECK(strncmp(argus_refusal_name(refusal), "ARGUS_", 6) == 0);
     CHECK(strcmp(argus_status_name(ARGUS_BAD_TEXT), "ARGUS_BAD_TEXT") == 0);
     CHECK(strcmp(argus_status_name(ARGUS_OCCUPIED), "ARGUS_OCCUPIED") == 0);
-    CHECK(strcmp(argus_status_name(31), "?") == 0);
+    CHECK(strcmp(argus_status_name(32), "?") == 0);
     CHECK(strcmp(argus_signal_name(0), "?") == 0 && strcmp(argus_refusal_name(10), "?") == 0);
     CHECK(strcmp(argus_answer_name(argus_answer_of(ARGUS_REFUSED, ARGUS_CONFLICT)), "ARGUS_CONFLICT") == 0);
     CHECK(strcmp(argus_answer_name(argus_answer_of(ARGUS_SIGNAL, ARGUS_BOUNDS)), "ARGUS_BOUNDS") == 0);

@@ -4,7 +4,7 @@ The library is `libargus.so.0`, in the folder that `ARGUS_LIB_DIR` names, or els
 where `tools/archive.sh` or `tools/dist.sh` makes it.
 
 `_call.c` is built where a compiler and Python's headers are there (Debian: python3-dev); else ctypes does what it
-does. It needs no more of Python than each version from 3.10 on has.
+does. It needs no more of Python than each version from 3.9 on has; to build it, 3.10.
 """
 
 from __future__ import annotations

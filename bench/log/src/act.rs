@@ -37,19 +37,21 @@ impl Act for SharedAction<'_> {
     }
 
     fn lock(&self, account: u32) -> Result<(), LoggedError> {
-        Ok(SharedAction::lock(self, ObjId(account))?)
+        Ok(SharedAction::lock(self, ObjId::numbered(account))?)
     }
 
     fn balance(&self, account: u32) -> Result<i64, LoggedError> {
-        int(self.get(ObjId(account), 0)?)
+        int(self.get(ObjId::numbered(account), 0)?)
     }
 
     fn set_balance(&self, account: u32, balance: i64) -> Result<(), LoggedError> {
-        Ok(self.set(ObjId(account), 0, balance)?)
+        Ok(self.set(ObjId::numbered(account), 0, balance)?)
     }
 
     fn create(&self, account: u32, balance: i64) -> Result<(), LoggedError> {
-        Ok(self.alter(ObjId(account), created(balance)?)?.done()?)
+        Ok(self
+            .alter(ObjId::numbered(account), created(balance)?)?
+            .done()?)
     }
 
     fn commit(self) -> Result<(), LoggedError> {
@@ -72,19 +74,21 @@ impl Act for LoggedAction<'_> {
     }
 
     fn lock(&self, account: u32) -> Result<(), LoggedError> {
-        LoggedAction::lock(self, ObjId(account))
+        LoggedAction::lock(self, ObjId::numbered(account))
     }
 
     fn balance(&self, account: u32) -> Result<i64, LoggedError> {
-        int(self.get(ObjId(account), 0)?)
+        int(self.get(ObjId::numbered(account), 0)?)
     }
 
     fn set_balance(&self, account: u32, balance: i64) -> Result<(), LoggedError> {
-        self.set(ObjId(account), 0, balance)
+        self.set(ObjId::numbered(account), 0, balance)
     }
 
     fn create(&self, account: u32, balance: i64) -> Result<(), LoggedError> {
-        Ok(self.alter(ObjId(account), created(balance)?)?.done()?)
+        Ok(self
+            .alter(ObjId::numbered(account), created(balance)?)?
+            .done()?)
     }
 
     fn commit(self) -> Result<(), LoggedError> {

@@ -79,7 +79,7 @@ pub fn carry_out<A: Act>(
 
 /// A guardian with the accounts, which aren't in any log.
 fn with_accounts() -> Result<Guardian, Box<dyn error::Error>> {
-    let mut guardian = Guardian::new()?;
+    let guardian = Guardian::new()?;
     for _ in 0..ACCOUNTS {
         guardian.declare("atomic_record[balance:int]")?;
     }
@@ -174,7 +174,7 @@ fn check(
     }
     for (account, balance) in (0..).zip(balances) {
         let wanted = Content::Record(vec![balance.into()]);
-        if base(ObjId(account))? != Some(wanted) {
+        if base(ObjId::numbered(account))? != Some(wanted) {
             return Err(format!("account {account} isn't what the orders leave").into());
         }
     }

@@ -14,7 +14,7 @@ const RENEW_AFTER: u32 = 100_000;
 fn seat_of(order: u32, at: u32) -> ObjId {
     let first = order.wrapping_mul(7919) % SEATS;
     let second = (first + 1 + order % (SEATS - 1)) % SEATS;
-    ObjId(if at == 0 { first } else { second })
+    ObjId::numbered(if at == 0 { first } else { second })
 }
 
 fn declare_seats(shop: &mut Guardian) -> Result<(), Error> {
@@ -56,7 +56,7 @@ fn held(shop: &mut Guardian) -> Result<i64, Error> {
     let mut sum = 0;
     let mut top = shop.topaction()?;
     for seat in 0..SEATS {
-        sum += i64::try_from(top.get(ObjId(seat), 0)?)? * i64::from(seat + 1);
+        sum += i64::try_from(top.get(ObjId::numbered(seat), 0)?)? * i64::from(seat + 1);
     }
     top.commit()?;
     Ok(sum)

@@ -14,12 +14,14 @@ static argus_guardian first = ARGUS_CLOSED;
 static pthread_mutex_t turn = PTHREAD_MUTEX_INITIALIZER;
 
 argus_answer argus_open(argus_guardian *guardian) {
-    argus_guardian none = ARGUS_CLOSED;
+    argus_guardian none = ARGUS_CLOSED, held;
     uint32_t status = ARGUS_DONE;
     if (guardian == NULL) return argus_answer_of(ARGUS_NULL, 0);
+    if (!argus_enter(guardian, &held)) return argus_answer_of(ARGUS_REENTERED, 0);
     pthread_mutex_lock(&turn);
     if (first.mark != 1) status = argus_c_open(&first, &none);
-    if (status == ARGUS_DONE) status = argus_c_open(guardian, &first);
+    if (status == ARGUS_DONE) status = argus_c_open(&held, &first);
     pthread_mutex_unlock(&turn);
+    argus_leave(guardian, &held);
     return argus_answer_of(status, 0);
 }

@@ -30,6 +30,13 @@
  * Threads: only one call at a time may have a guardian. Threads that share one hold a mutex of their own around each
  * call and the reply that belongs to it. A guardian may be opened on one thread, used on others, and closed on another.
  *
+ * Signal handlers: while a guardian is inside a call, each other call on its handle returns ARGUS_REENTERED at once, in
+ * a handler that has interrupted the call, and in another thread that holds no mutex, too. Nothing is done, and the call
+ * goes on to its own answer. A handler may also come between a call and its argus_reply, where a call of its own takes
+ * the place of the text that is kept: argus_hold holds the guardian for both. Calls allocate, and malloc isn't made for
+ * handlers: so a handler that makes calls may interrupt calls of the library, and nothing else that allocates or holds
+ * the mutex. No handler calls argus_open, and none leaves by longjmp, which leaves the guardian held for ever.
+ *
  * Processes: a forked process has a copy of each guardian, and the copies go their own ways; so let only one process
  * use it. No thread may be in a call while another one forks, unless the child only calls exec. Nothing is saved when a
  * process ends; a guardian that wasn't closed ends with it.
@@ -86,16 +93,20 @@ extern "C" {
  * Both fields are the library's: a program writes neither. One that is open is moved, never copied: of two copies
  * that are both used or closed, the second is a use of freed memory. */
 typedef struct argus_guardian {
-    uint32_t mark; /* 1 if a guardian is open; any other number: closed */
+    uint32_t mark; /* 1 if a guardian is open, ARGUS_HELD if it is inside a call; any other number: closed */
     void *at;      /* what the library keeps, if it is open */
 } argus_guardian;
 
 /* A guardian whose commit is ready (argus_ready_commit), or none. It begins as ARGUS_NOTHING_READY (all bytes zero will
  * do), both fields are the library's, and it is moved, never copied, as argus_guardian. */
 typedef struct argus_ready {
-    uint32_t mark; /* 1 if a commit is ready; any other number: none */
+    uint32_t mark; /* 1 if a commit is ready, ARGUS_HELD if it is inside a call; any other number: none */
     void *at;      /* what the library keeps, if one is */
 } argus_ready;
+
+/* The mark of a handle whose guardian is inside a call. The functions argus_c_* take it for a closed one, and mark it
+ * so; who calls them refuses calls inside calls by other means. */
+#define ARGUS_HELD 2
 
 #ifdef __cplusplus
 #define ARGUS_CLOSED argus_guardian{0, nullptr}
@@ -149,7 +160,9 @@ typedef enum argus_status {
     ARGUS_NOT_SOUND = 28,      /* it is the next entry's line, and the opening refers to objects that aren't there */
     ARGUS_NOT_THE_REPLY = 29,  /* it is the next entry's line, but another reply to its call follows from the journal:
                                   argus_reply returns that one, as it is after the arrow of an entry's line */
-    ARGUS_OCCUPIED = 30    /* the handle that a guardian should go to has one already. Both handles are unchanged */
+    ARGUS_OCCUPIED = 30,   /* the handle that a guardian should go to has one already. Both handles are unchanged */
+    ARGUS_REENTERED = 31   /* the guardian is inside a call, which a signal handler has interrupted or another thread
+                              makes, or it is held (argus_hold). No function argus_c_* returns it */
 } argus_status;
 
 /* The signals of operations. An operation of another kind than the content signals ARGUS_ABSENT; the guardian refuses
@@ -346,6 +359,7 @@ ARGUS_API const char *argus_status_name(uint32_t status) {
         ARGUS_NAMED(ARGUS_NOT_SOUND);
         ARGUS_NAMED(ARGUS_NOT_THE_REPLY);
         ARGUS_NAMED(ARGUS_OCCUPIED);
+        ARGUS_NAMED(ARGUS_REENTERED);
     default:
         return "?";
     }
@@ -507,23 +521,96 @@ ARGUS_API const char *argus_answer_name(argus_answer answer) {
 #define ARGUS_SANITIZES_THREADS 1
 #endif
 #endif
-static inline void argus_enter(argus_guardian *guardian) {
+
+/* Sets a mark to ARGUS_HELD, in one step, into which neither a handler nor a thread comes. Returns what it was. */
+static inline uint32_t argus_hold_mark(uint32_t *mark) {
 #ifdef ARGUS_SANITIZES_THREADS
-    volatile uint32_t *mark = &guardian->mark;
-    *mark = *mark;
-#else
-    (void)guardian;
+    volatile uint32_t *plain = mark;
+    *plain = *plain;
 #endif
+    return __atomic_exchange_n(mark, (uint32_t)ARGUS_HELD, __ATOMIC_ACQUIRE);
+}
+
+/* Moves what a handle has into one that only this call knows. Returns 0 if it is inside another call. */
+static inline int argus_enter(argus_guardian *guardian, argus_guardian *held) {
+    held->mark = argus_hold_mark(&guardian->mark);
+    if (held->mark == ARGUS_HELD) return 0;
+    held->at = guardian->at;
+    return 1;
+}
+
+/* Moves it back. */
+static inline void argus_leave(argus_guardian *guardian, const argus_guardian *held) {
+    guardian->at = held->at;
+    __atomic_store_n(&guardian->mark, held->mark, __ATOMIC_RELEASE);
 }
 
 /* The same for a guardian whose commit is ready. */
-static inline void argus_enter_ready(argus_ready *ready) {
-#ifdef ARGUS_SANITIZES_THREADS
-    volatile uint32_t *mark = &ready->mark;
-    *mark = *mark;
-#else
-    (void)ready;
-#endif
+static inline int argus_enter_ready(argus_ready *ready, argus_ready *held) {
+    held->mark = argus_hold_mark(&ready->mark);
+    if (held->mark == ARGUS_HELD) return 0;
+    held->at = ready->at;
+    return 1;
+}
+
+static inline void argus_leave_ready(argus_ready *ready, const argus_ready *held) {
+    ready->at = held->at;
+    __atomic_store_n(&ready->mark, held->mark, __ATOMIC_RELEASE);
+}
+
+/* The same for both. */
+static inline int argus_enter_both(argus_guardian *guardian, argus_guardian *held, argus_ready *ready,
+                                   argus_ready *held_ready) {
+    if (!argus_enter(guardian, held)) return 0;
+    if (argus_enter_ready(ready, held_ready)) return 1;
+    argus_leave(guardian, held);
+    return 0;
+}
+
+static inline void argus_leave_both(argus_guardian *guardian, const argus_guardian *held, argus_ready *ready,
+                                    const argus_ready *held_ready) {
+    argus_leave_ready(ready, held_ready);
+    argus_leave(guardian, held);
+}
+
+/* Moves the guardian into another handle, `held`, for several calls on that, until argus_release. Meanwhile each call
+ * on its own handle returns ARGUS_REENTERED, so that no handler comes between a call and its reply:
+ *
+ *     // Puts an object's base into the room. ARGUS_REENTERED if this is a handler that came into another call.
+ *     argus_answer base_of(argus_guardian *bank, uint32_t object, void *room, size_t size) {
+ *         argus_guardian held = ARGUS_CLOSED;
+ *         argus_answer answer = argus_hold(bank, &held);
+ *         if (answer.status != ARGUS_DONE) return answer;
+ *         answer = argus_base(&held, object);
+ *         if (answer.status == ARGUS_TEXT) answer = argus_reply(&held, room, size);
+ *         argus_release(bank, &held);
+ *         return answer;
+ *     }
+ *
+ * ARGUS_DONE; ARGUS_REENTERED; ARGUS_NOT_OPEN; ARGUS_OCCUPIED if `held` has a guardian already. */
+ARGUS_API argus_answer argus_hold(argus_guardian *guardian, argus_guardian *held) {
+    argus_guardian moved;
+    if (guardian == NULL || held == NULL) return argus_answer_of(ARGUS_NULL, 0);
+    if (held->mark == 1) return argus_answer_of(ARGUS_OCCUPIED, 0);
+    if (!argus_enter(guardian, &moved)) return argus_answer_of(ARGUS_REENTERED, 0);
+    if (moved.mark != 1) {
+        argus_leave(guardian, &moved);
+        return argus_answer_of(ARGUS_NOT_OPEN, 0);
+    }
+    *held = moved;
+    return argus_answer_of(ARGUS_DONE, 0);
+}
+
+/* Moves back what argus_hold has moved, also if it was closed meanwhile. ARGUS_DONE; ARGUS_OCCUPIED if the handle has
+ * its guardian. */
+ARGUS_API argus_answer argus_release(argus_guardian *guardian, argus_guardian *held) {
+    argus_guardian moved;
+    if (guardian == NULL || held == NULL) return argus_answer_of(ARGUS_NULL, 0);
+    if (__atomic_load_n(&guardian->mark, __ATOMIC_RELAXED) == 1) return argus_answer_of(ARGUS_OCCUPIED, 0);
+    if (!argus_enter(held, &moved)) return argus_answer_of(ARGUS_REENTERED, 0);
+    held->mark = 0;
+    argus_leave(guardian, &moved);
+    return argus_answer_of(ARGUS_DONE, 0);
 }
 
 /* Opens a guardian without objects, actions and entries. A guardian that is open in the handle is closed once the new
@@ -534,30 +621,42 @@ argus_answer argus_open(argus_guardian *guardian);
 /* The same, but the new guardian shares with `other`, which is open, what argus_open lets all guardians share. At
  * ARGUS_NOT_OPEN the other one isn't open, or is the same handle. */
 ARGUS_API argus_answer argus_open_beside(argus_guardian *guardian, argus_guardian *other) {
+    argus_guardian held, beside;
+    uint32_t status = ARGUS_REENTERED;
     if (guardian == NULL || other == NULL) return argus_answer_of(ARGUS_NULL, 0);
-    argus_enter(guardian);
-    argus_enter(other);
-    if (guardian == other || other->mark != 1) return argus_answer_of(ARGUS_NOT_OPEN, 0);
-    return argus_answer_of(argus_c_open(guardian, other), 0);
+    if (guardian == other) return argus_answer_of(ARGUS_NOT_OPEN, 0);
+    if (!argus_enter(guardian, &held)) return argus_answer_of(ARGUS_REENTERED, 0);
+    if (argus_enter(other, &beside)) {
+        status = beside.mark == 1 ? argus_c_open(&held, &beside) : (uint32_t)ARGUS_NOT_OPEN;
+        argus_leave(other, &beside);
+    }
+    argus_leave(guardian, &held);
+    return argus_answer_of(status, 0);
 }
 
 /* Closes a guardian. */
 ARGUS_API argus_answer argus_close(argus_guardian *guardian) {
+    argus_guardian held;
+    uint32_t status;
     if (guardian == NULL) return argus_answer_of(ARGUS_NULL, 0);
-    argus_enter(guardian);
-    return argus_answer_of(argus_c_close(guardian), 0);
+    if (!argus_enter(guardian, &held)) return argus_answer_of(ARGUS_REENTERED, 0);
+    status = argus_c_close(&held);
+    argus_leave(guardian, &held);
+    return argus_answer_of(status, 0);
 }
 
 /* Makes one call, with a text of this size in bytes; a size of 0 may come with a null text. */
 ARGUS_API argus_answer argus_call(argus_guardian *guardian, uint32_t kind, uint32_t action, uint32_t object,
                                       int64_t first, int64_t second, const void *text, size_t text_size) {
+    argus_guardian held;
     int64_t number = 0;
     uint32_t status;
     static const uint8_t empty[1] = {0};
     if (guardian == NULL || (text == NULL && text_size != 0)) return argus_answer_of(ARGUS_NULL, 0);
-    argus_enter(guardian);
-    status = argus_c_call(guardian, kind, action, object, first, second,
-                          text == NULL ? empty : (const uint8_t *)text, text_size, &number);
+    if (!argus_enter(guardian, &held)) return argus_answer_of(ARGUS_REENTERED, 0);
+    status = argus_c_call(&held, kind, action, object, first, second, text == NULL ? empty : (const uint8_t *)text,
+                          text_size, &number);
+    argus_leave(guardian, &held);
     return argus_answer_of(status, number);
 }
 
@@ -576,13 +675,15 @@ static inline size_t argus_texts_given(argus_listed_call *calls, size_t count) {
 /* Makes `count` calls one after another, as argus_c_call_each does; the number is how many were made. A text of size 0
  * may be null: then it is pointed at an empty one. A null text with a size fails as ARGUS_NULL. */
 ARGUS_API argus_answer argus_call_each(argus_guardian *guardian, argus_listed_call *calls, size_t count) {
+    argus_guardian held;
     static argus_listed_call none;
     size_t made = 0, given;
     uint32_t status;
     if (guardian == NULL || (calls == NULL && count != 0)) return argus_answer_of(ARGUS_NULL, 0);
-    argus_enter(guardian);
+    if (!argus_enter(guardian, &held)) return argus_answer_of(ARGUS_REENTERED, 0);
     given = argus_texts_given(calls, count);
-    status = argus_c_call_each(guardian, calls == NULL ? &none : calls, given, &made);
+    status = argus_c_call_each(&held, calls == NULL ? &none : calls, given, &made);
+    argus_leave(guardian, &held);
     if (status == ARGUS_DONE && given < count) {
         status = ARGUS_NULL;
         calls[given].status = ARGUS_NULL;
@@ -594,33 +695,47 @@ ARGUS_API argus_answer argus_call_each(argus_guardian *guardian, argus_listed_ca
 /* Answers a question. */
 ARGUS_API argus_answer argus_tell(argus_guardian *guardian, uint32_t question, uint32_t action, uint32_t object,
                                       uint64_t entry) {
+    argus_guardian held;
     int64_t number = 0;
     uint32_t status;
     if (guardian == NULL) return argus_answer_of(ARGUS_NULL, 0);
-    argus_enter(guardian);
-    status = argus_c_tell(guardian, question, action, object, entry, &number);
+    if (!argus_enter(guardian, &held)) return argus_answer_of(ARGUS_REENTERED, 0);
+    status = argus_c_tell(&held, question, action, object, entry, &number);
+    argus_leave(guardian, &held);
     return argus_answer_of(status, number);
 }
 
 /* Aborts all live actions. */
 ARGUS_API argus_answer argus_abort_live(argus_guardian *guardian) {
+    argus_guardian held;
+    uint32_t status;
     if (guardian == NULL) return argus_answer_of(ARGUS_NULL, 0);
-    argus_enter(guardian);
-    return argus_answer_of(argus_c_abort_live(guardian), 0);
+    if (!argus_enter(guardian, &held)) return argus_answer_of(ARGUS_REENTERED, 0);
+    status = argus_c_abort_live(&held);
+    argus_leave(guardian, &held);
+    return argus_answer_of(status, 0);
 }
 
 /* Folds the journal's entries away. */
 ARGUS_API argus_answer argus_checkpoint(argus_guardian *guardian) {
+    argus_guardian held;
+    uint32_t status;
     if (guardian == NULL) return argus_answer_of(ARGUS_NULL, 0);
-    argus_enter(guardian);
-    return argus_answer_of(argus_c_checkpoint(guardian), 0);
+    if (!argus_enter(guardian, &held)) return argus_answer_of(ARGUS_REENTERED, 0);
+    status = argus_c_checkpoint(&held);
+    argus_leave(guardian, &held);
+    return argus_answer_of(status, 0);
 }
 
 /* Starts over, with action numbers from 0 and the same objects. */
 ARGUS_API argus_answer argus_renew(argus_guardian *guardian) {
+    argus_guardian held;
+    uint32_t status;
     if (guardian == NULL) return argus_answer_of(ARGUS_NULL, 0);
-    argus_enter(guardian);
-    return argus_answer_of(argus_c_renew(guardian), 0);
+    if (!argus_enter(guardian, &held)) return argus_answer_of(ARGUS_REENTERED, 0);
+    status = argus_c_renew(&held);
+    argus_leave(guardian, &held);
+    return argus_answer_of(status, 0);
 }
 
 /* Takes whole lines of a journal's listing from the front of the text: `bytes` bytes and `lines` lines, all that are
@@ -644,23 +759,27 @@ ARGUS_API argus_answer argus_renew(argus_guardian *guardian) {
  */
 ARGUS_API argus_answer argus_resume(argus_guardian *guardian, const void *text, size_t text_size, size_t *bytes,
                                         size_t *lines) {
+    argus_guardian held;
     int64_t number = 0;
     uint32_t status;
     static const uint8_t empty[1] = {0};
     if (guardian == NULL || bytes == NULL || lines == NULL || (text == NULL && text_size != 0))
         return argus_answer_of(ARGUS_NULL, 0);
-    argus_enter(guardian);
-    status = argus_c_resume(guardian, text == NULL ? empty : (const uint8_t *)text, text_size, bytes, lines, &number);
+    if (!argus_enter(guardian, &held)) return argus_answer_of(ARGUS_REENTERED, 0);
+    status = argus_c_resume(&held, text == NULL ? empty : (const uint8_t *)text, text_size, bytes, lines, &number);
+    argus_leave(guardian, &held);
     return argus_answer_of(status, number);
 }
 
 /* Puts the guardian of what was taken in place of the one that is held; the number is how many bytes were dropped. */
 ARGUS_API argus_answer argus_resumed(argus_guardian *guardian) {
+    argus_guardian held;
     uint64_t dropped = 0;
     uint32_t status;
     if (guardian == NULL) return argus_answer_of(ARGUS_NULL, 0);
-    argus_enter(guardian);
-    status = argus_c_resumed(guardian, &dropped);
+    if (!argus_enter(guardian, &held)) return argus_answer_of(ARGUS_REENTERED, 0);
+    status = argus_c_resumed(&held, &dropped);
+    argus_leave(guardian, &held);
     return argus_answer_of(status, (int64_t)dropped);
 }
 
@@ -668,12 +787,14 @@ ARGUS_API argus_answer argus_resumed(argus_guardian *guardian) {
  * and `count` of how many entries they are. No zero is put after them. */
 ARGUS_API argus_answer argus_lines(argus_guardian *guardian, uint64_t from, void *room, size_t room_size,
                                        uint64_t *count) {
+    argus_guardian held;
     size_t size = 0;
     uint32_t status;
     uint8_t none[1];
     if (guardian == NULL || count == NULL || (room == NULL && room_size != 0)) return argus_answer_of(ARGUS_NULL, 0);
-    argus_enter(guardian);
-    status = argus_c_lines(guardian, from, room == NULL ? none : (uint8_t *)room, room_size, &size, count);
+    if (!argus_enter(guardian, &held)) return argus_answer_of(ARGUS_REENTERED, 0);
+    status = argus_c_lines(&held, from, room == NULL ? none : (uint8_t *)room, room_size, &size, count);
+    argus_leave(guardian, &held);
     return argus_answer_of(status, (int64_t)size);
 }
 
@@ -684,12 +805,14 @@ ARGUS_API uint32_t argus_version(void) {
 
 /* Puts the reply's text into the room; the number is its size in bytes. No zero is put after it. */
 ARGUS_API argus_answer argus_reply(argus_guardian *guardian, void *room, size_t room_size) {
+    argus_guardian held;
     size_t size = 0;
     uint32_t status;
     uint8_t none[1];
     if (guardian == NULL || (room == NULL && room_size != 0)) return argus_answer_of(ARGUS_NULL, 0);
-    argus_enter(guardian);
-    status = argus_c_reply(guardian, room == NULL ? none : (uint8_t *)room, room_size, &size);
+    if (!argus_enter(guardian, &held)) return argus_answer_of(ARGUS_REENTERED, 0);
+    status = argus_c_reply(&held, room == NULL ? none : (uint8_t *)room, room_size, &size);
+    argus_leave(guardian, &held);
     return argus_answer_of(status, (int64_t)size);
 }
 
@@ -714,40 +837,52 @@ ARGUS_API argus_answer argus_reply(argus_guardian *guardian, void *room, size_t 
 
 /* Makes all ready for the commit of an action. The guardian is in `ready` from then on, and its handle is closed. */
 ARGUS_API argus_answer argus_ready_commit(argus_guardian *guardian, argus_ready *ready, uint32_t action) {
+    argus_guardian held;
+    argus_ready held_ready;
+    uint32_t status;
     if (guardian == NULL || ready == NULL) return argus_answer_of(ARGUS_NULL, 0);
-    argus_enter(guardian);
-    argus_enter_ready(ready);
-    return argus_answer_of(argus_c_ready_commit(guardian, ready, action), 0);
+    if (!argus_enter_both(guardian, &held, ready, &held_ready)) return argus_answer_of(ARGUS_REENTERED, 0);
+    status = argus_c_ready_commit(&held, &held_ready, action);
+    argus_leave_both(guardian, &held, ready, &held_ready);
+    return argus_answer_of(status, 0);
 }
 
 /* Puts the line that the commit will have into the room; the number is its size in bytes. No zero is put after it. */
 ARGUS_API argus_answer argus_ready_line(argus_ready *ready, void *room, size_t room_size) {
+    argus_ready held;
     size_t size = 0;
     uint32_t status;
     uint8_t none[1];
     if (ready == NULL || (room == NULL && room_size != 0)) return argus_answer_of(ARGUS_NULL, 0);
-    argus_enter_ready(ready);
-    status = argus_c_ready_line(ready, room == NULL ? none : (uint8_t *)room, room_size, &size);
+    if (!argus_enter_ready(ready, &held)) return argus_answer_of(ARGUS_REENTERED, 0);
+    status = argus_c_ready_line(&held, room == NULL ? none : (uint8_t *)room, room_size, &size);
+    argus_leave_ready(ready, &held);
     return argus_answer_of(status, (int64_t)size);
 }
 
 /* Makes the commit that is ready, and gives the guardian back to the handle. */
 ARGUS_API argus_answer argus_make_ready(argus_ready *ready, argus_guardian *guardian) {
+    argus_guardian held;
+    argus_ready held_ready;
     int64_t number = 0;
     uint32_t status;
     if (ready == NULL || guardian == NULL) return argus_answer_of(ARGUS_NULL, 0);
-    argus_enter(guardian);
-    argus_enter_ready(ready);
-    status = argus_c_make_ready(ready, guardian, &number);
+    if (!argus_enter_both(guardian, &held, ready, &held_ready)) return argus_answer_of(ARGUS_REENTERED, 0);
+    status = argus_c_make_ready(&held_ready, &held, &number);
+    argus_leave_both(guardian, &held, ready, &held_ready);
     return argus_answer_of(status, number);
 }
 
 /* Gives the guardian back to the handle as it was. */
 ARGUS_API argus_answer argus_cancel_ready(argus_ready *ready, argus_guardian *guardian) {
+    argus_guardian held;
+    argus_ready held_ready;
+    uint32_t status;
     if (ready == NULL || guardian == NULL) return argus_answer_of(ARGUS_NULL, 0);
-    argus_enter(guardian);
-    argus_enter_ready(ready);
-    return argus_answer_of(argus_c_cancel_ready(ready, guardian), 0);
+    if (!argus_enter_both(guardian, &held, ready, &held_ready)) return argus_answer_of(ARGUS_REENTERED, 0);
+    status = argus_c_cancel_ready(&held_ready, &held);
+    argus_leave_both(guardian, &held, ready, &held_ready);
+    return argus_answer_of(status, 0);
 }
 
 /* The calls by name. A text ends at its first zero byte. */

@@ -1,108 +1,100 @@
-//! What a guardian of one thread answers to its rows.
+//! `Alone`: a guardian of one thread, which answers rows.
 
-use crate::answering::tell_answer;
-use crate::listing::{names_in, tell_listing};
-use crate::row::Row;
-use crate::row_reading::row_of;
-use crate::starting::{last, later};
-use argus_guardian::{CheckpointError, Guardian};
-use argus_journal::{Call, Entry, Journal, Reply, write_entry};
-use argus_values::{OutOfMemory, Room};
-use test_rows::{RowFault, Setting, tell_word};
+use crate::answering::{tell_checkpoint, tell_effect, tell_owner, tell_reply};
+use argus_guardian::Guardian;
+use argus_journal::limits::MAX_FIRST_ENTRY;
+use argus_journal::{owner_of, replay_base, replay_for};
+use argus_values::Room;
+use test_rows::{
+    RowFault, Setting, Subject, account_with, action, call_of, first_word, object, pair,
+    tell_content, tell_number, tell_word,
+};
 
-/// The answer to the row, if no allocation is refused.
+/// A guardian of one thread. Its questions may be refused memory, and its calls never are: all else
+/// is tried by the rows over the archive (hosts/rows).
+///
+/// ```text
+/// let mut alone = Alone::new(setting);
+/// let text = alone.answer(setting, "begin_top")?;        // ` a0`
+/// ```
+#[derive(Drop)]
+pub(crate) struct Alone {
+    guardian: Guardian,
+}
+
+impl Subject for Alone {
+    fn new(setting: Setting) -> Alone {
+        Alone {
+            guardian: Guardian::new(setting.heap),
+        }
+    }
+
+    fn answer(&mut self, setting: Setting, asked: &str) -> Result<String<Room>, RowFault> {
+        answer_alone(&mut self.guardian, setting, asked)
+    }
+}
+
+/// The answer to the row: that of a question about the journal, or of another row.
 pub(crate) fn answer_alone(
     guardian: &mut Guardian,
     setting: Setting,
     asked: &str,
 ) -> Result<String<Room>, RowFault> {
-    let row = row_of(setting.heap, asked)?;
     let mut out = String::new(setting.texts.room());
-    tell_row(guardian, setting, row, asked, &mut out)?;
+    let (word, rest) = first_word(asked);
+    match word {
+        "checkpoint" => tell_checkpoint(guardian.checkpoint(), &mut out)?,
+        "last" => {
+            *guardian = last(setting)?;
+            tell_word("done", &mut out)?;
+        }
+        "length" => tell_number(guardian.journal().journal().len(), &mut out)?,
+        "base" => match guardian.base(object(rest)?) {
+            Some(content) => tell_content(content, &mut out)?,
+            None => tell_word("undeclared", &mut out)?,
+        },
+        "owner" | "effect" | "replay" | "replay_base" => {
+            tell_of_journal(guardian, setting, word, rest, &mut out)?;
+        }
+        _ => {
+            let reply = guardian.call(call_of(setting.heap, asked)?)?;
+            tell_reply(&reply, &mut out)?;
+        }
+    }
     Ok(out)
 }
 
-/// Adds the answer to the row. Texts always have memory.
-pub(crate) fn tell_row(
-    guardian: &mut Guardian,
+// A guardian with as many entries before it as there can be.
+fn last(setting: Setting) -> Result<Guardian, RowFault> {
+    let heap = setting.heap;
+    Ok(Guardian::starting_at(heap, account_with(heap, 7)?, 3, MAX_FIRST_ENTRY)?)
+}
+
+fn tell_of_journal(
+    guardian: &Guardian,
     setting: Setting,
-    row: Row,
-    asked: &str,
+    word: &str,
+    rest: &str,
     out: &mut String<Room>,
 ) -> Result<(), RowFault> {
-    match row {
-        Row::Call(call) => tell_call(guardian, call, asked, out)?,
-        Row::Checkpoint => tell_checkpoint(guardian.checkpoint(), out)?,
-        Row::AbortLive => {
-            guardian.abort_live()?;
-            tell_word("done", out)?;
+    let journal = guardian.journal().journal();
+    match word {
+        "owner" => tell_owner(owner_of(journal, action(rest)?), out)?,
+        "effect" => {
+            let a = action(rest)?;
+            setting.limit();
+            tell_effect(guardian.effect(a)?, out)?;
         }
-        Row::Later => {
-            *guardian = later(setting.heap)?;
-            tell_word("done", out)?;
+        "replay" => {
+            let (a, o) = pair(rest)?;
+            setting.limit();
+            tell_content(&replay_for(setting.heap, journal, a, o)?, out)?;
         }
-        Row::Last => {
-            *guardian = last(setting.heap)?;
-            tell_word("done", out)?;
-        }
-        Row::Question(question) => tell_answer(guardian, setting.heap, question, out)?,
-        Row::List(listing) => {
-            let names = names_in(setting.texts, asked)?;
-            let (heap, texts) = (setting.heap, setting.texts);
-            tell_listing(guardian, heap, texts, names.as_slice(), listing, out)?;
+        _ => {
+            let o = object(rest)?;
+            setting.limit();
+            tell_content(&replay_base(setting.heap, journal, o)?, out)?;
         }
     }
     Ok(())
-}
-
-// Makes the call, and adds the reply of the one entry that it has to add.
-fn tell_call(
-    guardian: &mut Guardian,
-    call: Call,
-    asked: &str,
-    out: &mut String<Room>,
-) -> Result<(), OutOfMemory> {
-    let at = guardian.journal().journal().len();
-    let reply = guardian.call(call)?;
-    tell_added(guardian.journal().journal(), at, &reply, asked, out)
-}
-
-fn tell_added(
-    journal: &Journal,
-    at: u64,
-    reply: &Reply,
-    asked: &str,
-    out: &mut String<Room>,
-) -> Result<(), OutOfMemory> {
-    match journal.get(at) {
-        Some(entry) if entry.reply == *reply && journal.len() == at.saturating_add(1) => {
-            tell_reply(entry, asked, out)
-        }
-        Some(_) | None => tell_word("another entry", out),
-    }
-}
-
-// Adds the reply as the entry's line has it, which has to have the call as the row does.
-fn tell_reply(entry: &Entry, asked: &str, out: &mut String<Room>) -> Result<(), OutOfMemory> {
-    let mut line = String::new(out.allocator().heap().room());
-    write_entry(0, entry, &mut line)?;
-    match line.as_str().split_once(" -> ") {
-        Some((call, reply)) if call.strip_prefix("0 ").unwrap_or("") == asked => {
-            tell_word(reply, out)
-        }
-        Some(_) | None => tell_word(line.as_str(), out),
-    }
-}
-
-/// Adds what came of a checkpoint.
-pub(crate) fn tell_checkpoint(
-    outcome: Result<(), CheckpointError>,
-    out: &mut String<Room>,
-) -> Result<(), OutOfMemory> {
-    match outcome {
-        Ok(()) => tell_word("done", out),
-        Err(CheckpointError::Busy) => tell_word("Busy", out),
-        Err(CheckpointError::Full) => tell_word("Full", out),
-        Err(CheckpointError::Memory) => Err(OutOfMemory),
-    }
 }

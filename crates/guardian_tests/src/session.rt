@@ -1,182 +1,84 @@
-//! `Session`: a shared guardian that answers rows.
+//! `Session`: a guardian from its sharing to its settlement, or its drop, which answers rows.
 
-use crate::alone::tell_checkpoint;
-use crate::caller::make_call;
-use crate::shared_reading::number_of;
-use crate::shared_row::SharedRow;
-use crate::shared_telling::{tell_fault, tell_last, tell_look, tell_shown};
+use crate::answering::{tell_checkpoint, tell_reply};
+use crate::each_call::calls_of;
 use crate::sharing::budgets;
-use crate::waiting::{Meanwhile, Others, wait_meanwhile};
+use crate::waiting::{Others, WAITING, wait_meanwhile};
 use argus_guardian::{
-    Guardian, Looker, Parts, Receipt, Seat, SettleFault, Shared, Sharing, Unsettled,
+    CallsEnd, Guardian, LookFault, Looker, Parts, Receipt, Seat, SettleFault, Shared, Sharing,
+    Unsettled,
 };
-use argus_journal::{Call, Reply};
-use argus_values::{Heap, ObjId, OutOfMemory, Room};
+use argus_values::{Heap, ObjId, Room};
+use std::fmt::Write;
+use std::mem::replace;
 use std::sync::Wait;
 use std::thread::Threads;
-use test_rows::{RowFault, Setting, first_word, tell_number, tell_word};
+use test_rows::{
+    RowFault, Setting, call_of, first_word, object, reply_of, tell_content, tell_number, tell_word,
+};
 
-/// A shared guardian with its seats and lookers, and the receipts of all calls so far.
+/// A guardian that is shared, or was, with its seats and lookers, and the receipts of all calls so
+/// far.
 ///
 /// ```text
 /// let mut session = Session::new(setting.texts, parts);
-/// let text = session.answer(rt, setting, row_of(setting, "begin_top")?)?;        // ` a0`
+/// let text = session.answer_at_last(rt, setting, false, "begin_top")?;        // ` a0`
 /// ```
 #[derive(Drop)]
 pub(crate) struct Session<N: Sharing, R: Wait + Drop> {
-    shared: Shared<N, R>,
+    // Until it is settled or dropped.
+    shared: Option<Shared<N, R>>,
+    // Once it is settled.
+    pub(crate) guardian: Option<Guardian>,
     seats: Vec<Seat<N>, Room>,
     lookers: Vec<Looker<N>, Room>,
     receipts: Vec<Receipt, Room>,
+    // How many receipts there were before the row.
+    before: usize,
 }
-
-/// What came of a settlement: the guardian, or the session with the fault.
-pub(crate) type Settled<N, R> = Result<Guardian, (Session<N, R>, SettleFault)>;
 
 impl<N: Sharing + Send + Sync, R: Threads + Wait + Copy + Drop + Send + Sync> Session<N, R> {
     pub(crate) fn new(texts: Heap, parts: Parts<N, R>) -> Session<N, R> {
-        let Parts {
-            shared,
-            seats,
-            lookers,
-        } = parts;
         Session {
-            shared,
-            seats,
-            lookers,
+            shared: Some(parts.shared),
+            guardian: None,
+            seats: parts.seats,
+            lookers: parts.lookers,
             receipts: Vec::new(texts.room()),
+            before: 0,
         }
     }
 
-    /// The answer to the row, as text.
-    pub(crate) fn answer(
+    /// The answer to the row, with each allocation refused in turn if that is asked for. After a
+    /// refusal lookers see what they saw before, unless a list of calls has made some.
+    pub(crate) fn answer_at_last(
         &mut self,
         rt: R,
         setting: Setting,
-        row: SharedRow,
+        is_tight: bool,
+        asked: &str,
     ) -> Result<String<Room>, RowFault> {
-        let mut out = String::new(setting.texts.room());
-        match row {
-            SharedRow::Call {
-                seat,
-                patience,
-                call,
-            } => self.call(rt, seat, patience, call, &mut out)?,
-            SharedRow::Look { looker, objects } => {
-                self.look(setting.heap, looker, objects.as_slice(), &mut out)?;
+        let seen = self.seen(setting.texts)?;
+        self.before = self.receipts.len();
+        for allowed in budgets(is_tight) {
+            let mut out = String::new(setting.texts.room());
+            let answered = self.answer(rt, setting.allowing(allowed), asked, &mut out);
+            setting.lift();
+            match answered {
+                Ok(()) => return Ok(out),
+                Err(RowFault::OutOfMemory) => {}
+                Err(fault) => return Err(fault),
             }
-            SharedRow::Brief { looker } => self.brief(rt, looker, &mut out)?,
-            SharedRow::Refresh => tell_shown(self.shared.refresh(&rt), &mut out)?,
-            SharedRow::Checkpoint => tell_checkpoint(self.shared.checkpoint(&rt), &mut out)?,
-            SharedRow::Made { seat } => self.made(seat, &mut out)?,
-            SharedRow::Forge { receipt, reply } => {
-                self.forge(receipt, reply)?;
-                tell_word("done", &mut out)?;
+            let is_same = self.seen(setting.texts)?.as_str() == seen.as_str();
+            if !is_same && self.receipts.len() == self.before {
+                return Err(RowFault::Changed);
             }
-            SharedRow::While { others, patience } => self.wait(rt, others, patience, &mut out)?,
         }
-        Ok(out)
+        Err(RowFault::NeverAnswered)
     }
 
-    fn call(
-        &mut self,
-        rt: R,
-        seat: usize,
-        patience: Option<u32>,
-        call: Call,
-        out: &mut String<Room>,
-    ) -> Result<(), RowFault> {
-        let Session {
-            shared,
-            seats,
-            receipts,
-            ..
-        } = self;
-        let Some(seat) = seats.get_mut(seat) else {
-            return Err(RowFault::NotSpelled);
-        };
-        make_call(&rt, shared, seat, call, patience, receipts)?;
-        tell_last(receipts.as_slice(), out)
-    }
-
-    fn look(
-        &mut self,
-        heap: Heap,
-        looker: usize,
-        objects: &[ObjId],
-        out: &mut String<Room>,
-    ) -> Result<(), RowFault> {
-        match self.lookers.get_mut(looker) {
-            Some(looker) => tell_look(looker, heap, objects, out),
-            None => Err(RowFault::NotSpelled),
-        }
-    }
-
-    fn brief(&mut self, rt: R, looker: usize, out: &mut String<Room>) -> Result<(), RowFault> {
-        let Session {
-            shared,
-            lookers,
-            ..
-        } = self;
-        match lookers.get_mut(looker) {
-            Some(looker) => tell_shown(shared.brief(&rt, looker), out),
-            None => Err(RowFault::NotSpelled),
-        }
-    }
-
-    fn made(&self, seat: usize, out: &mut String<Room>) -> Result<(), RowFault> {
-        match self.seats.get(seat) {
-            Some(seat) => Ok(tell_number(seat.made(), out)?),
-            None => Err(RowFault::NotSpelled),
-        }
-    }
-
-    fn forge(&mut self, receipt: usize, reply: Reply) -> Result<(), RowFault> {
-        match self.receipts.get_mut(receipt) {
-            Some(receipt) => {
-                receipt.reply = reply;
-                Ok(())
-            }
-            None => Err(RowFault::NotSpelled),
-        }
-    }
-
-    // The sharing has two seats.
-    fn wait(
-        &mut self,
-        rt: R,
-        others: Others,
-        patience: u32,
-        out: &mut String<Room>,
-    ) -> Result<(), RowFault> {
-        let Session {
-            shared,
-            seats,
-            receipts,
-            ..
-        } = self;
-        let (Some(second), Some(first)) = (seats.pop(), seats.pop()) else {
-            return Err(RowFault::NotSpelled);
-        };
-        let meanwhile = wait_meanwhile(&rt, shared, first, second, others, patience)?;
-        take_back(seats, receipts, meanwhile)?;
-        tell_last(receipts.as_slice(), out)
-    }
-
-    /// Drops the guardian with its seats, and returns the lookers.
-    pub(crate) fn dropped(self) -> Vec<Looker<N>, Room> {
-        let Session {
-            shared,
-            seats: _,
-            lookers,
-            receipts: _,
-        } = self;
-        drop(shared);
-        lookers
-    }
-
-    /// What all lookers see of the first three objects.
-    pub(crate) fn seen(&mut self, texts: Heap) -> Result<String<Room>, RowFault> {
+    // What all lookers see of the first three objects.
+    fn seen(&mut self, texts: Heap) -> Result<String<Room>, RowFault> {
         let mut out = String::new(texts.room());
         for looker in self.lookers.iter_mut() {
             tell_look(looker, texts, &[ObjId(0), ObjId(1), ObjId(2)], &mut out)?;
@@ -184,154 +86,341 @@ impl<N: Sharing + Send + Sync, R: Threads + Wait + Copy + Drop + Send + Sync> Se
         Ok(out)
     }
 
-    /// The receipts that the words name: `all`, or numbers.
-    fn shown(&self, texts: Heap, words: &str) -> Result<Vec<Receipt, Room>, RowFault> {
-        let mut shown = Vec::new(texts.room());
-        let receipts = self.receipts.as_slice();
-        if words == "all" {
-            copy_all(receipts, &mut shown)?;
-        } else if !words.is_empty() {
-            copy_named(receipts, words, &mut shown)?;
-        }
-        Ok(shown)
-    }
-
-    /// Settles as `settle all`, `settle 0 0` or `settle_short all` say: with these receipts, and
-    /// with all seats or without the last. Each allocation is refused in turn, if that is asked
-    /// for.
-    pub(crate) fn settle(
-        self,
+    fn answer(
+        &mut self,
+        rt: R,
         setting: Setting,
-        is_tight: bool,
         asked: &str,
-    ) -> (
-        Result<String<Room>, RowFault>,
-        Result<Guardian, Session<N, R>>,
-    ) {
-        let (word, words) = first_word(asked);
-        let is_short = word == "settle_short";
-        let settled = match self.shown(setting.texts, words) {
-            Ok(shown) => self.settled_at_last(setting, is_tight, is_short, shown.as_slice()),
-            Err(fault) => return (Err(fault), Err(self)),
-        };
-        match settled {
-            Ok(guardian) => (told(setting.texts, None), Ok(guardian)),
-            Err((session, fault)) => (told(setting.texts, Some(fault)), Err(session)),
+        out: &mut String<Room>,
+    ) -> Result<(), RowFault> {
+        let (word, rest) = first_word(asked);
+        match word {
+            "look" => return self.look(setting, rest, out),
+            "forge" => return self.forge(setting, rest, out),
+            "settle" => return self.settle(setting, false, rest, out),
+            "settle_short" => return self.settle(setting, true, rest, out),
+            "while" => return self.wait(rt, setting, rest, out),
+            "drop" => {
+                self.shared = None;
+                return Ok(tell_word("done", out)?);
+            }
+            _ => {}
         }
+        self.answer_shared(rt, setting, asked, out)
     }
 
-    // `OutOfMemory`: each settlement was refused memory, however much was allowed.
-    fn settled_at_last(
-        self,
+    fn answer_shared(
+        &mut self,
+        rt: R,
         setting: Setting,
-        is_tight: bool,
-        is_short: bool,
-        shown: &[Receipt],
-    ) -> Settled<N, R> {
-        let mut session = self;
-        for allowed in budgets(is_tight) {
-            setting.allowing(allowed).limit();
-            let settled = session.settled(is_short, shown);
-            setting.lift();
-            session = match settled {
-                Err((session, SettleFault::OutOfMemory)) => session,
-                Ok(_) | Err(_) => return settled,
-            };
+        asked: &str,
+        out: &mut String<Room>,
+    ) -> Result<(), RowFault> {
+        let Some(shared) = &self.shared else {
+            return Err(RowFault::NotSpelled);
+        };
+        let (word, rest) = first_word(asked);
+        match word {
+            "brief" => {
+                let Some(looker) = self.lookers.get_mut(rest.parse::<usize>()?) else {
+                    return Err(RowFault::NotSpelled);
+                };
+                setting.limit();
+                tell_shown(shared.brief(&rt, looker), out)
+            }
+            "refresh" => {
+                setting.limit();
+                tell_shown(shared.refresh(&rt), out)
+            }
+            "checkpoint" => {
+                setting.limit();
+                Ok(tell_checkpoint(shared.checkpoint(&rt), out)?)
+            }
+            "made" => match self.seats.get(rest.parse::<usize>()?) {
+                Some(seat) => Ok(tell_number(seat.made(), out)?),
+                None => Err(RowFault::NotSpelled),
+            },
+            _ => self.answer_call(rt, setting, asked, out),
         }
-        Err((session, SettleFault::OutOfMemory))
     }
 
-    fn settled(self, is_short: bool, shown: &[Receipt]) -> Settled<N, R> {
+    fn answer_call(
+        &mut self,
+        rt: R,
+        setting: Setting,
+        asked: &str,
+        out: &mut String<Room>,
+    ) -> Result<(), RowFault> {
         let Session {
             shared,
-            mut seats,
-            lookers,
+            seats,
             receipts,
+            before,
+            ..
         } = self;
+        let Some(shared) = shared else {
+            return Err(RowFault::NotSpelled);
+        };
+        let (word, rest) = first_word(asked);
+        let (number, call) = if word == "seat" {
+            first_word(rest)
+        } else {
+            ("0", asked)
+        };
+        let Some(seat) = seats.get_mut(number.parse::<usize>()?) else {
+            return Err(RowFault::NotSpelled);
+        };
+        match call.strip_prefix("each ") {
+            Some(list) => call_each(&rt, setting, shared, seat, receipts, *before, list, out),
+            None => make_call(&rt, setting, shared, seat, receipts, call, out),
+        }
+    }
+
+    // `0 o0 o7`
+    fn look(
+        &mut self,
+        setting: Setting,
+        text: &str,
+        out: &mut String<Room>,
+    ) -> Result<(), RowFault> {
+        let (looker, rest) = first_word(text);
+        let mut objects = Vec::new(setting.texts.room());
+        for word in rest.split(' ') {
+            objects.push(object(word)?)?;
+        }
+        let Some(looker) = self.lookers.get_mut(looker.parse::<usize>()?) else {
+            return Err(RowFault::NotSpelled);
+        };
+        setting.limit();
+        tell_look(looker, setting.heap, objects.as_slice(), out)
+    }
+
+    // `0 o5`: puts this reply into receipt 0.
+    fn forge(
+        &mut self,
+        setting: Setting,
+        text: &str,
+        out: &mut String<Room>,
+    ) -> Result<(), RowFault> {
+        let (receipt, rest) = first_word(text);
+        let reply = reply_of(setting.texts, rest)?;
+        let Some(receipt) = self.receipts.get_mut(receipt.parse::<usize>()?) else {
+            return Err(RowFault::NotSpelled);
+        };
+        receipt.reply = reply;
+        Ok(tell_word("done", out)?)
+    }
+
+    // With all receipts, or those of these numbers; without the last seat, if it is short.
+    fn settle(
+        &mut self,
+        setting: Setting,
+        is_short: bool,
+        words: &str,
+        out: &mut String<Room>,
+    ) -> Result<(), RowFault> {
+        let named = named(setting.texts, self.receipts.as_slice(), words)?;
+        let Some(shared) = self.shared.take() else {
+            return Err(RowFault::NotSpelled);
+        };
+        let none = Vec::new(setting.texts.room());
+        let mut seats = replace(&mut self.seats, none);
         let left_out = if is_short { seats.pop() } else { None };
-        match shared.settle(seats, shown) {
-            Ok(guardian) => Ok(guardian),
-            Err(
-                Unsettled {
-                    fault,
-                    shared,
-                    mut seats,
-                },
-            ) => {
-                if let Some(seat) = left_out {
-                    // There was room for it before.
-                    let _ = seats.push(seat);
-                }
-                let session = Session {
-                    shared,
-                    seats,
-                    lookers,
-                    receipts,
-                };
-                Err((session, fault))
+        let shown = if words == "all" {
+            &self.receipts
+        } else {
+            &named
+        };
+        setting.limit();
+        let settled = shared.settle(seats, shown.as_slice());
+        setting.lift();
+        match settled {
+            Ok(guardian) => {
+                self.guardian = Some(guardian);
+                Ok(tell_word("done", out)?)
             }
+            Err(unsettled) => self.keep(unsettled, left_out, out),
         }
+    }
+
+    fn keep(
+        &mut self,
+        unsettled: Unsettled<N, R>,
+        left_out: Option<Seat<N>>,
+        out: &mut String<Room>,
+    ) -> Result<(), RowFault> {
+        let Unsettled {
+            fault,
+            shared,
+            mut seats,
+        } = unsettled;
+        if let Some(seat) = left_out {
+            // There was room for it before.
+            let _ = seats.push(seat);
+        }
+        self.shared = Some(shared);
+        self.seats = seats;
+        tell_fault(fault, out)
+    }
+
+    // `commit a3, abort a4: wait 3 CALL`: seat 1 waits, and seat 0 makes the others.
+    fn wait(
+        &mut self,
+        rt: R,
+        setting: Setting,
+        text: &str,
+        out: &mut String<Room>,
+    ) -> Result<(), RowFault> {
+        let (Some((others, waiting)), Some(second), Some(first)) = (
+            text.split_once(": wait "),
+            self.seats.pop(),
+            self.seats.pop(),
+        ) else {
+            return Err(RowFault::NotSpelled);
+        };
+        let (patience, asked) = first_word(waiting);
+        let patience = patience.parse::<u32>()?;
+        if asked != WAITING {
+            return Err(RowFault::NotSpelled);
+        }
+        let others = Others {
+            heap: setting.heap,
+            text: others,
+        };
+        let Some(shared) = &self.shared else {
+            return Err(RowFault::NotSpelled);
+        };
+        let meanwhile = wait_meanwhile(&rt, shared, first, second, patience, others)?;
+        self.seats.push(meanwhile.first)?;
+        self.seats.push(meanwhile.second)?;
+        let mut made = meanwhile.made;
+        self.receipts.append(&mut made)?;
+        tell_reply(&meanwhile.waited.reply, out)?;
+        self.receipts.push(meanwhile.waited)?;
+        Ok(())
     }
 }
 
-// The seats and the receipts, that of the call that waited last.
-fn take_back<N: Sharing>(
-    seats: &mut Vec<Seat<N>, Room>,
+// A call, or one that waits: `wait 3 commit a0`.
+fn make_call<N: Sharing, R: Wait + Drop>(
+    rt: &R,
+    setting: Setting,
+    shared: &Shared<N, R>,
+    seat: &mut Seat<N>,
     receipts: &mut Vec<Receipt, Room>,
-    meanwhile: Meanwhile<N>,
-) -> Result<(), OutOfMemory> {
-    let Meanwhile {
-        mut made,
-        waited,
-        first,
-        second,
-    } = meanwhile;
-    seats.push(first)?;
-    seats.push(second)?;
-    receipts.append(&mut made)?;
-    receipts.push(waited)?;
-    Ok(())
-}
-
-fn copy_all(receipts: &[Receipt], out: &mut Vec<Receipt, Room>) -> Result<(), RowFault> {
-    for receipt in receipts {
-        copy(receipt, out)?;
-    }
-    Ok(())
-}
-
-// The receipts of these numbers.
-fn copy_named(
-    receipts: &[Receipt],
-    words: &str,
-    out: &mut Vec<Receipt, Room>,
+    text: &str,
+    out: &mut String<Room>,
 ) -> Result<(), RowFault> {
-    for word in words.split(' ') {
-        match receipts.get(number_of(word)?) {
-            Some(receipt) => copy(receipt, out)?,
-            None => return Err(RowFault::NotSpelled),
+    let receipt = match text.strip_prefix("wait ") {
+        Some(waiting) => {
+            let (patience, asked) = first_word(waiting);
+            let patience = patience.parse::<u32>()?;
+            let call = call_of(setting.heap, asked)?;
+            setting.limit();
+            shared.call_waiting(rt, seat, call, patience)?
+        }
+        None => {
+            let call = call_of(setting.heap, text)?;
+            setting.limit();
+            shared.call(rt, seat, call)?
+        }
+    };
+    tell_reply(&receipt.reply, out)?;
+    receipts.push(receipt)?;
+    Ok(())
+}
+
+// `CALL, CALL`: those that weren't made yet are made together.
+fn call_each<N: Sharing, R: Wait + Drop>(
+    rt: &R,
+    setting: Setting,
+    shared: &Shared<N, R>,
+    seat: &mut Seat<N>,
+    receipts: &mut Vec<Receipt, Room>,
+    before: usize,
+    text: &str,
+    out: &mut String<Room>,
+) -> Result<(), RowFault> {
+    let mut calls = calls_of(setting.heap, text, receipts.len().saturating_sub(before))?;
+    setting.limit();
+    let mut made = shared.call_each(rt, seat, &mut calls);
+    setting.lift();
+    receipts.append(&mut made.receipts)?;
+    if made.end == CallsEnd::OutOfMemory {
+        return Err(RowFault::OutOfMemory);
+    }
+    for receipt in receipts.iter().skip(before) {
+        tell_reply(&receipt.reply, out)?;
+    }
+    let end = if made.end == CallsEnd::Unmet {
+        "unmet"
+    } else {
+        "whole"
+    };
+    Ok(tell_word(end, out)?)
+}
+
+// Adds what the looker finds in these objects.
+fn tell_look<N: Sharing>(
+    looker: &mut Looker<N>,
+    heap: Heap,
+    objects: &[ObjId],
+    out: &mut String<Room>,
+) -> Result<(), RowFault> {
+    match looker.look(heap, objects) {
+        Ok(found) => {
+            for content in &found {
+                tell_content(content, out)?;
+            }
+            Ok(())
+        }
+        Err(LookFault::Memory) => Err(RowFault::OutOfMemory),
+        Err(LookFault::Closed) => Ok(tell_word("closed", out)?),
+    }
+}
+
+// False means that there was no memory.
+fn tell_shown(is_shown: bool, out: &mut String<Room>) -> Result<(), RowFault> {
+    if is_shown {
+        Ok(tell_word("true", out)?)
+    } else {
+        Err(RowFault::OutOfMemory)
+    }
+}
+
+fn tell_fault(fault: SettleFault, out: &mut String<Room>) -> Result<(), RowFault> {
+    match fault {
+        SettleFault::OutOfMemory => Err(RowFault::OutOfMemory),
+        SettleFault::NotThere(_)
+        | SettleFault::Twice(_)
+        | SettleFault::Count { .. }
+        | SettleFault::Folded(_) => {
+            write!(out, " {fault}")?;
+            Ok(())
         }
     }
-    Ok(())
 }
 
-fn copy(receipt: &Receipt, out: &mut Vec<Receipt, Room>) -> Result<(), RowFault> {
-    let heap = out.allocator().heap();
-    let call = receipt.call.duplicate(heap)?;
-    let reply = receipt.reply.duplicate(heap)?;
-    out.push(Receipt {
+// The receipts of these numbers; none for `all`.
+fn named(texts: Heap, receipts: &[Receipt], words: &str) -> Result<Vec<Receipt, Room>, RowFault> {
+    let mut named = Vec::new(texts.room());
+    for word in words.split(' ') {
+        if word != "all" && !word.is_empty() {
+            named.push(copy_of(texts, receipts.get(word.parse::<usize>()?))?)?;
+        }
+    }
+    Ok(named)
+}
+
+fn copy_of(texts: Heap, receipt: Option<&Receipt>) -> Result<Receipt, RowFault> {
+    let Some(receipt) = receipt else {
+        return Err(RowFault::NotSpelled);
+    };
+    let call = receipt.call.duplicate(texts)?;
+    let reply = receipt.reply.duplicate(texts)?;
+    Ok(Receipt {
         at: receipt.at,
         call,
         reply,
-    })?;
-    Ok(())
-}
-
-fn told(texts: Heap, fault: Option<SettleFault>) -> Result<String<Room>, RowFault> {
-    let mut out = String::new(texts.room());
-    match fault {
-        None => tell_word("done", &mut out)?,
-        Some(fault) => tell_fault(fault, &mut out)?,
-    }
-    Ok(out)
+    })
 }

@@ -5,8 +5,7 @@ use std::io;
 use std::io::Print;
 use test_rows::RowFault;
 
-/// How many tests there were, how many rows the one that is running had so far, and how many wrong
-/// answers came.
+/// How many tests and rows there were, and how many wrong answers came.
 ///
 /// ```text
 /// let mut tally = Tally::new();
@@ -15,7 +14,7 @@ use test_rows::RowFault;
 /// ```
 #[derive(Clone, Copy)]
 pub(crate) struct Tally {
-    tests: u32,
+    pub(crate) tests: u32,
     rows: u32,
     wrong: u32,
 }
@@ -29,13 +28,7 @@ impl Tally {
         }
     }
 
-    /// Another test begins.
-    pub(crate) fn begin(&mut self) {
-        self.tests = self.tests.saturating_add(1);
-        self.rows = 0;
-    }
-
-    /// Reports if the row's answer is none of those after its arrow.
+    /// Reports if the row's answer is none of those after its arrow, which `or` separates.
     pub(crate) fn compare(
         &mut self,
         rt: &impl Print,
@@ -44,28 +37,22 @@ impl Tally {
     ) -> io::Result<()> {
         self.rows = self.rows.saturating_add(1);
         let (_, wanted) = row.split_once(" -> ").unwrap_or((row, ""));
-        match answer {
-            Ok(told) if is_among(wanted, told.as_str().trim_start()) => Ok(()),
-            Ok(told) => self.tell_wrong(rt, row, told.as_str()),
-            Err(fault) => self.tell_wrong(rt, row, fault.as_str()),
+        let told = match &answer {
+            Ok(told) => told.as_str().trim_start(),
+            Err(fault) => fault.as_str(),
+        };
+        if answer.is_ok() && wanted.split(" or ").any(|one| one == told) {
+            return Ok(());
         }
-    }
-
-    fn tell_wrong(&mut self, rt: &impl Print, row: &str, told: &str) -> io::Result<()> {
         self.wrong = self.wrong.saturating_add(1);
         println!(rt; "row {}: {told}; wanted: {row}", self.rows)
     }
 
-    /// Reports how many rows the test has.
-    pub(crate) fn tell_rows(&self, rt: &impl Print, name: &str) -> io::Result<()> {
-        println!(rt; "{name}: {} rows", self.rows)
-    }
-
-    /// Reports how many tests there were, and how many wrong answers.
+    /// Reports how many tests and rows there were, and how many wrong answers.
     pub(crate) fn tell(&self, rt: &impl Print) -> io::Result<()> {
         println!(rt;
-            "{} tests of rows, {} wrong answers",
-            self.tests, self.wrong
+            "{} tests, {} rows, {} wrong answers",
+            self.tests, self.rows, self.wrong
         )
     }
 
@@ -73,13 +60,4 @@ impl Tally {
     pub(crate) fn is_content(&self) -> bool {
         self.wrong == 0
     }
-}
-
-// Whether the text is one of those that `or` separates.
-fn is_among(wanted: &str, told: &str) -> bool {
-    let mut is_there = false;
-    for one in wanted.split(" or ") {
-        is_there = is_there || one == told;
-    }
-    is_there
 }

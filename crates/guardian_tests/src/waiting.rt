@@ -1,19 +1,19 @@
 //! A call that waits in one thread, and what another thread does meanwhile.
 
-use crate::caller::{begun_in, make_kept};
+use crate::each_call::calls_of;
 use argus_actions::ActionId;
-use argus_guardian::{CallsEnd, DemandedCall, Receipt, Seat, Shared, Sharing};
-use argus_journal::Call;
-use argus_values::{Change, ObjId, OutOfMemory, Room, Value};
-use std::collections::VecDeque;
+use argus_guardian::{CallsEnd, Receipt, Seat, Shared, Sharing};
+use argus_journal::{Call, Reply};
+use argus_values::{Change, Heap, ObjId, OutOfMemory, Room, Value};
 use std::sync::Wait;
 use std::sync::atomic::{AtomicU64, Ordering};
 use std::thread::{Threads, join, yield_now};
+use test_rows::{RowFault, call_of};
 
 // How often the first thread yields, so that the second one may begin to wait, or wake up.
 const YIELDS: u32 = 1000;
 
-/// The call that waits.
+/// The call that waits, always the same one.
 pub(crate) const WAITING: &str = "alter a2 o0 set_field 0 1";
 
 // How far the waiting thread has come: a word, 0 at first.
@@ -21,12 +21,12 @@ const BEGUN: u64 = 1;
 
 const ANSWERED: u64 = 2;
 
-/// What the first seat makes while a call of the second one waits: these calls, one by one or
-/// together; or, if there are none, topactions that it aborts until that call returns.
-#[derive(Drop)]
-pub(crate) struct Others {
-    pub(crate) calls: Vec<Call, Room>,
-    pub(crate) are_together: bool,
+/// What the first seat makes while a call of the second one waits: calls between commas, one by one;
+/// `together` and such calls; or `others end`, for topactions that it aborts until that call returns.
+#[derive(Clone, Copy)]
+pub(crate) struct Others<'a> {
+    pub(crate) heap: Heap,
+    pub(crate) text: &'a str,
 }
 
 /// What came of a call that waited, and of those that were made meanwhile.
@@ -45,9 +45,9 @@ pub(crate) fn wait_meanwhile<N: Sharing + Send + Sync, R: Threads + Wait + Drop 
     shared: &Shared<N, R>,
     mut first: Seat<N>,
     second: Seat<N>,
-    others: Others,
     patience: u32,
-) -> Result<Meanwhile<N>, OutOfMemory> {
+    others: Others<'_>,
+) -> Result<Meanwhile<N>, RowFault> {
     let word = AtomicU64::new(0);
     let state = &word;
     let ((waited, second), (made, first)) = join(
@@ -55,7 +55,7 @@ pub(crate) fn wait_meanwhile<N: Sharing + Send + Sync, R: Threads + Wait + Drop 
         move || wait_there(rt, shared, second, patience, state),
         || {
             wait_for(rt, state);
-            let made = make_meanwhile(rt, shared, &mut first, others, state);
+            let made = make_others(rt, shared, &mut first, others, state);
             (made, first)
         },
     );
@@ -75,8 +75,8 @@ fn wait_there<N: Sharing, R: Wait + Drop>(
     state: &AtomicU64,
 ) -> (Result<Receipt, OutOfMemory>, Seat<N>) {
     state.store(BEGUN, Ordering::SeqCst);
-    let call = Call::Alter(ActionId(2), ObjId(0), Change::SetField(0, Value::Int(1)));
-    let waited = shared.call_waiting(rt, &mut seat, call, patience);
+    let waiting = Call::Alter(ActionId(2), ObjId(0), Change::SetField(0, Value::Int(1)));
+    let waited = shared.call_waiting(rt, &mut seat, waiting, patience);
     state.store(ANSWERED, Ordering::SeqCst);
     (waited, seat)
 }
@@ -92,7 +92,6 @@ fn wait_for(rt: &impl Wait, state: &AtomicU64) {
     give_way();
 }
 
-// Yields for some time.
 fn give_way() {
     for _ in 0..YIELDS {
         yield_now();
@@ -100,59 +99,31 @@ fn give_way() {
 }
 
 // What the first seat makes, with the receipts.
-fn make_meanwhile<N: Sharing, R: Wait + Drop>(
+fn make_others<N: Sharing, R: Wait + Drop>(
     rt: &R,
     shared: &Shared<N, R>,
     seat: &mut Seat<N>,
-    others: Others,
+    others: Others<'_>,
     state: &AtomicU64,
-) -> Result<Vec<Receipt, Room>, OutOfMemory> {
-    let Others {
-        calls,
-        are_together,
-    } = others;
-    if are_together {
-        return make_together(rt, shared, seat, calls);
+) -> Result<Vec<Receipt, Room>, RowFault> {
+    let Others { heap, text } = others;
+    if let Some(together) = text.strip_prefix("together ") {
+        let made = shared.call_each(rt, seat, &mut calls_of(heap, together, 0)?);
+        return match made.end {
+            CallsEnd::Whole => Ok(made.receipts),
+            CallsEnd::Unmet | CallsEnd::OutOfMemory => Err(RowFault::OutOfMemory),
+        };
     }
-    let mut receipts = Vec::new(calls.allocator().heap().room());
-    if calls.is_empty() {
+    let mut receipts = Vec::new(heap.room());
+    if text == "others end" {
         stir(rt, shared, seat, state, &mut receipts)?;
-    } else {
-        make_all(rt, shared, seat, calls, &mut receipts)?;
+        return Ok(receipts);
     }
-    Ok(receipts)
-}
-
-fn make_together<N: Sharing, R: Wait + Drop>(
-    rt: &R,
-    shared: &Shared<N, R>,
-    seat: &mut Seat<N>,
-    calls: Vec<Call, Room>,
-) -> Result<Vec<Receipt, Room>, OutOfMemory> {
-    let mut listed = VecDeque::new(calls.allocator().heap().room());
-    for call in calls {
-        listed.push_back(DemandedCall::from(call))?;
-    }
-    let made = shared.call_each(rt, seat, &mut listed);
-    if made.end == CallsEnd::OutOfMemory {
-        return Err(OutOfMemory);
-    }
-    Ok(made.receipts)
-}
-
-// After each call the second thread has time to wake up.
-fn make_all<N: Sharing, R: Wait + Drop>(
-    rt: &R,
-    shared: &Shared<N, R>,
-    seat: &mut Seat<N>,
-    calls: Vec<Call, Room>,
-    receipts: &mut Vec<Receipt, Room>,
-) -> Result<(), OutOfMemory> {
-    for call in calls {
-        make_kept(rt, shared, seat, call, receipts)?;
+    for call in text.split(", ") {
+        receipts.push(shared.call(rt, seat, call_of(heap, call)?)?)?;
         give_way();
     }
-    Ok(())
+    Ok(receipts)
 }
 
 // Begins topactions and aborts them until the other thread's call returns.
@@ -167,20 +138,11 @@ fn stir<N: Sharing, R: Wait + Drop>(
         if state.load(Ordering::SeqCst) == ANSWERED {
             break;
         }
-        stir_once(rt, shared, seat, receipts)?;
+        let begun = shared.call(rt, seat, Call::BeginTop)?;
+        if let Reply::Begun(a) = &begun.reply {
+            receipts.push(shared.call(rt, seat, Call::Abort(*a))?)?;
+        }
+        receipts.push(begun)?;
     }
     Ok(())
-}
-
-fn stir_once<N: Sharing, R: Wait + Drop>(
-    rt: &R,
-    shared: &Shared<N, R>,
-    seat: &mut Seat<N>,
-    receipts: &mut Vec<Receipt, Room>,
-) -> Result<(), OutOfMemory> {
-    make_kept(rt, shared, seat, Call::BeginTop, receipts)?;
-    match receipts.last().and_then(begun_in) {
-        Some(a) => make_kept(rt, shared, seat, Call::Abort(a), receipts),
-        None => Ok(()),
-    }
 }

@@ -38,8 +38,10 @@ from .errors import (
     NoSiblings,
     NotBegun,
     NotThere,
+    OtherGuardian,
     OutOfMemory,
     Over,
+    Reentered,
     Refused,
     Signal,
     Suspended,
@@ -49,6 +51,7 @@ from .errors import (
     WrongTag,
 )
 from .guardian import Guardian
+from .ids import ActionId, ObjectId
 from .library import Demand, Kind
 from .lists import CallsMade, Listed
 from .ready_commit import ReadyCommit
@@ -61,6 +64,7 @@ __version__ = "0.1.0"
 __all__ = [
     "Absent",
     "Action",
+    "ActionId",
     "ArgusError",
     "Array",
     "BadDemand",
@@ -89,9 +93,12 @@ __all__ = [
     "NoSiblings",
     "NotBegun",
     "NotThere",
+    "ObjectId",
+    "OtherGuardian",
     "OutOfMemory",
     "Over",
     "ReadyCommit",
+    "Reentered",
     "Ref",
     "Refused",
     "Shape",

@@ -6,8 +6,9 @@ from types import TracebackType
 from typing import TYPE_CHECKING, Any, NoReturn
 
 from .errors import ArgusError
+from .ids import ActionId, number_of
 from .library import Kind
-from .ranges import U32, i64, u32
+from .ranges import U32, i64
 from .ready_commit import ReadyCommit
 from .values import Content, Object, Value, write_content, written
 
@@ -45,9 +46,9 @@ class Action:
         renewals: int | None = None,
     ) -> None:
         if type(number) is not int or not 0 <= number <= U32:
-            number = u32(number, "action")
+            number = number_of(number, guardian._ids, "action")
         self.guardian = guardian
-        self.number = number
+        self._number = number
         # The parent, or the creator of a nested topaction: neither ends before this one does.
         self.parent = parent
         self._is_nested = is_nested
@@ -55,16 +56,21 @@ class Action:
         # How often the guardian had been renewed when it was begun; None if only its number counts.
         self._renewals = renewals
 
+    @property
+    def number(self) -> ActionId:
+        """Its number, which knows its guardian."""
+        return self.guardian._ids.actions(self._number)
+
     def _lineage(self) -> set[int]:
         """The numbers of itself and its ancestors, whose locks don't conflict with its own."""
-        numbers, action = {self.number}, self
+        numbers, action = {self._number}, self
         while action.parent and not action._is_nested:
             action = action.parent
-            numbers.add(action.number)
+            numbers.add(action._number)
         return numbers
 
     def __repr__(self) -> str:
-        return f"<Action a{self.number}>"
+        return f"<Action a{self._number}>"
 
     def __reduce__(self) -> NoReturn:
         raise TypeError("an action is neither pickled nor copied: it belongs to its guardian")
@@ -114,7 +120,7 @@ class Action:
 
         If the block ends without `make`, by an exception too, nothing has changed, and the action is
         live. In the block the guardian's mutex is held: calls of other threads wait, and another call of this
-        thread would cancel the commit, so make none. May raise OutOfMemory or Closed.
+        thread raises Reentered. May raise OutOfMemory or Closed.
         """
         return ReadyCommit(self)
 
@@ -208,23 +214,23 @@ class Action:
 
     def create(self, obj: Object, content: Content) -> None:
         """Gives the object its first content, or raises Exists."""
-        self.guardian._access_of(self, Kind.CREATE, obj, text=write_content(content).encode())
+        self.guardian._access_of(self, Kind.CREATE, obj, text=write_content(content, self.guardian._ids).encode())
 
     def set_field(self, obj: Object, field: int, value: Value) -> None:
         """Sets a field of a record."""
-        self.guardian._access_of(self, _SET_FIELD, obj, field, text=written(value))
+        self.guardian._access_of(self, _SET_FIELD, obj, field, text=written(value, self.guardian._ids))
 
     def store(self, obj: Object, place: int, value: Value) -> None:
         """Sets the element at this place, or raises Bounds."""
-        self.guardian._access_of(self, Kind.STORE, obj, place, text=written(value))
+        self.guardian._access_of(self, Kind.STORE, obj, place, text=written(value, self.guardian._ids))
 
     def addh(self, obj: Object, value: Value) -> None:
         """Adds the value after the last element, or raises Limits."""
-        self.guardian._access_of(self, Kind.ADDH, obj, text=written(value))
+        self.guardian._access_of(self, Kind.ADDH, obj, text=written(value, self.guardian._ids))
 
     def addl(self, obj: Object, value: Value) -> None:
         """Adds the value before the first element, or raises Limits."""
-        self.guardian._access_of(self, Kind.ADDL, obj, text=written(value))
+        self.guardian._access_of(self, Kind.ADDL, obj, text=written(value, self.guardian._ids))
 
     def remh(self, obj: Object) -> Any:
         """Removes the last element and returns it, or raises Bounds."""
@@ -244,7 +250,7 @@ class Action:
 
     def change_tag(self, obj: Object, tag: int, value: Value) -> None:
         """Sets the tag, with its value."""
-        self.guardian._access_of(self, Kind.CHANGE_TAG, obj, tag, text=written(value))
+        self.guardian._access_of(self, Kind.CHANGE_TAG, obj, tag, text=written(value, self.guardian._ids))
 
     def lock(self, obj: Object) -> None:
         """Takes the write lock, and changes nothing. Call it before you read what you will write."""

@@ -5,8 +5,9 @@ from __future__ import annotations
 from typing import Any
 
 from . import errors
+from .ids import Ids, number_of
 from .library import Question
-from .ranges import U64, u32, within
+from .ranges import U64, within
 from .shapes import Shape, read_shape
 from .values import Object, object_number, read_content
 
@@ -26,6 +27,7 @@ class Asked:
     MAX_ACTIONS = 1_000_000
 
     def __init__(self) -> None:
+        self._ids = Ids()
         # The shapes of objects, by their numbers; those that were asked for.
         self._shapes: dict[int, Shape] = {}
 
@@ -54,14 +56,15 @@ class Asked:
         One that was over at the last checkpoint is `folded`.
         """
         try:
-            return _STATUSES[self._tell(Question.ACTION_STATUS, action=u32(action, "action")) - 1]
+            number = number_of(action, self._ids, "action")
+            return _STATUSES[self._tell(Question.ACTION_STATUS, action=number) - 1]
         except errors.NotThere:
             return None
 
     def live(self, start: int = 0) -> int | None:
         """The first live action from this number on; None if there is none."""
         try:
-            return self._tell(Question.FIRST_LIVE, action=u32(start, "action"))
+            return self._tell(Question.FIRST_LIVE, action=number_of(start, self._ids, "action"))
         except errors.NotThere:
             return None
 
@@ -77,15 +80,15 @@ class Asked:
 
     def base(self, obj: Object) -> Any:
         """The object's base: what the committed topactions have left in it; None if it has no content yet."""
-        return read_content(self._tell(Question.BASE, obj=object_number(obj)))
+        return read_content(self._tell(Question.BASE, object_number(obj, self._ids)))
 
     def shape(self, obj: Object) -> str:
         """The shape with which the object was declared."""
-        return self._tell(Question.SHAPE, obj=object_number(obj))
+        return self._tell(Question.SHAPE, object_number(obj, self._ids))
 
     def shape_of(self, obj: Object) -> Shape:
         """The same, parsed: its kind and its names. An object keeps its shape, so it is asked for once."""
-        number = object_number(obj)
+        number = object_number(obj, self._ids)
         if number not in self._shapes:
             self._shapes[number] = read_shape(self.shape(number))
         return self._shapes[number]
@@ -100,11 +103,11 @@ class Asked:
 
     def readers(self, obj: Object) -> list[int]:
         """The actions that hold the object for reading, in increasing number."""
-        return actions_of(self._tell(Question.READERS, obj=object_number(obj)))
+        return actions_of(self._tell(Question.READERS, object_number(obj, self._ids)))
 
     def versions(self, obj: Object) -> list[tuple[int, Any]]:
         """The actions that hold the object for writing, from ancestor to descendant, each with what it sees."""
-        lines = _lines(self._tell(Question.VERSIONS, obj=object_number(obj)))
+        lines = _lines(self._tell(Question.VERSIONS, object_number(obj, self._ids)))
         pairs = (line.split(" ", 1) for line in lines)
         return [(int(holder[1:]), read_content(content)) for holder, content in pairs]
 

@@ -17,6 +17,8 @@ from . import errors
 from .action import Action
 from .archive import Archive
 from .asked import Asked, actions_of
+from .entering import LOOK_AFTER, Entering
+from .ids import number_of
 from .library import ActionStatus, Kind, Question, Status
 from .owners import Owners
 from .ranges import i64, u32
@@ -30,19 +32,19 @@ _OVER = Status.REFUSED, errors.REFUSALS.index(errors.Over) + 1
 _CONFLICT = Status.REFUSED, errors.REFUSALS.index(errors.Conflict) + 1
 # The most frequent ones, as globals, which are looked up faster than attributes.
 _IS_ACTION, _BEGIN_NESTED = Status.ACTION, Kind.BEGIN_NESTED
-# After at most this many seconds a wait looks again.
-_LOOK_AFTER = 0.05
 
 
-class Calling(Asked):
+class Calling(Entering, Asked):
     """The calls of actions. What begins with `_` and doesn't take the lock itself is called with the lock held."""
 
     def __init__(self, patience: float) -> None:
-        super().__init__()
+        Asked.__init__(self)
+        Entering.__init__(self)
         self.patience = patience
         self._archive = Archive()
-        self._make_lock()
         self._owners = Owners()
+        # What each call looks at, by the shortest way.
+        self._dropped, self._object_id = self._owners.dropped, self._ids.objects
         # How many actions were begun that the program has, or had.
         self._begun = 0
         # How often the numbers of actions began at 0 again.
@@ -51,30 +53,28 @@ class Calling(Asked):
         self._readying: int | None = None
 
     def _make_lock(self) -> None:
-        # The lock is held around each call with its reply. The condition is notified when actions end. At the end of
-        # its wait no interrupt (Ctrl-C) keeps it from having a lock of this kind again.
-        self._lock = threading.RLock()
-        self._ended = threading.Condition(self._lock)
-        # How many threads wait for that.
-        self._waiting = 0
-        # The checkpoints and renewals that are under way: they hold topactions back.
-        self._folds: set[object] = set()
+        super()._make_lock()
+        # The checkpoints and renewals that are under way, each with its thread: they hold topactions back.
+        self._folds: dict[object, int] = {}
         # For each object the lineages of the actions that wait to write it.
         self._writing: dict[int, list[set[int]]] = {}
 
     def _begin(self, kind: int, parent: Action | None = None) -> Action:
         """Begins an action. If an interrupt comes before the caller has it, it is aborted. Takes the lock itself."""
         archive = self._archive
+        if self._busy:
+            self._refuse_reentered()
         with self._lock:
+            self._busy = True
             above = 0
             if parent is not None:
-                above = parent.number
+                above = parent._number
                 if parent._renewals != self._renewals:
                     self._be_since(parent, kind)
             while self._folds and parent is None:
-                self._wait_until(time.monotonic() + _LOOK_AFTER)
+                self._wait_for_folds()
             owners = self._owners
-            if owners.dropped:
+            if self._dropped:
                 self._abort_dropped()
             try:
                 answer = archive.call(archive.at, kind, above, 0, 0, 0, b"")
@@ -84,10 +84,17 @@ class Calling(Asked):
                 action = Action(self, number, parent, kind == _BEGIN_NESTED, self._renewals)
                 owners.live[number] = ref(action, owners.drop)
                 self._begun = number + 1
+                self._busy = self._awaited
                 return action
             except BaseException:
                 self._abort_from(self._begun)
                 raise
+
+    def _wait_for_folds(self) -> None:
+        """Waits for checkpoints of other threads. One of this thread's log waits for this one, and so for ever."""
+        if threading.get_ident() in list(self._folds.values()):
+            raise errors.Reentered
+        self._wait_until(time.monotonic() + LOOK_AFTER)
 
     def _abort_from(self, number: int) -> None:
         """Aborts the actions from this number on, which no caller has got."""
@@ -98,33 +105,41 @@ class Calling(Asked):
     def _be_since(self, action: Action, kind: int, obj: int = 0) -> None:
         """Raises Over for an action from before a renewal: its number now names another one or none."""
         if action._renewals not in (None, self._renewals):
-            raise error_of_call(*_OVER, (kind, action.number, obj))
+            raise error_of_call(*_OVER, (kind, action._number, obj))
 
     def _access_of(
-        self, action: Action, kind: int, obj: Object, first: int = 0, second: int = 0, text: bytes = b""
+        self, action: Action, kind: int, obj: Any, first: int = 0, second: int = 0, text: bytes = b""
     ) -> Any:
-        """Makes an access of an `Action`, as `access` does. Takes the lock itself."""
-        if type(obj) is not int:
-            obj = object_number(obj)
+        """Makes an access of an `Action` to an `Object`, as `access` does. Takes the lock itself."""
+        of = type(obj)
+        if of is not self._object_id and of is not int:
+            obj = object_number(obj, self._ids)
         archive = self._archive
+        make = archive.call
+        if self._busy:
+            self._refuse_reentered()
         with self._lock:
-            if self._owners.dropped:
+            self._busy = True
+            if self._dropped:
                 self._abort_dropped()
             if action._renewals != self._renewals:
                 self._be_since(action, kind, obj)
-            answer = archive.call(archive.at, kind, action.number, obj, first, second, text)
-            # An integer, or nothing.
-            if type(answer) is not tuple:
-                return answer
-            call = kind, action.number, obj, first, second, text
-            return self._answered(answer, call, action._lineage, action._renewals)
+            answer = make(archive.at, kind, action._number, obj, first, second, text)
+            # An integer, or nothing; else its text is read, or the call is made again.
+            if type(answer) is tuple:
+                call = kind, action._number, obj, first, second, text
+                answer = self._answered(answer, call, action._lineage, action._renewals)
+            self._busy = self._awaited
+            return answer
 
     def _end(self, action: Action, kind: int) -> None:
         """Ends an `Action` by a commit or an abort. Takes the lock itself."""
-        archive, number = self._archive, action.number
+        archive, number = self._archive, action._number
+        if self._busy:
+            self._refuse_reentered()
         with self._lock:
-            owners = self._owners
-            if owners.dropped:
+            self._busy = True
+            if self._dropped:
                 self._abort_dropped()
             if action._renewals != self._renewals:
                 self._be_since(action, kind)
@@ -132,25 +147,31 @@ class Calling(Asked):
             if type(answer) is tuple:
                 self._note_end(kind, number, answer)
                 raise error_of_call(*answer, (kind, number))
-            owners.live.pop(number, None)
-            if self._waiting:
+            self._owners.live.pop(number, None)
+            if self._awaited:
                 self._ended.notify_all()
+            self._busy = self._awaited
 
     def _make_of(self, action: Action, kind: int, obj: Object = 0) -> Any:
         """Makes another call of an `Action`: a test, or an abort of its siblings. Takes the lock itself."""
-        call = kind, action.number, object_number(obj)
+        call = kind, action._number, object_number(obj, self._ids)
+        if self._busy:
+            self._refuse_reentered()
         with self._lock:
+            self._busy = True
             self._be_since(action, kind, call[2])
             answer = self._make(*call)
             if kind == Kind.ABORT_OTHERS:
-                self._note_end(kind, action.number, answer)
-            return self._archive.answer(*answer, call)
+                self._note_end(kind, action._number, answer)
+            result = self._archive.answer(*answer, call)
+            self._busy = self._awaited
+            return result
 
     def _note_end(self, kind: int, action: int, answer: tuple[int, int]) -> None:
         if answer == _DONE:
             if kind != Kind.ABORT_OTHERS:
                 self._owners.live.pop(action, None)
-            if self._waiting:
+            if self._awaited:
                 self._ended.notify_all()
         elif answer == _OVER and kind != Kind.ABORT_OTHERS:
             self._owners.live.pop(action, None)
@@ -185,13 +206,19 @@ class Calling(Asked):
         `renewals` is how often the guardian had been renewed when the action was begun: if it was renewed
         since, the action is over.
         """
-        named = u32(kind, "kind"), u32(action, "action"), object_number(obj)
+        action = number_of(action, self._ids, "action")
+        named = u32(kind, "kind"), action, object_number(obj, self._ids)
         call = *named, i64(first, "number"), i64(second, "number"), text.encode()
+        if self._busy:
+            self._refuse_reentered()
         with self._lock:
+            self._busy = True
             if renewals is None:
                 renewals = self._renewals
             answer = self._make_since(renewals, *call)
-            return self._answered(answer, call, lineage or (lambda: {action}), renewals)
+            result = self._answered(answer, call, lineage or (lambda: {action}), renewals)
+            self._busy = self._awaited
+            return result
 
     def _answered(
         self, answer: tuple[int, int], call: Call, lineage: Callable[[], set[int]], renewals: int | None
@@ -265,25 +292,9 @@ class Calling(Asked):
         too = ", and one of them has read it and waits to write it, too" if is_in_vain else ""
         return f"{deed(*call)}, held by {named or 'another one'}{too}"
 
-    def _wait_until(self, limit: float) -> None:
-        # A dropped action notifies nobody, so it looks from time to time.
-        lock: Any = self._lock
-        self._waiting += 1
-        try:
-            self._ended.wait(min(limit - time.monotonic(), _LOOK_AFTER))
-        finally:
-            # An interrupt at the begin of the wait may have come just after it gave the lock back.
-            if not lock._is_owned():
-                lock.acquire()
-            self._waiting -= 1
-
-    def _wake(self) -> None:
-        if self._waiting:
-            self._ended.notify_all()
-
     def _make(self, *call: Any) -> tuple[int, int]:
         """The status and the number of a call."""
-        if self._owners.dropped:
+        if self._dropped:
             self._abort_dropped()
         return self._archive.make(*call)
 
@@ -293,12 +304,17 @@ class Calling(Asked):
 
     def _ask(self, question: int, action: int, obj: int) -> tuple[int, int]:
         """The status and the number of a question."""
-        if self._owners.dropped:
+        if self._dropped:
             self._abort_dropped()
         return self._archive.ask(question, action, obj)
 
     def _tell(self, question: int, obj: int = 0, entry: int = 0, action: int = 0) -> Any:
+        if self._busy:
+            self._refuse_reentered()
         with self._lock:
-            if self._owners.dropped:
+            self._busy = True
+            if self._dropped:
                 self._abort_dropped()
-            return self._archive.told(question, action, obj, entry)
+            told = self._archive.told(question, action, obj, entry)
+            self._busy = self._awaited
+            return told

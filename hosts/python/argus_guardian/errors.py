@@ -75,6 +75,19 @@ class NotThere(ArgusError, LookupError):
     why = "no such object or entry"
 
 
+class OtherGuardian(ArgusError, ValueError):
+    """The object or the action is another guardian's. No call was made. `int(obj)` is the number alone."""
+
+    why = "it is another guardian's"
+
+
+class Reentered(ArgusError, RuntimeError):
+    """The thread is inside a call of the guardian or the log: a signal handler, a `__del__` or a callback, which has
+    interrupted that one, wants to make this one. Nothing was done, and the other call goes on."""
+
+    why = "this thread is inside a call of the guardian, or of its log, already"
+
+
 class Closed(ArgusError):
     """The guardian or the log is closed, or was opened by a process that this one was forked from."""
 

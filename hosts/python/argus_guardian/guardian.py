@@ -3,6 +3,7 @@
 from __future__ import annotations
 
 import random
+import threading
 import time
 import warnings
 from collections.abc import Callable, Iterable
@@ -11,6 +12,8 @@ from typing import Any, NoReturn, TypeVar
 from . import errors, forking
 from .action import Action
 from .calling import Calling
+from .entering import one_call
+from .ids import ObjectId, number_of
 from .library import Kind, Question, Status
 from .lists import CallsMade, Listed, array_of, calls_of
 from .ranges import MOST, U64, i64, u32, within
@@ -25,6 +28,12 @@ _ENDS = (Kind.COMMIT, Kind.ABORT, Kind.ABORT_OTHERS)
 
 class Guardian(Calling):
     """Atomic objects, and the actions that use them. Threads may share it: each call takes its mutex.
+
+    Each call raises Reentered, and does nothing, if its thread is inside another one: if a signal handler, a
+    `__del__` or a callback makes it, which has interrupted that one. The other call goes on with its own reply. A
+    thread that waits for an object, in a checkpoint or before a topaction is inside, and so is one in a block of
+    `ready_commit`; one that only waits for the mutex isn't yet. Handlers that set a flag, or hand over to another
+    thread, have nothing to catch.
 
     An access waits for its object at most `patience` seconds, and then raises Conflict: abort the
     topaction, and begin it again, as `run` does. Two topactions wait for each other in one of two ways.
@@ -46,12 +55,12 @@ class Guardian(Calling):
         self._is_open = True
         forking.add(self)
 
+    @one_call
     def close(self) -> None:
         """Frees its memory. Live actions leave nothing."""
-        with self._lock:
-            self._is_open = False
-            self._archive.close()
-            self._wake()
+        self._is_open = False
+        self._archive.close()
+        self._wake()
 
     def _leave_behind(self) -> None:
         """Closes it in a forked process. Its memory and its lock are the parent's."""
@@ -74,9 +83,13 @@ class Guardian(Calling):
     def __exit__(self, *_: object) -> None:
         self.close()
 
-    def declare(self, shape: str) -> int:
-        """Declares an object of this shape, such as `atomic_record[balance:int]`, and returns its number."""
-        return self.call(Kind.DECLARE, text=shape)
+    def declare(self, shape: str) -> ObjectId:
+        """Declares an object of this shape, such as `atomic_record[balance:int]`, and returns its number.
+
+        The number knows its guardian: another one raises OtherGuardian. A program that keeps it for another process
+        keeps `int` of it.
+        """
+        return self._ids.objects(self.call(Kind.DECLARE, text=shape))
 
     def topaction(self) -> Action:
         """Begins a topaction. While a thread waits in `checkpoint`, it waits for that thread."""
@@ -113,19 +126,19 @@ class Guardian(Calling):
 
         return await to_thread(lambda: self.run(work, tries))
 
+    @one_call
     def abort_live(self) -> None:
         """Aborts all live actions, nested topactions too; later calls by these actions raise Over.
 
         For a program that has live actions left that nobody will end. At OutOfMemory some were aborted,
         from the first one on, and another call aborts the others.
         """
-        with self._lock:
-            if self._owners.dropped:
-                self._abort_dropped()
-            status = self._archive.abort_live()
-            self._wake()
-            if status != Status.DONE:
-                raise error_of(status)
+        if self._dropped:
+            self._abort_dropped()
+        status = self._archive.abort_live()
+        self._wake()
+        if status != Status.DONE:
+            raise error_of(status)
 
     def checkpoint(self, patience: float = 0.0) -> None:
         """Folds the journal's entries when no action is live.
@@ -145,20 +158,20 @@ class Guardian(Calling):
         """
         self._fold_waiting(patience, self._begin_anew)
 
+    @one_call
     def _fold_waiting(self, patience: float, fold: Callable[[], int]) -> None:
         limit, this = time.monotonic() + patience, object()
-        with self._lock:
-            try:
-                self._folds.add(this)
+        try:
+            self._folds[this] = threading.get_ident()
+            status = fold()
+            while status == Status.BUSY and time.monotonic() < limit:
+                self._wait_until(limit)
                 status = fold()
-                while status == Status.BUSY and time.monotonic() < limit:
-                    self._wait_until(limit)
-                    status = fold()
-            finally:
-                self._folds.discard(this)
-                self._wake()
-            if status != Status.DONE:
-                raise error_of(status)
+        finally:
+            self._folds.pop(this, None)
+            self._wake()
+        if status != Status.DONE:
+            raise error_of(status)
 
     def _fold(self) -> int:
         self._abort_dropped()
@@ -190,15 +203,21 @@ class Guardian(Calling):
         self, kind: int, action: int = 0, obj: Object = 0, first: int = 0, second: int = 0, text: str = ""
     ) -> Any:
         """Makes one call, of a Kind, and returns its result; raises Refused or Signal if that is the reply."""
-        named = u32(kind, "kind"), u32(action, "action"), object_number(obj)
+        action = number_of(action, self._ids, "action")
+        named = u32(kind, "kind"), action, object_number(obj, self._ids)
         call = *named, i64(first, "number"), i64(second, "number"), text.encode()
+        if self._busy:
+            self._refuse_reentered()
         with self._lock:
+            self._busy = True
             answer = self._make(*call)
             if kind in _ENDS:
                 self._note_end(kind, action, answer)
             if kind in _BEGINS and answer[0] == Status.ACTION:
                 self._begun = answer[1] + 1
-            return self._archive.answer(*answer, call)
+            result = self._archive.answer(*answer, call)
+            self._busy = self._awaited
+            return result
 
     def call_each(self, calls: Iterable[Listed]) -> CallsMade:
         """Makes these calls, each a `Listed`, up to the first whose reply isn't what its demand says.
@@ -210,18 +229,20 @@ class Guardian(Calling):
         OutOfMemory: calls were made, but there was no memory for their results. At Closed, and if a
         number isn't one that the library takes (OverflowError, TypeError), no call was made.
         """
-        array = array_of(list(calls))
-        with self._lock:
-            if self._owners.dropped:
-                self._abort_dropped()
-            before = self._archive.told(Question.ACTIONS)
-            try:
-                made = self._make_each(array)
-                self._begun = self._archive.told(Question.ACTIONS)
-                return made
-            except BaseException:
-                self._abort_from(before)
-                raise
+        return self._call_each(array_of(list(calls), self._ids))
+
+    @one_call
+    def _call_each(self, array: Any) -> CallsMade:
+        if self._dropped:
+            self._abort_dropped()
+        before = self._archive.told(Question.ACTIONS)
+        try:
+            made = self._make_each(array)
+            self._begun = self._archive.told(Question.ACTIONS)
+            return made
+        except BaseException:
+            self._abort_from(before)
+            raise
 
     def _make_each(self, array: Any) -> CallsMade:
         status, count = self._archive.make_each(array)
@@ -233,17 +254,17 @@ class Guardian(Calling):
         answers = self._archive.answers(outcomes, calls)
         return CallsMade(answers, _end_of(status, answers, array))
 
+    @one_call
     def lines(self, entry: int, size: int = 65536) -> list[str]:
         """The lines of the journal's entries from this number on, as many as fit into `size` bytes.
 
         If there is a line, it returns at least one, however long it is; so `entry + len(lines)` is the
         next number to ask for. NotThere below `first_entry`, and above `entries`.
         """
-        entry = within(entry, 0, U64, "entry")
-        with self._lock:
-            if self._owners.dropped:
-                self._abort_dropped()
-            return self._archive.lines(entry, within(size, 0, MOST, "size"))
+        entry, size = within(entry, 0, U64, "entry"), within(size, 0, MOST, "size")
+        if self._dropped:
+            self._abort_dropped()
+        return self._archive.lines(entry, size)
 
 
 def _end_of(status: int, answers: list[Any], array: Any) -> errors.ArgusError | None:

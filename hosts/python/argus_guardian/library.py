@@ -6,9 +6,13 @@ import ctypes
 import os
 from collections.abc import Callable
 from pathlib import Path
-from typing import Any, TypeAlias
+from typing import TYPE_CHECKING, Any
 
 from .ranges import U32, i64, u32
+
+if TYPE_CHECKING:
+    # Python 3.9 has none.
+    from typing import TypeAlias
 
 try:
     from . import _call
@@ -107,7 +111,7 @@ def where() -> str:
     """The shared object that `ARGUS_LIBRARY` names; otherwise the one in this folder, where pip puts it, or in
     the repository's dist/, or the one that the system's loader finds."""
     here = Path(__file__).resolve().parent
-    places = [here, *(above / "dist/lib" for above in here.parents[2:3])]
+    places = [here, *(above / "dist/lib" for above in list(here.parents)[2:3])]
     found = (str(place / NAME) for place in places if (place / NAME).is_file())
     return os.environ.get("ARGUS_LIBRARY", "") or next(found, NAME)
 

@@ -5,6 +5,7 @@ from __future__ import annotations
 from typing import Any, NamedTuple
 
 from .errors import ArgusError
+from .ids import Ids, number_of
 from .library import Demand, ListedCall
 from .ranges import U32, i64, u32, within
 from .telling import Call
@@ -40,22 +41,22 @@ class CallsMade(NamedTuple):
     end: ArgusError | None
 
 
-def array_of(calls: list[Listed]) -> Any:
-    """The calls as the library takes them, each with its text. Raises what `Guardian.call` does."""
+def array_of(calls: list[Listed], ids: Ids) -> Any:
+    """The calls as the library takes them, each with its text. Of ids only these are taken. Raises what `Guardian.call` does."""
     array = (ListedCall * len(calls))()
     for place, call in enumerate(calls):
-        array[place] = _listed_call(call)
+        array[place] = _listed_call(call, ids)
     return array
 
 
-def _listed_call(call: Listed) -> ListedCall:
+def _listed_call(call: Listed, ids: Ids) -> ListedCall:
     text = call.text.encode()
     return ListedCall(
         kind=u32(call.kind, "kind"),
         demand=u32(call.demand, "demand"),
-        action=u32(call.action, "action"),
+        action=number_of(call.action, ids, "action"),
         begun_by=0 if call.begun_by is None else within(call.begun_by, 0, U32 - 1, "place") + 1,
-        object=object_number(call.obj),
+        object=object_number(call.obj, ids),
         first=i64(call.first, "number"),
         second=i64(call.second, "number"),
         text=text,

@@ -7,6 +7,7 @@ hosts/rust/log_c. None of this is proved; docs/OUTLIVING.md says what a log prom
 from __future__ import annotations
 
 import os
+import threading
 import time
 from collections.abc import Callable
 from types import TracebackType
@@ -75,6 +76,9 @@ class Log:
     without an exception: its commit, and all before it, are on disk. Threads may share the log; their
     commits wait together.
 
+    A call raises Reentered, and does nothing, if its thread is inside a call of the log or of its guardian already:
+    if a signal handler, a `__del__` or a callback makes it, which has interrupted that one.
+
     Other calls are the guardian's. Their results may come from commits that aren't on disk yet: `barrier`
     returns when all earlier ones are. `checkpoint` and `renew` of the guardian raise TypeError, since they could
     fold entries that the files haven't got: call `checkpoint` of the log. Raises LogError, and OSError if there
@@ -128,6 +132,7 @@ class Log:
 
         What isn't on disk is lost. Later calls raise Closed.
         """
+        self._refuse_reentered()
         try:
             self._files.close()
         finally:
@@ -139,8 +144,14 @@ class Log:
     def __exit__(self, *_: object) -> None:
         self.close()
 
+    def _refuse_reentered(self) -> None:
+        """Raises Reentered if this thread is inside a call of the log or of its guardian."""
+        self.guardian._refuse_reentered()
+        self._files.refuse_reentered()
+
     def broken(self) -> str | None:
         """Why the log is broken; None if it isn't."""
+        self._refuse_reentered()
         return self._files.broken()
 
     def _refuse_broken(self) -> None:
@@ -150,6 +161,7 @@ class Log:
 
     def barrier(self) -> None:
         """Returns when all entries that the journal has now are on disk. InDoubt if that isn't known."""
+        self._refuse_reentered()
         status, why = self._files.wait(self.guardian.entries, self._give)
         if status != LogStatus.DONE:
             raise InDoubt(why) from self._giving.raised
@@ -185,18 +197,17 @@ class Log:
         and nothing is folded.
         """
         limit, guardian, this = time.monotonic() + patience, self.guardian, object()
+        self._refuse_reentered()
         try:
-            guardian._folds.add(this)
+            guardian._folds[this] = threading.get_ident()
             is_folded = self._fold()
             while not is_folded and time.monotonic() < limit:
-                with guardian._lock:
-                    guardian._wait_until(limit)
+                guardian._wait_alone(limit)
                 is_folded = self._fold()
         finally:
             # If an interrupt comes in between, a topaction that waits finds out by itself.
-            guardian._folds.discard(this)
-            with guardian._lock:
-                guardian._wake()
+            guardian._folds.pop(this, None)
+            guardian._wake_alone()
         if not is_folded:
             raise Busy("an action is live")
 
@@ -226,13 +237,16 @@ class LoggedTopaction:
         guardian = self._log.guardian
         self._top = guardian.topaction()
         # An interrupt may come as the block ends, before `__exit__` has begun. Then the next call aborts it.
-        drop, owner = guardian._owners.drop, guardian._owners.live[self._top.number]
+        drop, owner = guardian._owners.drop, guardian._owners.live[self._top._number]
         self._dropped = ref(self, lambda _: drop(owner))
         return self._top
 
     def __exit__(
         self, kind: type[BaseException] | None, error: BaseException | None, trace: TracebackType | None
     ) -> None:
+        if kind is None:
+            # Before the commit, which nothing undoes.
+            self._log._refuse_reentered()
         if self._top is not None:
             self._top.__exit__(kind, error, trace)
         self._dropped = None

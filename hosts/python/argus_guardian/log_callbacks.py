@@ -32,6 +32,7 @@ class Taking:
             if self.raised is None:
                 # Another thread may close the guardian.
                 with self._guardian._lock:
+                    self._guardian._busy = True
                     status, _, taken = self._guardian._archive.take(ctypes.string_at(lines, size))
                 if status == Status.DONE:
                     return _TAKEN
@@ -80,6 +81,7 @@ class Folding:
         guardian, archive, result = self._guardian, self._guardian._archive, _NOT_FOLDED
         try:
             with guardian._lock:
+                guardian._busy = True
                 # These are entries, which the log has to have before.
                 guardian._abort_dropped()
                 if archive.told(Question.ENTRIES) != entry:

@@ -13,7 +13,7 @@ from collections.abc import Callable
 from typing import Any, TypeVar
 
 from . import forking
-from .errors import Closed
+from .errors import Closed, Reentered
 from .log_library import LogStatus, load
 
 _Outcome = TypeVar("_Outcome")
@@ -25,21 +25,28 @@ _LOOK_AFTER = 0.002
 class LogFiles:
     """A log of the library. Once it is closed no call is made on it: each raises Closed.
 
-    `take`, `give` and `fold` are what the library calls, of the types of log_library.py.
+    A call raises Reentered if its thread is inside one already. `take`, `give` and `fold` are what the library
+    calls, of the types of log_library.py.
     """
 
     def __init__(self) -> None:
         self._library = load()
         self._log = ctypes.c_void_p()
         self._is_open = True
-        self._make_lock()
+        # The uses of the log, each with its thread. It is a lock that is held as long as the use is under way: an
+        # interrupt may leave the entry here, but not the lock held. There is no other lock, since a handler might
+        # interrupt this thread where it has that, and wait for another thread that wants it.
+        self._uses: dict[threading.Lock, int] = {}
         forking.add(self)
 
-    def _make_lock(self) -> None:
-        # A lock of C. A Condition's `with` runs functions of Python, in which an interrupt leaves the lock behind.
-        self._lock = threading.RLock()
-        # The uses of the log that are under way, each with its thread.
-        self._uses: dict[object, int] = {}
+    def _under_way(self) -> list[int]:
+        """The threads that use the log."""
+        return [thread for use, thread in list(self._uses.items()) if use.locked()]
+
+    def refuse_reentered(self) -> None:
+        """Raises Reentered if this thread is inside a call of the log."""
+        if self._uses and threading.get_ident() in self._under_way():
+            raise Reentered
 
     def open(self, folder: bytes, take: Any) -> tuple[int, str]:
         """Opens the log in the folder: the status, and what was found or what is wrong."""
@@ -49,7 +56,7 @@ class LogFiles:
             status = self._library.argus_log_open(folder, take, None, ctypes.byref(log), words, len(words))
             return status, words.value.decode(errors="replace")
 
-        return _outside_the_main_thread(lambda: self._used(make))
+        return self._used_outside(make)
 
     def wait(self, until: int, give: Any) -> tuple[int, str]:
         """Returns when all entries before this one are on disk: the status, and why the log is broken."""
@@ -67,15 +74,17 @@ class LogFiles:
             why = None if status == LogStatus.DONE else self._broken(log)
             return status, why or ""
 
-        return _outside_the_main_thread(lambda: self._used(make))
+        return self._used_outside(make)
 
     @property
     def next_entry(self) -> int:
         """All entries before this one are in the log."""
+        self.refuse_reentered()
         return self._used(self._library.argus_log_next)
 
     def broken(self) -> str | None:
         """Why the log is broken; None if it isn't."""
+        self.refuse_reentered()
         return self._used(self._broken)
 
     def _broken(self, log: ctypes.c_void_p) -> str | None:
@@ -84,55 +93,58 @@ class LogFiles:
             return None
         return words.value.decode(errors="replace")
 
+    def _used_outside(self, call: Callable[[ctypes.c_void_p], _Outcome]) -> _Outcome:
+        """`_used` outside the main thread. This thread uses the log as long as it waits for the one that calls."""
+        self.refuse_reentered()
+        return self._used(lambda _: _outside_the_main_thread(lambda: self._used(call)))
+
     def _used(self, call: Callable[[ctypes.c_void_p], _Outcome]) -> _Outcome:
         """What the call of the log returns. The log isn't freed before."""
-        use = object()
+        use = threading.Lock()
         try:
-            with self._lock:
+            with use:
+                # In this order, since `close` says that it is closed, and then looks for uses.
+                self._uses[use] = threading.get_ident()
                 if not self._is_open:
                     raise Closed("the log is closed, or it is that of the process from which this one was forked")
-                self._uses[use] = threading.get_ident()
-            return call(self._log)
+                return call(self._log)
         finally:
             # If an interrupt comes in between, a thread that waits in `close` finds out by itself.
             self._uses.pop(use, None)
             self._free_closed()
 
     def close(self) -> None:
-        """Closes the log, when the calls of other threads have ended.
-
-        If the library calls what closes the log, the last call that is under way closes it at its end: others may
-        be waiting in the library for that of this thread.
-        """
-        this = threading.get_ident()
-        with self._lock:
-            self._is_open = False
-        while self._uses and this not in list(self._uses.values()):
+        """Closes the log, when the calls of other threads have ended."""
+        self.refuse_reentered()
+        self._is_open = False
+        while self._under_way():
             time.sleep(_LOOK_AFTER)
         self._free_closed()
 
     def _free_closed(self) -> None:
         """Frees the log if it is closed and nobody uses it any more."""
-        with self._lock:
-            if not (self._is_open or self._uses):
-                log, self._log = self._log, ctypes.c_void_p()
-                self._library.argus_log_close(log)
+        if not (self._is_open or self._under_way()):
+            self._library.argus_log_close(self._taken_log())
+
+    def _taken_log(self) -> ctypes.c_void_p | None:
+        """The log, for the first one who asks, in one step; then None."""
+        return vars(self).pop("_log", None)
 
     def __del__(self, warn: Callable[..., None] = warnings.warn) -> None:
         # No reference to it is left, so no thread uses the log.
-        log, self._log = getattr(self, "_log", None), ctypes.c_void_p()
+        log = self._taken_log()
         if log:
             self._library.argus_log_close(log)
             warn(f"unclosed log {self!r}", ResourceWarning, source=self)
 
     def _leave_behind(self) -> None:
-        """Closes it in a forked process. Its memory, its files and its lock are the parent's."""
+        """Closes it in a forked process. Its memory and its files are the parent's."""
         self._is_open = False
-        log, self._log = self._log, ctypes.c_void_p()
-        if not self._uses:
+        log = self._taken_log()
+        if not self._under_way():
             # No thread was in a call of it, so the copy may be closed: the folder stays the parent's.
             self._library.argus_log_close(log)
-        self._make_lock()
+        self._uses = {}
         _UNDER_WAY.clear()
 
 

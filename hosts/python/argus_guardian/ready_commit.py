@@ -29,8 +29,9 @@ class _GivingBack:
 class ReadyCommit:
     """A prepared commit, so that it is in a log before anybody can see what it leaves.
 
-    `Action.ready_commit` makes one for a `with` block, in which the guardian's mutex is held. `line` is the line
-    that the commit will have in the journal's listing, with its line feed.
+    `Action.ready_commit` makes one for a `with` block, in which the guardian's mutex is held. So any other call of
+    this thread raises Reentered there, and the commit stays ready. `line` is the line that the commit will have in
+    the journal's listing, with its line feed.
     """
 
     def __init__(self, action: Action) -> None:
@@ -39,30 +40,33 @@ class ReadyCommit:
         self._lock: Any = action.guardian._lock
 
     def __enter__(self) -> ReadyCommit:
-        lock, archive = self._lock, self._action.guardian._archive
+        guardian = self._action.guardian
+        if guardian._busy:
+            guardian._refuse_reentered()
         try:
-            lock.acquire()
+            self._lock.acquire()
+            guardian._busy = True
             self._prepare()
             return self
         except BaseException:
             # An interrupt may have come before it was had.
-            if lock._is_owned():
-                archive.cancel_ready()
-                lock.release()
+            if guardian._has_lock():
+                guardian._archive.cancel_ready()
+                self._lock.release()
             raise
 
     __exit__ = _GivingBack()
 
     def _prepare(self) -> None:
         action, guardian = self._action, self._action.guardian
-        if guardian._owners.dropped:
+        if guardian._dropped:
             guardian._abort_dropped()
         if action._renewals not in (None, guardian._renewals):
             raise errors.Over(f"{action}: {errors.Over.why}")
         # The next call opens the guardian again, however the block ends.
         guardian._owners.dropped.append(None)
         guardian._readying = id(self)
-        status = guardian._archive.ready_commit(action.number)
+        status = guardian._archive.ready_commit(action._number)
         if status != Status.DONE:
             raise error_of(status)
         self.line = guardian._archive.ready_line()
@@ -73,12 +77,11 @@ class ReadyCommit:
         A second call raises Closed, and so does one after the block.
         """
         action, guardian = self._action, self._action.guardian
-        lock: Any = guardian._lock
-        if guardian._readying != id(self) or not lock._is_owned():
+        if guardian._readying != id(self) or not guardian._has_lock():
             raise errors.Closed("the commit isn't ready any more")
         guardian._readying = None
         answer = guardian._archive.make_ready()
-        guardian._note_end(Kind.COMMIT, action.number, answer)
+        guardian._note_end(Kind.COMMIT, action._number, answer)
         if answer[0] != Status.DONE:
-            raise error_of_call(*answer, (Kind.COMMIT, action.number))
+            raise error_of_call(*answer, (Kind.COMMIT, action._number))
         action._is_ended = True

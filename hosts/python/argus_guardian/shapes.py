@@ -27,7 +27,8 @@ class Shape(NamedTuple):
 
 def _record(names: tuple[str, ...], content: tuple[Any, ...]) -> Any:
     """A named tuple, of a class of its own. To pickle and to copy it, its names are enough."""
-    kind: Any = namedtuple("Record", names, rename=True)  # type: ignore[misc]
+    make: Any = namedtuple
+    kind = make("Record", names, rename=True)
     kind.__reduce__ = lambda record: (_record, (names, tuple(record)))
     return kind(*content)
 

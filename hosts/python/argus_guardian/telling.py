@@ -2,10 +2,14 @@
 
 from __future__ import annotations
 
-from typing import Any, TypeAlias
+from typing import TYPE_CHECKING, Any
 
 from . import errors
 from .library import Kind, Question, Status
+
+if TYPE_CHECKING:
+    # Python 3.9 has none.
+    from typing import TypeAlias
 
 # A kind, and after it, in this order, as many as are needed of an action, an object, two numbers and a text.
 Call: TypeAlias = "tuple[Any, ...]"

@@ -14,10 +14,15 @@ from __future__ import annotations
 import re
 from collections.abc import Callable, Iterable
 from dataclasses import dataclass
-from typing import Any, NamedTuple, TypeAlias, TypeVar
+from typing import TYPE_CHECKING, Any, NamedTuple, TypeVar
 
 from .errors import BadText
-from .ranges import BYTE, LEAST, MOST, U32, i64, u32, within
+from .ids import Ids, number_of
+from .ranges import BYTE, LEAST, MOST, U32, i64, within
+
+if TYPE_CHECKING:
+    # Python 3.9 has none.
+    from typing import TypeAlias
 
 MAX_DEPTH = 16
 
@@ -69,15 +74,18 @@ class Array(NamedTuple):
         return not _is_same(self, other)
 
 
-def object_number(obj: Object) -> int:
-    """The number of an object, which may be given as a Ref. TypeError or OverflowError if it isn't one."""
-    return u32(obj.number if isinstance(obj, Ref) else obj, "object")
+def object_number(obj: Object, ids: Ids | None = None) -> int:
+    """The number of an object, which may be given as a Ref. Raises what `number_of` does."""
+    if ids is not None and type(obj) is ids.objects:
+        return obj  # type: ignore[return-value]
+    return number_of(obj.number if isinstance(obj, Ref) else obj, ids, "object")
 
 
-def write_value(value: Value) -> str:
+def write_value(value: Value, ids: Ids | None = None) -> str:
     """The written form of a value. TypeError if no value has its type.
 
-    OverflowError if an integer has more than 64 bits, or if the number of a tag or an object is out of range.
+    OverflowError if an integer has more than 64 bits, or if the number of a tag or an object is out of range. With
+    a guardian's ids: OtherGuardian if a reference is to an object that is known to be another one's.
     """
     if value is None:
         return "null"
@@ -88,34 +96,34 @@ def write_value(value: Value) -> str:
     if isinstance(value, str):
         return '"' + value.replace("\\", "\\\\").replace('"', '\\"').replace("\n", "\\n") + '"'
     if isinstance(value, Ref):
-        return f"@{u32(value.number, 'object')}"
+        return f"@{object_number(value, ids)}"
     if isinstance(value, Choice):
-        return f"<{within(value.tag, 0, BYTE, 'tag')}:{write_value(value.value)}>"
+        return f"<{within(value.tag, 0, BYTE, 'tag')}:{write_value(value.value, ids)}>"
     if isinstance(value, list):
-        return "[" + _joined(value) + "]"
+        return "[" + _joined(value, ids) + "]"
     if isinstance(value, tuple) and not isinstance(value, Array):
-        return "{" + _joined(value) + "}"
+        return "{" + _joined(value, ids) + "}"
     raise TypeError(f"no value: {value!r}")
 
 
-def written(value: Value) -> bytes:
-    """The written form of a value, in UTF-8. Integers are the most frequent."""
+def written(value: Value, ids: Ids) -> bytes:
+    """The written form of a value for a guardian, in UTF-8. Integers are the most frequent."""
     if type(value) is int and LEAST <= value <= MOST:
         return b"%d" % value
-    return write_value(value).encode()
+    return write_value(value, ids).encode()
 
 
-def write_content(content: Content) -> str:
-    """The written form of a content. TypeError and OverflowError as in `write_value`."""
+def write_content(content: Content, ids: Ids | None = None) -> str:
+    """The written form of a content. Raises what `write_value` does."""
     if isinstance(content, Array):
-        return f"{i64(content.low, 'low bound')}[{_joined(content.items)}]"
+        return f"{i64(content.low, 'low bound')}[{_joined(content.items, ids)}]"
     if isinstance(content, tuple):
-        return write_value(content)
+        return write_value(content, ids)
     raise TypeError(f"no content: {content!r}")
 
 
-def _joined(values: Iterable[Value]) -> str:
-    return ",".join(map(write_value, values))
+def _joined(values: Iterable[Value], ids: Ids | None) -> str:
+    return ",".join([write_value(value, ids) for value in values])
 
 
 def read_value(text: str) -> Any:

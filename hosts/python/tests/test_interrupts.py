@@ -74,6 +74,21 @@ class Interrupts(unittest.TestCase):
             self.assertFalse(self.guardian._lock._is_owned())
             self.guardian.checkpoint()
 
+    def test_none_leaves_its_thread_inside_a_wait(self):
+        holder = self.guardian.topaction()
+        holder.lock(self.record)
+        for _ in range(100):
+            with self.assertRaises(KeyboardInterrupt), self.guardian.topaction() as top:
+                signal.setitimer(signal.ITIMER_REAL, self.draws.uniform(20e-6, 1e-3))
+                while True:
+                    try:
+                        top.field(self.record, 0)
+                    except argus.Conflict:
+                        pass
+            # Reentered, where it were inside.
+            self.assertEqual(self.guardian.live(), holder.number)
+            self.assertEqual((self.guardian._waiting, self.guardian._awaited), ({}, False))
+
     def test_where_the_begin_alone_is_interrupted(self):
         for begin in self.guardian.topaction, self.guardian.topaction().subaction:
             archive, call = self.guardian._archive, self.guardian._archive.call
@@ -163,7 +178,7 @@ class Waits(unittest.TestCase):
         with mock.patch.object(guardian._ended, "wait", interrupted), self.assertRaises(KeyboardInterrupt):
             with guardian.topaction() as top:
                 top.lock(record)
-        self.assertEqual((guardian.live(), guardian._waiting), (holder.number, 0))
+        self.assertEqual((guardian.live(), guardian._waiting), (holder.number, {}))
         self.assertIsNone(guardian.live(holder.number + 1))
         self.assertFalse(guardian._lock._is_owned())
 

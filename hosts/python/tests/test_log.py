@@ -22,7 +22,7 @@ from unittest import mock
 
 sys.path.insert(0, str(Path(__file__).resolve().parents[1]))
 
-from argus_guardian import Action, Busy, Closed, Full, NoAction, OutOfMemory  # noqa: E402
+from argus_guardian import Action, Busy, Closed, Full, NoAction, OutOfMemory, Reentered  # noqa: E402
 from argus_guardian.archive import Archive  # noqa: E402
 from argus_guardian.library import Question, Status  # noqa: E402
 from argus_guardian.log import InDoubt, Log, LogBroken, LogDamaged, LogError, LogLocked  # noqa: E402
@@ -205,18 +205,19 @@ class LogTest(unittest.TestCase):
             self.assertEqual(number_in(log, 3), 1)
 
     def test_a_close_within_a_call(self) -> None:
-        log = open_bank(self.folder)
-        lines = log.guardian.lines
-
-        def lines_of_closed(entry: int, size: int) -> list[str]:
-            log.close()
-            return lines(entry, size)
-
-        with mock.patch.object(log.guardian, "lines", lines_of_closed), self.assertRaises(InDoubt) as caught:
-            carry_out(log, 0, 1)
-        self.assertIsInstance(caught.exception.__cause__, Closed)
         with open_bank(self.folder) as log:
-            self.assertEqual(number_in(log, 3), 0)
+            lines = log.guardian.lines
+
+            def lines_once_refused(entry: int, size: int) -> list[str]:
+                for call in log.close, log.barrier, log.checkpoint, log.broken:
+                    with self.assertRaises(Reentered):
+                        call()
+                return lines(entry, size)
+
+            with mock.patch.object(log.guardian, "lines", lines_once_refused):
+                carry_out(log, 0, 1)
+        with open_bank(self.folder) as log:
+            self.assertEqual(number_in(log, 3), 1)
 
     def test_a_close_after_the_commit(self) -> None:
         log = open_bank(self.folder)
@@ -304,7 +305,7 @@ class LogTest(unittest.TestCase):
             with mock.patch.object(log, "_fold", fold), self.assertRaises(KeyboardInterrupt):
                 log.checkpoint()
             thread.join()
-            self.assertEqual(log.guardian._folds, set())
+            self.assertEqual(log.guardian._folds, {})
             carry_out(log, 0, 1)
 
     def test_a_journal_that_is_folded_and_cant_be_listed(self) -> None:

@@ -7,7 +7,7 @@ import threading
 import types
 import unittest
 
-from argus_guardian import Action, Busy, Closed, Guardian, Kind, Listed, NoAction, Over, Suspended
+from argus_guardian import Action, Busy, Closed, Guardian, Kind, Listed, NoAction, Over, Reentered, Suspended
 
 
 class ReadyCommits(unittest.TestCase):
@@ -141,12 +141,22 @@ class ReadyCommits(unittest.TestCase):
         gc.collect()
         self.assertIsNone(self.guardian.live())
 
-    def test_another_call_in_the_block_cancels_it(self):
+    def test_another_call_in_the_block_is_refused(self):
         with self.top.ready_commit() as ready:
-            self.assertEqual(self.guardian.entries, 3)
-            with self.assertRaises(Closed):
-                ready.make()
-        self.top.commit()
+            for call in (
+                lambda: self.guardian.entries,
+                self.guardian.topaction,
+                self.top.subaction,
+                self.top.commit,
+                self.top.abort,
+                self.guardian.close,
+                self.top.ready_commit().__enter__,
+                lambda: self.top.field(self.record, 0),
+            ):
+                with self.subTest(call=call), self.assertRaises(Reentered):
+                    call()
+            ready.make()
+        self.assertEqual((self.guardian.entries, self.guardian.base(self.record)), (4, (5,)))
 
     def test_an_interrupt_before_the_block_leaves_the_guardian_open(self):
         archive = self.guardian._archive

@@ -51,8 +51,8 @@ impl Transfer {
         let from = draws.below(ACCOUNTS);
         let to = (from + 1 + draws.below(ACCOUNTS - 1)) % ACCOUNTS;
         Transfer {
-            from: ObjId(from),
-            to: ObjId(to),
+            from: ObjId::numbered(from),
+            to: ObjId::numbered(to),
             amount: 1 + i64::from(draws.below(10)),
         }
     }
@@ -178,7 +178,7 @@ fn audit(bank: &Shared) -> Result<u32, Error> {
         let top = bank.topaction()?;
         let mut sum = 0;
         for account in 0..ACCOUNTS {
-            sum += balance(&top, ObjId(account))?;
+            sum += balance(&top, ObjId::numbered(account))?;
         }
         top.commit()?;
         right += u32::from(sum == ALL);
@@ -202,7 +202,7 @@ fn open_bank() -> Result<Guardian, Error> {
 fn print_balances(guardian: &mut Guardian) -> Result<(), Error> {
     let (mut sum, mut weighed) = (0, 0);
     for account in 0..ACCOUNTS {
-        let base = guardian.base(ObjId(account))?;
+        let base = guardian.base(ObjId::numbered(account))?;
         let Some(Content::Record(fields)) = base else {
             return Err(Error::OtherAnswer);
         };

@@ -14,11 +14,11 @@ use std::io::{self, BufRead};
 use std::str::FromStr;
 
 const CLIENTS: u32 = 8;
-const BALANCE: ObjId = ObjId(0);
+const BALANCE: ObjId = ObjId::numbered(0);
 
 // The record of a client's last number.
 fn last_of(client: u32) -> ObjId {
-    ObjId(1 + client)
+    ObjId::numbered(1 + client)
 }
 
 /// What became of an order.
@@ -92,7 +92,7 @@ fn open(folder: &str) -> Result<Logged, Box<dyn Error>> {
         bank.run(|top| {
             (0..=CLIENTS).try_for_each(|record| {
                 let zero = Change::Create("{0}".parse()?);
-                Ok::<_, LoggedError>(top.alter(ObjId(record), zero)?.done()?)
+                Ok::<_, LoggedError>(top.alter(ObjId::numbered(record), zero)?.done()?)
             })
         })?;
     }

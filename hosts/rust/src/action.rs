@@ -42,7 +42,7 @@ impl<'g> Action<'g> {
     ///
     /// ```
     /// use argus_guardian::{ActionId, Guardian};
-    /// assert_eq!(Guardian::new()?.topaction()?.id(), ActionId(0));
+    /// assert_eq!(Guardian::new()?.topaction()?.id(), ActionId::numbered(0));
     /// # Ok::<(), argus_guardian::Error>(())
     /// ```
     #[must_use]
@@ -50,15 +50,43 @@ impl<'g> Action<'g> {
         self.id
     }
 
-    /// Its guardian.
+    /// Its guardian, for calls and questions.
     ///
     /// ```
-    /// let mut guardian = argus_guardian::Guardian::new()?;
-    /// let mut top = guardian.topaction()?;
-    /// assert_eq!(top.guardian().actions(), 1);
+    /// use argus_guardian::Guardian;
+    /// let mut guardian = Guardian::new()?;
+    /// let other = Guardian::new()?;
+    /// let top = guardian.topaction()?;
+    /// let lent = top.guardian();
+    /// assert_eq!((lent.actions(), other.actions()), (1, 0));
     /// # Ok::<(), argus_guardian::Error>(())
     /// ```
-    pub fn guardian(&mut self) -> &mut Guardian {
+    ///
+    /// Another guardian can't take its place:
+    ///
+    /// ```compile_fail,E0308
+    /// use argus_guardian::Guardian;
+    /// let mut guardian = Guardian::new()?;
+    /// let mut other = Guardian::new()?;
+    /// let mut top = guardian.topaction()?;
+    /// let lent = top.guardian();
+    /// std::mem::swap(lent, &mut other);
+    /// # Ok::<(), argus_guardian::Error>(())
+    /// ```
+    ///
+    /// and while the action is there, nothing can take the place of the variable's guardian:
+    ///
+    /// ```compile_fail,E0499
+    /// use argus_guardian::Guardian;
+    /// let mut guardian = Guardian::new()?;
+    /// let mut other = Guardian::new()?;
+    /// let top = guardian.topaction()?;
+    /// std::mem::swap(&mut guardian, &mut other);
+    /// top.commit()?;
+    /// # Ok::<(), argus_guardian::Error>(())
+    /// ```
+    #[must_use]
+    pub fn guardian(&self) -> &Guardian {
         self.guardian
     }
 
@@ -66,8 +94,8 @@ impl<'g> Action<'g> {
     ///
     /// # Errors
     ///
-    /// [`Error::Refused`] with `NoObject`, `IllTyped` or `Conflict`; [`Error::OutOfMemory`];
-    /// [`Error::NoRoom`].
+    /// [`Error::Refused`] with `NoObject`, `IllTyped` or `Conflict`; [`Error::OtherGuardian`] if the id
+    /// is another guardian's; [`Error::OutOfMemory`]; [`Error::NoRoom`].
     ///
     /// ```
     /// use argus_guardian::{Answer, Guardian, Query, Signal};
@@ -86,7 +114,8 @@ impl<'g> Action<'g> {
     ///
     /// # Errors
     ///
-    /// As for [`ask`](Self::ask); [`Error::BadText`] if a value is deeper than 16.
+    /// As for [`ask`](Self::ask), also if a value refers to another guardian's object;
+    /// [`Error::BadText`] if a value is deeper than 16.
     ///
     /// ```
     /// use argus_guardian::{Answer, Change, Guardian};
@@ -208,7 +237,7 @@ impl<'g> Action<'g> {
     ///
     /// # Errors
     ///
-    /// [`Error::Refused`] with `NoObject`; [`Error::OutOfMemory`].
+    /// [`Error::Refused`] with `NoObject`; [`Error::OtherGuardian`]; [`Error::OutOfMemory`].
     ///
     /// ```
     /// let mut guardian = argus_guardian::Guardian::new()?;
@@ -225,7 +254,7 @@ impl<'g> Action<'g> {
     ///
     /// # Errors
     ///
-    /// [`Error::Refused`] with `NoObject`; [`Error::OutOfMemory`].
+    /// [`Error::Refused`] with `NoObject`; [`Error::OtherGuardian`]; [`Error::OutOfMemory`].
     ///
     /// ```
     /// let mut guardian = argus_guardian::Guardian::new()?;

@@ -1,6 +1,8 @@
 //! `Call`: one call of a guardian.
 
 use crate::change::Change;
+use crate::error::Error;
+use crate::owner::Owner;
 use crate::query::Query;
 use crate::{ActionId, ObjId};
 use std::fmt;
@@ -11,7 +13,7 @@ use std::fmt;
 ///
 /// ```
 /// use argus_guardian::{ActionId, Call, ObjId, Query};
-/// let call = Call::Ask(ActionId(1), ObjId(0), Query::Field(0));
+/// let call = Call::Ask(ActionId::numbered(1), ObjId::numbered(0), Query::Field(0));
 /// assert_eq!(call.to_string(), "ask a1 o0 field 0");
 /// assert_eq!("ask a1 o0 field 0".parse(), Ok(call));
 /// ```
@@ -41,6 +43,31 @@ pub enum Call {
     TestRead(ActionId, ObjId),
     /// Takes a write lock if it is free: `Answer::Flag`.
     TestWrite(ActionId, ObjId),
+}
+
+impl Call {
+    // Why this guardian doesn't take its ids: `Over` for an action from before a renewal, or that one of them is another
+    // guardian's.
+    #[cold]
+    pub(crate) fn refused_by(&self, guardian: Owner) -> Error {
+        let refused = self.action().and_then(|it| it.number_for(guardian).err());
+        refused.unwrap_or(Error::OtherGuardian)
+    }
+
+    fn action(&self) -> Option<ActionId> {
+        match *self {
+            Call::Declare(_) | Call::BeginTop => None,
+            Call::BeginSub(action)
+            | Call::BeginNested(action)
+            | Call::Commit(action)
+            | Call::Abort(action)
+            | Call::AbortOthers(action)
+            | Call::Ask(action, ..)
+            | Call::Alter(action, ..)
+            | Call::TestRead(action, _)
+            | Call::TestWrite(action, _) => Some(action),
+        }
+    }
 }
 
 impl fmt::Display for Call {

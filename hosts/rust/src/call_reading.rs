@@ -19,7 +19,7 @@ impl Call {
     ///
     /// ```
     /// use argus_guardian::{ActionId, Call};
-    /// assert_eq!(Call::of_line("7 commit a3 -> done")?, (7, Call::Commit(ActionId(3))));
+    /// assert_eq!(Call::of_line("7 commit a3 -> done")?, (7, Call::Commit(ActionId::numbered(3))));
     /// assert!(Call::of_line("7 commit a3").is_err());
     /// # Ok::<(), argus_guardian::Error>(())
     /// ```
@@ -133,8 +133,8 @@ impl Reader<'_> {
 mod tests {
     use crate::{ActionId, Call, Change, ObjId, Query};
 
-    const A: ActionId = ActionId(1);
-    const O: ObjId = ObjId(2);
+    const A: ActionId = ActionId::numbered(1);
+    const O: ObjId = ObjId::numbered(2);
 
     // The words of each call stand in the docs of the library's header and in Moss's terms; here each call is
     // written and read back.

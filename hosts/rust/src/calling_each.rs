@@ -7,6 +7,8 @@ use crate::error::Error;
 use crate::guardian::Guardian;
 use crate::list_end::ListEnd;
 use crate::listed_call::ListedCall;
+use crate::owner::Owner;
+use crate::reader::Reader;
 use crate::reply::Reply;
 use crate::sys::{self, status};
 use crate::words::Words;
@@ -40,19 +42,20 @@ impl Guardian {
     /// assert_eq!(made.replies[1].to_string(), "val 5");
     /// # Ok::<(), argus_guardian::Error>(())
     /// ```
-    pub fn call_each(&mut self, calls: &[ListedCall]) -> Result<CallsMade, Error> {
-        let words: Vec<Words> = calls.iter().map(ListedCall::words).collect();
-        let listed = calls
-            .iter()
-            .zip(&words)
-            .map(|(each, words)| each.with(words));
+    pub fn call_each(&self, calls: &[ListedCall]) -> Result<CallsMade, Error> {
+        let owner = self.owner.get();
+        let words: Vec<Words> = calls.iter().map(|it| it.words(owner)).collect();
+        // The list ends before a call with an id that the guardian doesn't take.
+        let refused = words.iter().position(|it| !it.is_own);
+        let own = &calls[..refused.unwrap_or(calls.len())];
+        let listed = own.iter().zip(&words).map(|(each, words)| each.with(words));
         let mut listed: Vec<sys::ListedCall> = listed.collect();
         let mut count = 0;
         // SAFETY: no other guardian has the handle; handle, calls and count don't overlap, no
         // pointer is null, and each text is UTF-8 of words that live until the end of the call.
         let status = unsafe {
             sys::argus_c_call_each(
-                &raw mut self.handle,
+                self.handle(),
                 listed.as_mut_ptr(),
                 listed.len(),
                 &raw mut count,
@@ -60,7 +63,9 @@ impl Guardian {
         };
         let (made, rest) = listed.split_at(count.min(listed.len()));
         let end = match status {
-            status::DONE => ListEnd::Whole,
+            status::DONE => refused.map_or(ListEnd::Whole, |place| {
+                ListEnd::Failed(calls[place].refused_by(owner))
+            }),
             status::UNMET => ListEnd::Unmet,
             status => ListEnd::Failed(error_of(status, rest.first().map_or(0, |it| it.number))),
         };
@@ -69,26 +74,28 @@ impl Guardian {
     }
 
     // The replies of these calls, whose texts the library keeps, a line each.
-    fn replies_of(&mut self, made: &[sys::ListedCall]) -> Result<Vec<Reply>, Error> {
+    fn replies_of(&self, made: &[sys::ListedCall]) -> Result<Vec<Reply>, Error> {
         if made.is_empty() {
             return Ok(Vec::new());
         }
-        self.kept = status::DONE;
-        let lines = self.text()?.to_owned();
-        let mut lines = lines.split('\n');
-        let replies = made.iter().map(|call| {
-            let answer = || answer_of(call.status, lines.next().unwrap_or(""));
-            reply_of(call.kind, call.status, call.number, answer)
-        });
-        replies.collect()
+        self.kept.set(status::DONE);
+        let owner = self.owner.get();
+        self.read_text(|lines| {
+            let mut lines = lines.split('\n');
+            let replies = made.iter().map(|call| {
+                let answer = || answer_of(owner, call.status, lines.next().unwrap_or(""));
+                reply_of(owner, call.kind, call.status, call.number, answer)
+            });
+            replies.collect()
+        })
     }
 }
 
-// The value or the content that a line has.
-fn answer_of(status: u32, line: &str) -> Result<Answer, Error> {
+// The value or the content that a line has, of this guardian.
+fn answer_of(owner: Owner, status: u32, line: &str) -> Result<Answer, Error> {
     if status == status::CONTENT {
-        read_as(status, line).map(Answer::Body)
+        read_as(status, owner, line, Reader::content).map(Answer::Body)
     } else {
-        read_as(status, line).map(Answer::Val)
+        read_as(status, owner, line, Reader::value).map(Answer::Val)
     }
 }

@@ -8,10 +8,10 @@ use crate::reply::Reply;
 ///
 /// ```
 /// use argus_guardian::{ActionId, Answer, Call, Guardian, ListEnd, ListedCall, Reply};
-/// let mut guardian = Guardian::new()?;
+/// let guardian = Guardian::new()?;
 /// let list = [ListedCall::from(Call::BeginTop), ListedCall::by(0, Call::Commit)];
 /// let made = guardian.call_each(&list)?;
-/// assert_eq!(made.replies, [Reply::Begun(ActionId(0)), Reply::Answered(Answer::Done)]);
+/// assert_eq!(made.replies, [Reply::Begun(ActionId::numbered(0)), Reply::Answered(Answer::Done)]);
 /// assert_eq!(made.end, ListEnd::Whole);
 /// # Ok::<(), argus_guardian::Error>(())
 /// ```

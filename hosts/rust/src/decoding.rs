@@ -2,17 +2,23 @@
 
 use crate::answer::Answer;
 use crate::error::Error;
+use crate::owner::Owner;
+use crate::reader::Reader;
 use crate::refusal::Refusal;
 use crate::reply::Reply;
 use crate::signal::Signal;
 use crate::sys::{kind, status};
 use crate::value::Value;
 use crate::{ActionId, ObjId};
-use std::str::FromStr;
 
-/// What the library has written with this status.
-pub(crate) fn read_as<T: FromStr>(status: u32, text: &str) -> Result<T, Error> {
-    text.parse().map_err(|_| Error::Unknown(status))
+/// What the library has written with this status, for this guardian.
+pub(crate) fn read_as<'t, T>(
+    status: u32,
+    owner: Owner,
+    text: &'t str,
+    read: impl FnOnce(&mut Reader<'t>) -> Option<T>,
+) -> Result<T, Error> {
+    Reader::whole_of(owner, text, read).map_err(|_| Error::Unknown(status))
 }
 
 /// A number that the library has for an object or an action.
@@ -27,9 +33,10 @@ pub(crate) fn one_of<T: Copy>(all: &[T], status: u32, number: i64) -> Result<T, 
     one.copied().ok_or(Error::Unknown(status))
 }
 
-/// The reply to a call of this kind, from its status and its number; if the number doesn't say the
-/// value or content, it is asked for.
+/// This guardian's reply to a call of this kind, from its status and its number; if the number
+/// doesn't say the value or content, it is asked for.
 pub(crate) fn reply_of(
+    owner: Owner,
     kind: u32,
     status: u32,
     number: i64,
@@ -37,8 +44,14 @@ pub(crate) fn reply_of(
 ) -> Result<Reply, Error> {
     let answer = match status {
         status::DONE => Answer::Done,
-        status::OBJECT => return number_of(status, number).map(|o| Reply::Object(ObjId(o))),
-        status::ACTION => return number_of(status, number).map(|a| Reply::Begun(ActionId(a))),
+        status::OBJECT => {
+            let number = number_of(status, number)?;
+            return Ok(Reply::Object(ObjId::of(owner, number)));
+        }
+        status::ACTION => {
+            let number = number_of(status, number)?;
+            return Ok(Reply::Begun(ActionId::of(owner, number)));
+        }
         status::NUMBER if gives_value(kind) => Answer::Val(Value::Int(number)),
         status::NUMBER => Answer::Num(number),
         status::FLAG if gives_value(kind) => Answer::Val(Value::Bool(number != 0)),

@@ -43,7 +43,10 @@ pub enum Error {
     /// The call was made and is in the journal, but there was no memory for its answer.
     /// `Guardian::answer_again` asks for the answer again.
     NoRoom,
-    /// The guardian has refused the call; the journal has the refusal.
+    /// The id, or a reference in a value, is another guardian's. Nothing was journalled.
+    OtherGuardian,
+    /// The guardian has refused the call. The journal has the refusal, unless it is `Over` of an
+    /// action from before a [renewal](crate::Guardian::renew).
     Refused(Refusal),
     /// The operation returned a signal; the action keeps the lock that it got.
     Signal(Signal),
@@ -83,6 +86,7 @@ impl fmt::Display for Error {
             Error::NoName(name) => write!(f, "no field or tag is named {name}"),
             Error::NotBegun => f.write_str("no earlier call of the list began this action"),
             Error::NoRoom => f.write_str("called, but no memory for the answer"),
+            Error::OtherGuardian => f.write_str("an id of another guardian"),
             Error::Refused(refusal) => write!(f, "refused: {refusal}"),
             Error::Signal(signal) => write!(f, "signal: {signal}"),
             Error::Checkpoint(error) => write!(f, "no checkpoint: {error}"),

@@ -7,13 +7,24 @@ use crate::call::Call;
 use crate::checkpoint_error::CheckpointError;
 use crate::decoding::{self, error_of, read_as};
 use crate::error::Error;
+use crate::owner::Owner;
+use crate::reader::Reader;
 use crate::reply::Reply;
 use crate::sys::{self, Handle, status};
 use crate::words::Words;
+use std::cell::{Cell, UnsafeCell};
 use std::fmt;
 
 /// Atomic objects and the actions that use them, for one caller at a time; threads share a guardian by a
 /// [`Shared`](crate::Shared), or by a mutex of their own.
+///
+/// Calls and questions take `&self`, and a guardian isn't `Sync`, so they come one after another. What
+/// an action or a [`Shared`](crate::Shared) lends is a `&Guardian`: nothing can be put in its place.
+///
+/// ```compile_fail,E0277
+/// fn shared<T: Sync>() {}
+/// shared::<argus_guardian::Guardian>();
+/// ```
 ///
 /// Its journal keeps each call with its reply, and so grows until a
 /// [`checkpoint`](Self::checkpoint). A guardian begins at most [`MAX_ACTIONS`](Self::MAX_ACTIONS)
@@ -21,23 +32,23 @@ use std::fmt;
 ///
 /// ```
 /// use argus_guardian::{Call, Guardian, Reply, ObjId};
-/// let mut guardian = Guardian::new()?;
+/// let guardian = Guardian::new()?;
 /// let reply = guardian.call(&Call::Declare("atomic_array[int]".into()))?;
-/// assert_eq!(reply, Reply::Object(ObjId(0)));
+/// assert_eq!(reply, Reply::Object(ObjId::numbered(0)));
 /// # Ok::<(), argus_guardian::Error>(())
 /// ```
 pub struct Guardian {
-    pub(crate) handle: Handle,
-    // Where replies are copied to.
-    room: Vec<u8>,
+    handle: UnsafeCell<Handle>,
+    // Where texts of the library are copied to; empty while one of them is read.
+    room: Cell<Vec<u8>>,
     // The outcome of the last call: of which kind the text is that the library keeps.
-    pub(crate) kept: u32,
-    // How often the numbers of actions began at 0 again.
-    pub(crate) renewals: u64,
+    pub(crate) kept: Cell<u32>,
+    // Whose the ids are that it returns.
+    pub(crate) owner: Cell<Owner>,
 }
 
-// SAFETY: it is proved that the archive's handle may go to another thread, and all calls that use
-// it take `&mut self`.
+// SAFETY: it is proved that the archive's handle may go to another thread. It isn't `Sync`, so no two
+// threads use it at once.
 unsafe impl Send for Guardian {}
 
 impl Guardian {
@@ -70,16 +81,30 @@ impl Guardian {
     ///
     /// ```
     /// use argus_guardian::Guardian;
-    /// let mut first = Guardian::new()?;
-    /// let mut second = first.beside()?;
+    /// let first = Guardian::new()?;
+    /// let second = first.beside()?;
     /// first.declare("atomic_array[int]")?;
     /// assert_eq!(second.objects(), 0);
     /// # Ok::<(), argus_guardian::Error>(())
     /// ```
-    pub fn beside(&mut self) -> Result<Guardian, Error> {
-        let beside = &raw mut self.handle;
-        // SAFETY: both handles are borrowed for the call, and they are different ones.
-        Guardian::opened(|handle| unsafe { sys::argus_c_open(handle, beside) })
+    pub fn beside(&self) -> Result<Guardian, Error> {
+        // SAFETY: no other guardian has this handle; both are there for the call, and they are
+        // different ones.
+        Guardian::opened(|handle| unsafe { sys::argus_c_open(handle, self.handle()) })
+    }
+
+    // A new guardian in place of this one: it takes the ids of this one's objects, and says of an
+    // action from before that it is over.
+    pub(crate) fn successor(&self) -> Result<Guardian, Error> {
+        let successor = Guardian::new()?;
+        successor.owner.set(self.owner.get().renewed());
+        Ok(successor)
+    }
+
+    // The handle, for one call of the library: that calls back nothing, so nothing else uses the
+    // handle meanwhile.
+    pub(crate) fn handle(&self) -> *mut Handle {
+        self.handle.get()
     }
 
     // Opens a handle by this call, which returns a status.
@@ -92,10 +117,10 @@ impl Guardian {
         }
         match open(&mut handle) {
             status::DONE => Ok(Guardian {
-                handle,
-                room: Vec::new(),
-                kept: status::DONE,
-                renewals: 0,
+                handle: UnsafeCell::new(handle),
+                room: Cell::default(),
+                kept: Cell::new(status::DONE),
+                owner: Cell::new(Owner::new()),
             }),
             status::NO_MEMORY => Err(Error::OutOfMemory),
             other => Err(Error::Unknown(other)),
@@ -107,24 +132,30 @@ impl Guardian {
     /// # Errors
     ///
     /// [`Error::OutOfMemory`], [`Error::BadText`] (a value deeper than 16) and [`Error::BadShape`]:
-    /// then no call was made and nothing has changed. [`Error::NoRoom`]: the call was made.
+    /// then no call was made and nothing has changed; nor with [`Error::OtherGuardian`], for an id of
+    /// another guardian, nor with [`Error::Refused`] and `Over`, for an action from before a
+    /// [renewal](Self::renew). [`Error::NoRoom`]: the call was made.
     ///
     /// ```
     /// use argus_guardian::{ActionId, Call, Guardian, Refusal, Reply};
-    /// let mut guardian = Guardian::new()?;
-    /// assert_eq!(guardian.call(&Call::BeginTop)?, Reply::Begun(ActionId(0)));
-    /// let reply = guardian.call(&Call::Commit(ActionId(7)))?;
+    /// let guardian = Guardian::new()?;
+    /// assert_eq!(guardian.call(&Call::BeginTop)?, Reply::Begun(ActionId::numbered(0)));
+    /// let reply = guardian.call(&Call::Commit(ActionId::numbered(7)))?;
     /// assert_eq!(reply, Reply::Refused(Refusal::NoAction));
     /// # Ok::<(), argus_guardian::Error>(())
     /// ```
-    pub fn call(&mut self, call: &Call) -> Result<Reply, Error> {
-        let words = Words::of(call);
+    pub fn call(&self, call: &Call) -> Result<Reply, Error> {
+        let owner = self.owner.get();
+        let words = Words::of(call, owner);
+        if !words.is_own {
+            return Err(call.refused_by(owner));
+        }
         let mut number = 0;
         // SAFETY: no other guardian has the handle, the text is UTF-8 and never null, and the
         // number is other memory.
         let status = unsafe {
             sys::argus_c_call(
-                &raw mut self.handle,
+                self.handle(),
                 words.kind,
                 words.action,
                 words.object,
@@ -138,11 +169,12 @@ impl Guardian {
         self.reply_of(words.kind, status, number)
     }
 
-    fn reply_of(&mut self, kind: u32, status: u32, number: i64) -> Result<Reply, Error> {
+    fn reply_of(&self, kind: u32, status: u32, number: i64) -> Result<Reply, Error> {
         if status <= status::REFUSED {
-            self.kept = status;
+            self.kept.set(status);
         }
-        decoding::reply_of(kind, status, number, || self.answer_again())
+        let owner = self.owner.get();
+        decoding::reply_of(owner, kind, status, number, || self.answer_again())
     }
 
     /// The value or the content that the last call returned, again: for a caller that had no memory
@@ -164,46 +196,49 @@ impl Guardian {
     /// assert_eq!(top.guardian().answer_again()?, Answer::Val(Value::Null));
     /// # Ok::<(), argus_guardian::Error>(())
     /// ```
-    pub fn answer_again(&mut self) -> Result<Answer, Error> {
-        match self.kept {
-            status::VALUE => Ok(Answer::Val(read_as(status::VALUE, self.text()?)?)),
-            status::CONTENT => Ok(Answer::Body(read_as(status::CONTENT, self.text()?)?)),
+    pub fn answer_again(&self) -> Result<Answer, Error> {
+        let (kept, owner) = (self.kept.get(), self.owner.get());
+        match kept {
+            status::VALUE => self
+                .read_text(|text| read_as(kept, owner, text, Reader::value))
+                .map(Answer::Val),
+            status::CONTENT => self
+                .read_text(|text| read_as(kept, owner, text, Reader::content))
+                .map(Answer::Body),
             _ => Err(Error::OtherAnswer),
         }
     }
 
-    // The text that the library keeps.
-    pub(crate) fn text(&mut self) -> Result<&str, Error> {
+    // What is read of the text that the library keeps.
+    pub(crate) fn read_text<T>(
+        &self,
+        read: impl FnOnce(&str) -> Result<T, Error>,
+    ) -> Result<T, Error> {
+        let mut room = self.room.take();
+        let said = self.copy_text(&mut room).and_then(read);
+        self.room.set(room);
+        said
+    }
+
+    // Copies the text that the library keeps to this room, which grows if it is too small.
+    fn copy_text<'r>(&self, room: &'r mut Vec<u8>) -> Result<&'r str, Error> {
         let mut size = 0;
         loop {
             // SAFETY: no other guardian has the handle; handle, room and size don't overlap, and no
             // pointer is null (that of an empty room dangles, and nothing is written there).
             let status = unsafe {
-                sys::argus_c_reply(
-                    &raw mut self.handle,
-                    self.room.as_mut_ptr(),
-                    self.room.len(),
-                    &raw mut size,
-                )
+                sys::argus_c_reply(self.handle(), room.as_mut_ptr(), room.len(), &raw mut size)
             };
             match status {
                 status::DONE => break,
-                status::TOO_SMALL if size > self.room.len() => self.make_room(size)?,
+                status::TOO_SMALL if size > room.len() => grow(room, size)?,
                 status::NO_MEMORY => return Err(Error::NoRoom),
                 status::NOT_THERE => return Err(Error::OtherAnswer),
                 other => return Err(Error::Unknown(other)),
             }
         }
-        let text = self.room.get(..size).ok_or(Error::Unknown(status::DONE))?;
+        let text = room.get(..size).ok_or(Error::Unknown(status::DONE))?;
         std::str::from_utf8(text).map_err(|_| Error::Unknown(status::DONE))
-    }
-
-    fn make_room(&mut self, size: usize) -> Result<(), Error> {
-        let more = size - self.room.len();
-        let reserved = self.room.try_reserve(more);
-        reserved.map_err(|_| Error::NoRoom)?;
-        self.room.resize(size, 0);
-        Ok(())
     }
 
     /// Declares an object of this shape, such as `atomic_record[balance:int]`.
@@ -214,12 +249,12 @@ impl Guardian {
     ///
     /// ```
     /// use argus_guardian::{Error, Guardian};
-    /// let mut guardian = Guardian::new()?;
+    /// let guardian = Guardian::new()?;
     /// guardian.declare("atomic_variant[ok:int,bad:text]")?;
     /// assert_eq!(guardian.declare("atomic_record[]"), Err(Error::BadShape));
     /// # Ok::<(), Error>(())
     /// ```
-    pub fn declare(&mut self, shape: &str) -> Result<ObjId, Error> {
+    pub fn declare(&self, shape: &str) -> Result<ObjId, Error> {
         self.call(&Call::Declare(shape.to_owned()))?.object()
     }
 
@@ -233,7 +268,7 @@ impl Guardian {
     /// use argus_guardian::{ActionId, Guardian};
     /// let mut guardian = Guardian::new()?;
     /// let top = guardian.topaction()?;
-    /// assert_eq!(top.id(), ActionId(0));
+    /// assert_eq!(top.id(), ActionId::numbered(0));
     /// top.commit()?;
     /// # Ok::<(), argus_guardian::Error>(())
     /// ```
@@ -250,15 +285,15 @@ impl Guardian {
     ///
     /// ```
     /// use argus_guardian::{Call, Guardian};
-    /// let mut guardian = Guardian::new()?;
+    /// let guardian = Guardian::new()?;
     /// guardian.call(&Call::BeginTop)?;
     /// guardian.abort_live()?;
     /// assert_eq!(guardian.entry(1)?, "1 abort a0 -> done");
     /// # Ok::<(), argus_guardian::Error>(())
     /// ```
-    pub fn abort_live(&mut self) -> Result<(), Error> {
+    pub fn abort_live(&self) -> Result<(), Error> {
         // SAFETY: no other guardian has the handle.
-        match unsafe { sys::argus_c_abort_live(&raw mut self.handle) } {
+        match unsafe { sys::argus_c_abort_live(self.handle()) } {
             status::DONE => Ok(()),
             other => Err(error_of(other, 0)),
         }
@@ -275,16 +310,16 @@ impl Guardian {
     /// ```
     /// use argus_guardian::{CheckpointError, Guardian};
     /// let mut guardian = Guardian::new()?;
-    /// let mut top = guardian.topaction()?;
+    /// let top = guardian.topaction()?;
     /// assert_eq!(top.guardian().checkpoint(), Err(CheckpointError::Busy));
     /// top.commit()?;
     /// assert_eq!(guardian.checkpoint(), Ok(()));
     /// assert_eq!(guardian.entries(), 2);
     /// # Ok::<(), argus_guardian::Error>(())
     /// ```
-    pub fn checkpoint(&mut self) -> Result<(), CheckpointError> {
+    pub fn checkpoint(&self) -> Result<(), CheckpointError> {
         // SAFETY: no other guardian has the handle.
-        match unsafe { sys::argus_c_checkpoint(&raw mut self.handle) } {
+        match unsafe { sys::argus_c_checkpoint(self.handle()) } {
             status::DONE => Ok(()),
             status::BUSY => Err(CheckpointError::Busy),
             status::FULL => Err(CheckpointError::Full),
@@ -295,8 +330,8 @@ impl Guardian {
     /// Numbers actions from 0 again. Objects keep their numbers, their shapes and their bases, and
     /// entries their numbers. The entries are folded, as by a checkpoint.
     ///
-    /// From then on an earlier [`ActionId`] names another action, or none. A
-    /// [`Shared`](crate::Shared) renews by itself.
+    /// From then on an action with an earlier [`ActionId`](crate::ActionId) is over, and an id of a plain number names
+    /// another action, or none. A [`Shared`](crate::Shared) renews by itself.
     ///
     /// # Errors
     ///
@@ -309,16 +344,16 @@ impl Guardian {
     /// guardian.topaction()?.commit()?;
     /// guardian.renew()?;
     /// assert_eq!(guardian.actions_left(), Guardian::MAX_ACTIONS);
-    /// assert_eq!(guardian.topaction()?.id(), ActionId(0));
+    /// assert_eq!(guardian.topaction()?.id(), ActionId::numbered(0));
     /// assert_eq!(guardian.shape(object)?, "atomic_array[int]");
     /// assert_eq!(guardian.first_entry(), 3);
     /// # Ok::<(), argus_guardian::Error>(())
     /// ```
-    pub fn renew(&mut self) -> Result<(), CheckpointError> {
+    pub fn renew(&self) -> Result<(), CheckpointError> {
         // SAFETY: no other guardian has the handle.
-        match unsafe { sys::argus_c_renew(&raw mut self.handle) } {
+        match unsafe { sys::argus_c_renew(self.handle()) } {
             status::DONE => {
-                self.renewals += 1;
+                self.owner.set(self.owner.get().renewed());
                 Ok(())
             }
             status::BUSY => Err(CheckpointError::Busy),
@@ -328,10 +363,18 @@ impl Guardian {
     }
 }
 
+// Makes the room so large.
+fn grow(room: &mut Vec<u8>, size: usize) -> Result<(), Error> {
+    let reserved = room.try_reserve(size - room.len());
+    reserved.map_err(|_| Error::NoRoom)?;
+    room.resize(size, 0);
+    Ok(())
+}
+
 impl Drop for Guardian {
     fn drop(&mut self) {
         // SAFETY: no other guardian has the handle, and it isn't used again.
-        unsafe { sys::argus_c_close(&raw mut self.handle) };
+        unsafe { sys::argus_c_close(self.handle()) };
     }
 }
 

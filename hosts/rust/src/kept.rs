@@ -4,7 +4,6 @@ use crate::answer::Answer;
 use crate::call::Call;
 use crate::error::Error;
 use crate::guardian::Guardian;
-use crate::refusal::Refusal;
 use crate::reply::Reply;
 use crate::waiter::Waiter;
 use crate::waiting_access::WaitingAccess;
@@ -44,15 +43,6 @@ impl Kept {
             self.wake();
         }
         Ok(reply)
-    }
-
-    /// The same for an action that was begun after so many renewals: if there were more since, its number is
-    /// another's, and it is over.
-    pub(crate) fn call_since(&mut self, renewals: u64, call: &Call) -> Result<Reply, Error> {
-        if self.guardian.renewals != renewals {
-            return Ok(Reply::Refused(Refusal::Over));
-        }
-        self.call(call)
     }
 
     /// This thread waits for that from now on. Returns its number, and the condition on which it waits.
@@ -113,14 +103,14 @@ impl Kept {
     }
 
     // Whether its lock is free and wasn't left to another one that was woken, or its action is over.
-    fn may_go_on(&mut self, place: usize) -> bool {
+    fn may_go_on(&self, place: usize) -> bool {
         match &self.waiting[place].wanted {
-            Wanted::Access(access) if access.may_be_made(&mut self.guardian) => {
+            Wanted::Access(access) if access.may_be_made(&self.guardian) => {
                 let mut woken = self.waiting.iter().filter(|it| it.is_woken);
                 let left_to = |it: &Waiter| it.access().is_some_and(|it| it.conflicts_with(access));
                 !woken.any(left_to)
             }
-            Wanted::Access(access) => access.is_over(&mut self.guardian),
+            Wanted::Access(access) => access.is_over(&self.guardian),
             // It tries whether that is so.
             Wanted::NoLiveAction => true,
             Wanted::NoFolding => self.folding == 0,
@@ -128,7 +118,7 @@ impl Kept {
     }
 
     /// Whether this access would wait for another one that waits, and that one for this one.
-    pub(crate) fn is_in_vain(&mut self, access: &WaitingAccess) -> bool {
+    pub(crate) fn is_in_vain(&self, access: &WaitingAccess) -> bool {
         let others = || self.waiting.iter().filter_map(Waiter::access);
         if !others().any(|it| it.writes_with(access)) {
             return false;

@@ -6,8 +6,8 @@ use crate::error::Error;
 ///
 /// ```
 /// use argus_guardian::{ActionId, Call, Guardian, ListEnd, ListedCall};
-/// let mut guardian = Guardian::new()?;
-/// let made = guardian.call_each(&[ListedCall::from(Call::Commit(ActionId(7)))])?;
+/// let guardian = Guardian::new()?;
+/// let made = guardian.call_each(&[ListedCall::from(Call::Commit(ActionId::numbered(7)))])?;
 /// assert_eq!(made.end, ListEnd::Unmet);
 /// # Ok::<(), argus_guardian::Error>(())
 /// ```

@@ -3,6 +3,8 @@
 use crate::ActionId;
 use crate::call::Call;
 use crate::demand::Demand;
+use crate::error::Error;
+use crate::owner::Owner;
 use crate::sys;
 use crate::words::Words;
 use std::ptr;
@@ -28,15 +30,15 @@ impl ListedCall {
     ///
     /// ```
     /// use argus_guardian::{Call, ListedCall, ObjId, Query};
-    /// let ask = ListedCall::by(0, |action| Call::Ask(action, ObjId(0), Query::Whole));
-    /// assert_ne!(ask, ListedCall::by(1, |action| Call::Ask(action, ObjId(0), Query::Whole)));
+    /// let ask = ListedCall::by(0, |action| Call::Ask(action, ObjId::numbered(0), Query::Whole));
+    /// assert_ne!(ask, ListedCall::by(1, |action| Call::Ask(action, ObjId::numbered(0), Query::Whole)));
     /// ```
     #[must_use]
     pub fn by(place: usize, call: impl FnOnce(ActionId) -> Call) -> ListedCall {
         let place = u32::try_from(place).unwrap_or(u32::MAX);
         ListedCall {
             begun_by: place.saturating_add(1),
-            ..ListedCall::from(call(ActionId(0)))
+            ..ListedCall::from(call(ActionId::numbered(0)))
         }
     }
 
@@ -52,9 +54,14 @@ impl ListedCall {
         ListedCall { demand, ..self }
     }
 
-    /// The call's words, which hold its text.
-    pub(crate) fn words(&self) -> Words {
-        Words::of(&self.call)
+    /// The words of the call, of this guardian, which hold its text.
+    pub(crate) fn words(&self, guardian: Owner) -> Words {
+        Words::of(&self.call, guardian)
+    }
+
+    /// Why this guardian doesn't take the ids of the call.
+    pub(crate) fn refused_by(&self, guardian: Owner) -> Error {
+        self.call.refused_by(guardian)
     }
 
     /// The call as the library takes it, with the address of its words' text.

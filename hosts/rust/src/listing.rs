@@ -4,7 +4,7 @@
 ///
 /// ```
 /// use argus_guardian::{Guardian, Listing};
-/// let mut guardian = Guardian::new()?;
+/// let guardian = Guardian::new()?;
 /// guardian.declare("atomic_record[n:int]")?;
 /// assert_eq!(guardian.list(Listing::Journal)?, "0 declare atomic_record[n:int] -> o0\n");
 /// # Ok::<(), argus_guardian::Error>(())

@@ -10,7 +10,7 @@ use std::fmt;
 ///
 /// ```
 /// use argus_guardian::{ActionId, Guardian};
-/// let guardian = match Guardian::new()?.ready_commit(ActionId(0)) {
+/// let guardian = match Guardian::new()?.ready_commit(ActionId::numbered(0)) {
 ///     Ok(ready) => ready.cancel(),
 ///     Err(not_ready) => not_ready.guardian,
 /// };

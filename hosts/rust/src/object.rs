@@ -37,9 +37,9 @@ impl Object {
     ///
     /// ```
     /// use argus_guardian::{Guardian, ObjId};
-    /// let mut guardian = Guardian::new()?;
+    /// let guardian = Guardian::new()?;
     /// let object = guardian.declare("atomic_array[int]")?;
-    /// assert_eq!(guardian.object(object)?.id(), ObjId(0));
+    /// assert_eq!(guardian.object(object)?.id(), ObjId::numbered(0));
     /// # Ok::<(), argus_guardian::Error>(())
     /// ```
     #[must_use]
@@ -52,7 +52,7 @@ impl Object {
     ///
     /// ```
     /// use argus_guardian::Guardian;
-    /// let mut guardian = Guardian::new()?;
+    /// let guardian = Guardian::new()?;
     /// let object = guardian.declare("atomic_variant[no:null,yes:struct[a:int,b:int]]")?;
     /// assert_eq!(guardian.object(object)?.names(), ["no", "yes"]);
     /// # Ok::<(), argus_guardian::Error>(())
@@ -70,7 +70,7 @@ impl Object {
     ///
     /// ```
     /// use argus_guardian::{Error, Guardian};
-    /// let mut guardian = Guardian::new()?;
+    /// let guardian = Guardian::new()?;
     /// let seat = guardian.declare("atomic_record[taken:bool,by:text]")?;
     /// let seat = guardian.object(seat)?;
     /// assert_eq!(seat.number("by")?, 1);

@@ -13,44 +13,52 @@ use crate::sys::{self, question, status};
 use crate::{ActionId, ObjId};
 
 impl Guardian {
-    /// Whether the action could get a read lock on the object now. The question isn't journalled.
+    /// Whether the action could get a read lock on the object now: no, if one of them is another
+    /// guardian's. The question isn't journalled.
     ///
     /// ```
     /// use argus_guardian::{Guardian, ObjId};
     /// let mut guardian = Guardian::new()?;
-    /// let mut top = guardian.topaction()?;
-    /// let id = top.id();
-    /// assert!(!top.guardian().can_read(id, ObjId(0)));
+    /// let top = guardian.topaction()?;
+    /// assert!(!top.guardian().can_read(top.id(), ObjId::numbered(0)));
     /// # Ok::<(), argus_guardian::Error>(())
     /// ```
-    pub fn can_read(&mut self, action: ActionId, object: ObjId) -> bool {
-        self.tell(question::CAN_READ, action, object, 0) == (status::FLAG, 1)
+    pub fn can_read(&self, action: ActionId, object: ObjId) -> bool {
+        self.can(question::CAN_READ, action, object)
     }
 
-    /// Whether the action could get a write lock on the object now. The question isn't journalled.
+    /// Whether the action could get a write lock on the object now: no, if one of them is another
+    /// guardian's. The question isn't journalled.
     ///
     /// ```
     /// use argus_guardian::Guardian;
     /// let mut guardian = Guardian::new()?;
     /// let object = guardian.declare("atomic_array[int]")?;
-    /// let mut top = guardian.topaction()?;
-    /// let id = top.id();
-    /// assert!(top.guardian().can_write(id, object));
+    /// let top = guardian.topaction()?;
+    /// assert!(top.guardian().can_write(top.id(), object));
     /// # Ok::<(), argus_guardian::Error>(())
     /// ```
-    pub fn can_write(&mut self, action: ActionId, object: ObjId) -> bool {
-        self.tell(question::CAN_WRITE, action, object, 0) == (status::FLAG, 1)
+    pub fn can_write(&self, action: ActionId, object: ObjId) -> bool {
+        self.can(question::CAN_WRITE, action, object)
+    }
+
+    fn can(&self, question: u32, action: ActionId, object: ObjId) -> bool {
+        let owner = self.owner.get();
+        let (Ok(action), Ok(object)) = (action.number_for(owner), object.number_for(owner)) else {
+            return false;
+        };
+        self.tell(question, action, object, 0) == (status::FLAG, 1)
     }
 
     /// How many objects are declared.
     ///
     /// ```
-    /// let mut guardian = argus_guardian::Guardian::new()?;
+    /// let guardian = argus_guardian::Guardian::new()?;
     /// guardian.declare("atomic_array[int]")?;
     /// assert_eq!(guardian.objects(), 1);
     /// # Ok::<(), argus_guardian::Error>(())
     /// ```
-    pub fn objects(&mut self) -> u32 {
+    pub fn objects(&self) -> u32 {
         self.count(question::OBJECTS).try_into().unwrap_or(u32::MAX)
     }
 
@@ -62,7 +70,7 @@ impl Guardian {
     /// assert_eq!(guardian.actions(), 1);
     /// # Ok::<(), argus_guardian::Error>(())
     /// ```
-    pub fn actions(&mut self) -> u32 {
+    pub fn actions(&self) -> u32 {
         self.count(question::ACTIONS).try_into().unwrap_or(u32::MAX)
     }
 
@@ -75,22 +83,24 @@ impl Guardian {
     /// assert_eq!(guardian.actions_left(), Guardian::MAX_ACTIONS - 1);
     /// # Ok::<(), argus_guardian::Error>(())
     /// ```
-    pub fn actions_left(&mut self) -> u32 {
+    pub fn actions_left(&self) -> u32 {
         Guardian::MAX_ACTIONS.saturating_sub(self.actions())
     }
 
-    /// The state of an action; `None` if it isn't begun.
+    /// The state of an action; `None` if it isn't begun, is another guardian's, or is from before a
+    /// renewal.
     ///
     /// ```
     /// use argus_guardian::{ActionId, Guardian, Status};
     /// let mut guardian = Guardian::new()?;
     /// guardian.topaction()?.commit()?;
-    /// assert_eq!(guardian.status(ActionId(0)), Some(Status::Committed));
-    /// assert_eq!(guardian.status(ActionId(1)), None);
+    /// assert_eq!(guardian.status(ActionId::numbered(0)), Some(Status::Committed));
+    /// assert_eq!(guardian.status(ActionId::numbered(1)), None);
     /// # Ok::<(), argus_guardian::Error>(())
     /// ```
-    pub fn status(&mut self, action: ActionId) -> Option<Status> {
-        match self.tell(question::ACTION_STATUS, action, ObjId(0), 0) {
+    pub fn status(&self, action: ActionId) -> Option<Status> {
+        let action = action.number_for(self.owner.get()).ok()?;
+        match self.tell(question::ACTION_STATUS, action, 0, 0) {
             (status::NUMBER, number) => one_of(&Status::ALL, status::NUMBER, number).ok(),
             _ => None,
         }
@@ -100,17 +110,21 @@ impl Guardian {
     /// it found, it leads to all live actions.
     ///
     /// ```
-    /// use argus_guardian::{ActionId, Call, Guardian};
+    /// use argus_guardian::{Call, Guardian};
     /// let mut guardian = Guardian::new()?;
     /// guardian.topaction()?.commit()?;
     /// guardian.call(&Call::BeginTop)?;
-    /// assert_eq!(guardian.live(ActionId(0)), Some(ActionId(1)));
-    /// assert_eq!(guardian.live(ActionId(2)), None);
+    /// let live = guardian.live(0).expect("the second one");
+    /// assert_eq!(live.number(), 1);
+    /// assert_eq!(guardian.live(live.number() + 1), None);
     /// # Ok::<(), argus_guardian::Error>(())
     /// ```
-    pub fn live(&mut self, from: ActionId) -> Option<ActionId> {
-        match self.tell(question::FIRST_LIVE, from, ObjId(0), 0) {
-            (status::ACTION, number) => u32::try_from(number).ok().map(ActionId),
+    pub fn live(&self, from: u32) -> Option<ActionId> {
+        match self.tell(question::FIRST_LIVE, from, 0, 0) {
+            (status::ACTION, number) => {
+                let number = u32::try_from(number).ok()?;
+                Some(ActionId::of(self.owner.get(), number))
+            }
             _ => None,
         }
     }
@@ -124,7 +138,7 @@ impl Guardian {
     /// assert_eq!(guardian.first_entry(), 2);
     /// # Ok::<(), argus_guardian::Error>(())
     /// ```
-    pub fn first_entry(&mut self) -> u64 {
+    pub fn first_entry(&self) -> u64 {
         self.count(question::FIRST_ENTRY)
     }
 
@@ -135,14 +149,13 @@ impl Guardian {
     /// As for [`base`](Self::base).
     ///
     /// ```
-    /// let mut guardian = argus_guardian::Guardian::new()?;
+    /// let guardian = argus_guardian::Guardian::new()?;
     /// let object = guardian.declare("atomic_record[balance:int]")?;
     /// assert_eq!(guardian.shape(object)?, "atomic_record[balance:int]");
     /// # Ok::<(), argus_guardian::Error>(())
     /// ```
-    pub fn shape(&mut self, object: ObjId) -> Result<String, Error> {
-        let text = self.told(question::SHAPE, object, 0)?;
-        Ok(text.to_owned())
+    pub fn shape(&self, object: ObjId) -> Result<String, Error> {
+        self.told_of(question::SHAPE, object, |shape| Ok(shape.to_owned()))
     }
 
     /// The object with the names that its shape has.
@@ -152,14 +165,17 @@ impl Guardian {
     /// As for [`base`](Self::base).
     ///
     /// ```
-    /// let mut guardian = argus_guardian::Guardian::new()?;
+    /// let guardian = argus_guardian::Guardian::new()?;
     /// let account = guardian.declare("atomic_record[balance:int]")?;
     /// assert_eq!(guardian.object(account)?.names(), ["balance"]);
     /// # Ok::<(), argus_guardian::Error>(())
     /// ```
-    pub fn object(&mut self, object: ObjId) -> Result<Object, Error> {
-        let shape = self.told(question::SHAPE, object, 0)?;
-        Ok(Object::of(object, shape))
+    pub fn object(&self, object: ObjId) -> Result<Object, Error> {
+        let object = object.number_for(self.owner.get())?;
+        let id = ObjId::of(self.owner.get(), object);
+        self.told(question::SHAPE, object, 0, |shape| {
+            Ok(Object::of(id, shape))
+        })
     }
 
     /// How many entries the journal has had, including those that a checkpoint has folded: the next
@@ -171,12 +187,12 @@ impl Guardian {
     /// assert_eq!(guardian.entries(), 2);
     /// # Ok::<(), argus_guardian::Error>(())
     /// ```
-    pub fn entries(&mut self) -> u64 {
+    pub fn entries(&self) -> u64 {
         self.count(question::ENTRIES)
     }
 
-    fn count(&mut self, question: u32) -> u64 {
-        let (_, number) = self.tell(question, ActionId(0), ObjId(0), 0);
+    fn count(&self, question: u32) -> u64 {
+        let (_, number) = self.tell(question, 0, 0, 0);
         u64::try_from(number).unwrap_or(0)
     }
 
@@ -185,19 +201,22 @@ impl Guardian {
     ///
     /// # Errors
     ///
-    /// [`Error::NotThere`] if no object of this number is declared; [`Error::OutOfMemory`].
+    /// [`Error::NotThere`] if no object of this number is declared; [`Error::OtherGuardian`] if the id is
+    /// another guardian's; [`Error::OutOfMemory`].
     ///
     /// ```
     /// use argus_guardian::{Error, Guardian, ObjId};
-    /// let mut guardian = Guardian::new()?;
+    /// let guardian = Guardian::new()?;
     /// let object = guardian.declare("atomic_array[int]")?;
     /// assert_eq!(guardian.base(object)?, None);
-    /// assert_eq!(guardian.base(ObjId(9)), Err(Error::NotThere));
+    /// assert_eq!(guardian.base(ObjId::numbered(9)), Err(Error::NotThere));
     /// # Ok::<(), Error>(())
     /// ```
-    pub fn base(&mut self, object: ObjId) -> Result<Option<Content>, Error> {
-        let text = self.told(question::BASE, object, 0)?;
-        Reader::whole(text, Reader::content_or_absent)
+    pub fn base(&self, object: ObjId) -> Result<Option<Content>, Error> {
+        let owner = self.owner.get();
+        self.told_of(question::BASE, object, |text| {
+            Reader::whole_of(owner, text, Reader::content_or_absent)
+        })
     }
 
     /// The actions that hold the object for reading, in increasing number.
@@ -207,16 +226,17 @@ impl Guardian {
     /// As for [`base`](Self::base).
     ///
     /// ```
-    /// let mut guardian = argus_guardian::Guardian::new()?;
+    /// let guardian = argus_guardian::Guardian::new()?;
     /// let object = guardian.declare("atomic_array[int]")?;
     /// assert_eq!(guardian.readers(object)?, []);
     /// # Ok::<(), argus_guardian::Error>(())
     /// ```
-    pub fn readers(&mut self, object: ObjId) -> Result<Vec<ActionId>, Error> {
-        let text = self.told(question::READERS, object, 0)?;
-        text.lines()
-            .map(|line| Reader::whole(line, Reader::action))
-            .collect()
+    pub fn readers(&self, object: ObjId) -> Result<Vec<ActionId>, Error> {
+        let owner = self.owner.get();
+        self.told_of(question::READERS, object, |text| {
+            let reader = |line| Reader::whole_of(owner, line, Reader::action);
+            text.lines().map(reader).collect()
+        })
     }
 
     /// The actions that hold the object for writing, from ancestor to descendant, each with what it
@@ -233,14 +253,15 @@ impl Guardian {
     /// let mut top = guardian.topaction()?;
     /// let empty: Content = "1[]".parse()?;
     /// top.alter(object, Change::Create(empty.clone()))?.done()?;
-    /// assert_eq!(top.guardian().versions(object)?, [(ActionId(0), Some(empty))]);
+    /// assert_eq!(top.guardian().versions(object)?, [(ActionId::numbered(0), Some(empty))]);
     /// # Ok::<(), argus_guardian::Error>(())
     /// ```
-    pub fn versions(&mut self, object: ObjId) -> Result<Vec<(ActionId, Option<Content>)>, Error> {
-        let text = self.told(question::VERSIONS, object, 0)?;
-        text.lines()
-            .map(|line| Reader::whole(line, Reader::version))
-            .collect()
+    pub fn versions(&self, object: ObjId) -> Result<Vec<(ActionId, Option<Content>)>, Error> {
+        let owner = self.owner.get();
+        self.told_of(question::VERSIONS, object, |text| {
+            let version = |line| Reader::whole_of(owner, line, Reader::version);
+            text.lines().map(version).collect()
+        })
     }
 
     /// The line of a journal's entry: its number, the call and the reply.
@@ -256,9 +277,8 @@ impl Guardian {
     /// assert_eq!(guardian.entry(1)?, "1 commit a0 -> done");
     /// # Ok::<(), argus_guardian::Error>(())
     /// ```
-    pub fn entry(&mut self, number: u64) -> Result<String, Error> {
-        let text = self.told(question::ENTRY, ObjId(0), number)?;
-        Ok(text.to_owned())
+    pub fn entry(&self, number: u64) -> Result<String, Error> {
+        self.told(question::ENTRY, 0, number, |line| Ok(line.to_owned()))
     }
 
     /// Puts as many whole lines of the journal's listing as fit at the beginning of the room, each
@@ -282,13 +302,13 @@ impl Guardian {
     /// assert_eq!(guardian.lines(lines.count, &mut room)?, Lines { count: 0, size: 0 });
     /// # Ok::<(), argus_guardian::Error>(())
     /// ```
-    pub fn lines(&mut self, from: u64, room: &mut [u8]) -> Result<Lines, Error> {
+    pub fn lines(&self, from: u64, room: &mut [u8]) -> Result<Lines, Error> {
         let (mut size, mut count) = (0, 0);
         // SAFETY: no other guardian has the handle; it, the room, size and count don't overlap, and
         // no pointer is null (that of an empty room dangles, and nothing is written there).
         let status = unsafe {
             sys::argus_c_lines(
-                &raw mut self.handle,
+                self.handle(),
                 from,
                 room.as_mut_ptr(),
                 room.len(),
@@ -310,46 +330,62 @@ impl Guardian {
     ///
     /// ```
     /// use argus_guardian::{Guardian, Listing};
-    /// let mut guardian = Guardian::new()?;
+    /// let guardian = Guardian::new()?;
     /// guardian.declare("atomic_array[int]")?;
     /// assert_eq!(guardian.list(Listing::Bases)?, "o0 absent\n");
     /// # Ok::<(), argus_guardian::Error>(())
     /// ```
-    pub fn list(&mut self, listing: Listing) -> Result<String, Error> {
+    pub fn list(&self, listing: Listing) -> Result<String, Error> {
         let question = match listing {
             Listing::Bases => question::LIST_BASES,
             Listing::Stacks => question::LIST_STACKS,
             Listing::Journal => question::LIST_JOURNAL,
             Listing::Audit => question::LIST_AUDIT,
         };
-        let text = self.told(question, ObjId(0), 0)?;
-        Ok(text.to_owned())
+        self.told(question, 0, 0, |text| Ok(text.to_owned()))
     }
 
     // A question's status and number.
-    fn tell(&mut self, question: u32, action: ActionId, object: ObjId, entry: u64) -> (u32, i64) {
+    fn tell(&self, question: u32, action: u32, object: u32, entry: u64) -> (u32, i64) {
         let mut number = 0;
         // SAFETY: no other guardian has the handle, and the number is other memory.
         let status = unsafe {
             sys::argus_c_tell(
-                &raw mut self.handle,
+                self.handle(),
                 question,
-                action.0,
-                object.0,
+                action,
+                object,
                 entry,
                 &raw mut number,
             )
         };
         if status == status::TEXT {
-            self.kept = status;
+            self.kept.set(status);
         }
         (status, number)
     }
 
-    // The text that a question returns.
-    fn told(&mut self, question: u32, object: ObjId, entry: u64) -> Result<&str, Error> {
-        match self.tell(question, ActionId(0), object, entry) {
-            (status::TEXT, _) => self.text().map_err(|error| match error {
+    // What is read of the text that a question about an object returns.
+    fn told_of<T>(
+        &self,
+        question: u32,
+        object: ObjId,
+        read: impl FnOnce(&str) -> Result<T, Error>,
+    ) -> Result<T, Error> {
+        let object = object.number_for(self.owner.get())?;
+        self.told(question, object, 0, read)
+    }
+
+    // What is read of the text that a question returns.
+    fn told<T>(
+        &self,
+        question: u32,
+        object: u32,
+        entry: u64,
+        read: impl FnOnce(&str) -> Result<T, Error>,
+    ) -> Result<T, Error> {
+        match self.tell(question, 0, object, entry) {
+            (status::TEXT, _) => self.read_text(read).map_err(|error| match error {
                 Error::NoRoom => Error::OutOfMemory,
                 other => other,
             }),

@@ -2,6 +2,7 @@
 
 use crate::content::Content;
 use crate::error::Error;
+use crate::owner::Owner;
 use crate::value::Value;
 use crate::{ActionId, ObjId};
 use std::ops::RangeInclusive;
@@ -13,16 +14,27 @@ const MAX_DEPTH: u8 = 16;
 /// from the beginning; if it returns `None`, it has stopped at what can't be read.
 pub(crate) struct Reader<'t> {
     left: &'t str,
+    // Whose the ids are that are read.
+    owner: Owner,
 }
 
 impl<'t> Reader<'t> {
     /// Reads the whole text by `read`. If something is left over or can't be read, it is a bad
-    /// text, with the place where the reading stopped.
+    /// text, with the place where the reading stopped. Its ids are nobody's.
     pub(crate) fn whole<T>(
         text: &'t str,
         read: impl FnOnce(&mut Reader<'t>) -> Option<T>,
     ) -> Result<T, Error> {
-        let mut reader = Reader { left: text };
+        Reader::whole_of(Owner::NOBODY, text, read)
+    }
+
+    /// The same, with ids of this guardian.
+    pub(crate) fn whole_of<T>(
+        owner: Owner,
+        text: &'t str,
+        read: impl FnOnce(&mut Reader<'t>) -> Option<T>,
+    ) -> Result<T, Error> {
+        let mut reader = Reader { left: text, owner };
         match read(&mut reader) {
             Some(thing) if reader.left.is_empty() => Ok(thing),
             _ => Err(Error::BadText {
@@ -128,7 +140,7 @@ impl<'t> Reader<'t> {
             return self.text().map(Value::Text);
         }
         if self.take("@").is_some() {
-            return self.nat().map(|number| Value::Atomic(ObjId(number)));
+            return self.object_number().map(Value::Atomic);
         }
         if self.take("[").is_some() {
             return self.values(level, "]").map(Value::Sequence);
@@ -200,15 +212,22 @@ impl<'t> Reader<'t> {
         Some((holder, self.content_or_absent()?))
     }
 
-    /// The number of an action, such as `a7`.
+    /// An action, such as `a7`.
     pub(crate) fn action(&mut self) -> Option<ActionId> {
         self.take("a")?;
-        self.nat().map(ActionId)
+        let number = self.nat()?;
+        Some(ActionId::of(self.owner, number))
     }
 
-    /// The number of an object, such as `o7`.
+    /// An object, such as `o7`.
     pub(crate) fn object(&mut self) -> Option<ObjId> {
         self.take("o")?;
-        self.nat().map(ObjId)
+        self.object_number()
+    }
+
+    // The number of an object, such as `7`.
+    fn object_number(&mut self) -> Option<ObjId> {
+        let number = self.nat()?;
+        Some(ObjId::of(self.owner, number))
     }
 }

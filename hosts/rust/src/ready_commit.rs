@@ -14,6 +14,9 @@ use std::fmt;
 // the longest refusal, `Suspended`.
 const LINE: usize = 61;
 
+// The handle of the commit, which is closed when it is dropped.
+struct Readied(Ready);
+
 /// A guardian with a prepared commit, which can't fail any more. Make it or cancel it, and the
 /// guardian is returned. If it is dropped, so is the guardian, without the commit.
 ///
@@ -26,7 +29,7 @@ const LINE: usize = 61;
 /// let mut log = String::new();
 /// let mut ready = guardian.ready_commit(top)?;
 /// log.push_str(&ready.line()?);
-/// let (mut guardian, committed) = ready.make();
+/// let (guardian, committed) = ready.make();
 /// committed?;
 /// assert_eq!(log, "1 commit a0 -> done\n");
 /// assert_eq!(guardian.entry(1)?, "1 commit a0 -> done");
@@ -34,7 +37,7 @@ const LINE: usize = 61;
 /// ```
 #[must_use = "a commit that is ready and dropped takes its guardian with it"]
 pub struct ReadyCommit {
-    ready: Ready,
+    ready: Readied,
     // Its handle is closed meanwhile.
     guardian: Guardian,
 }
@@ -48,29 +51,39 @@ impl Guardian {
     ///
     /// # Errors
     ///
-    /// [`NotReady`], with the unchanged guardian, and [`Error::OutOfMemory`].
+    /// [`NotReady`], with the unchanged guardian, and [`Error::OutOfMemory`]; for an id of another
+    /// guardian [`Error::OtherGuardian`], for one from before a renewal [`Error::Refused`] with `Over`.
     ///
     /// ```
     /// use argus_guardian::{ActionId, Error, Guardian};
-    /// let ready = Guardian::new()?.ready_commit(ActionId(7))?;
-    /// let mut guardian = ready.cancel();
+    /// let ready = Guardian::new()?.ready_commit(ActionId::numbered(7))?;
+    /// let guardian = ready.cancel();
     /// assert_eq!(guardian.entries(), 0);
     /// # Ok::<(), Error>(())
     /// ```
-    pub fn ready_commit(mut self, action: ActionId) -> Result<ReadyCommit, NotReady> {
-        let mut ready = Ready::NOTHING;
-        // SAFETY: both handles are borrowed for the call, and they are different ones.
-        let status =
-            unsafe { sys::argus_c_ready_commit(&raw mut self.handle, &raw mut ready, action.0) };
-        match status {
-            status::DONE => Ok(ReadyCommit {
+    pub fn ready_commit(self, action: ActionId) -> Result<ReadyCommit, NotReady> {
+        match self.readied(action) {
+            Ok(ready) => Ok(ReadyCommit {
                 ready,
                 guardian: self,
             }),
-            other => Err(NotReady {
+            Err(error) => Err(NotReady {
                 guardian: self,
-                error: error_of(other, 0),
+                error,
             }),
+        }
+    }
+
+    // The commit, which takes the content of the handle.
+    fn readied(&self, action: ActionId) -> Result<Readied, Error> {
+        let action = action.number_for(self.owner.get())?;
+        let mut ready = Readied(Ready::NOTHING);
+        // SAFETY: no other guardian has its handle; both are there for the call, and they are different
+        // ones.
+        let status = unsafe { sys::argus_c_ready_commit(self.handle(), &raw mut ready.0, action) };
+        match status {
+            status::DONE => Ok(ready),
+            other => Err(error_of(other, 0)),
         }
     }
 }
@@ -84,7 +97,7 @@ impl ReadyCommit {
     ///
     /// ```
     /// use argus_guardian::{ActionId, Error, Guardian};
-    /// let mut ready = Guardian::new()?.ready_commit(ActionId(7))?;
+    /// let mut ready = Guardian::new()?.ready_commit(ActionId::numbered(7))?;
     /// assert_eq!(ready.line()?, "0 commit a7 -> refused NoAction\n");
     /// # Ok::<(), Error>(())
     /// ```
@@ -94,7 +107,7 @@ impl ReadyCommit {
         // is null.
         let status = unsafe {
             sys::argus_c_ready_line(
-                &raw mut self.ready,
+                &raw mut self.ready.0,
                 room.as_mut_ptr(),
                 room.len(),
                 &raw mut size,
@@ -117,7 +130,7 @@ impl ReadyCommit {
     /// let top = guardian.topaction()?.into_id();
     /// let (guardian, committed) = guardian.ready_commit(top)?.make();
     /// assert_eq!(committed, Ok(()));
-    /// let (mut guardian, committed) = guardian.ready_commit(top)?.make();
+    /// let (guardian, committed) = guardian.ready_commit(top)?.make();
     /// assert_eq!(committed, Err(Error::Refused(Refusal::Over)));
     /// assert_eq!(guardian.entries(), 3);
     /// # Ok::<(), Error>(())
@@ -125,15 +138,17 @@ impl ReadyCommit {
     pub fn make(self) -> (Guardian, Result<(), Error>) {
         let ReadyCommit {
             mut ready,
-            mut guardian,
+            guardian,
         } = self;
         let mut number = 0;
         // SAFETY: nothing else has these handles, and handles and number don't overlap.
         let status = unsafe {
-            sys::argus_c_make_ready(&raw mut ready, &raw mut guardian.handle, &raw mut number)
+            sys::argus_c_make_ready(&raw mut ready.0, guardian.handle(), &raw mut number)
         };
-        guardian.kept = status;
-        let reply = decoding::reply_of(kind::COMMIT, status, number, || Err(Error::OtherAnswer));
+        guardian.kept.set(status);
+        let owner = guardian.owner.get();
+        let none = || Err(Error::OtherAnswer);
+        let reply = decoding::reply_of(owner, kind::COMMIT, status, number, none);
         let committed = reply.and_then(Reply::answer).and_then(Answer::done);
         (guardian, committed)
     }
@@ -143,21 +158,21 @@ impl ReadyCommit {
     pub fn cancel(self) -> Guardian {
         let ReadyCommit {
             mut ready,
-            mut guardian,
+            guardian,
         } = self;
         // SAFETY: nothing else has these handles, and they are different ones.
-        unsafe { sys::argus_c_cancel_ready(&raw mut ready, &raw mut guardian.handle) };
+        unsafe { sys::argus_c_cancel_ready(&raw mut ready.0, guardian.handle()) };
         guardian
     }
 }
 
-impl Drop for Ready {
+impl Drop for Readied {
     fn drop(&mut self) {
         let mut handle = Handle::CLOSED;
         // SAFETY: this handle isn't used again, and the other one is closed before it ends. If
         // nothing is ready, both calls do nothing.
         unsafe {
-            sys::argus_c_cancel_ready(self, &raw mut handle);
+            sys::argus_c_cancel_ready(&raw mut self.0, &raw mut handle);
             sys::argus_c_close(&raw mut handle);
         }
     }

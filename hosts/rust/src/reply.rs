@@ -42,7 +42,7 @@ impl Reply {
     ///
     /// ```
     /// use argus_guardian::{Error, ObjId, Refusal, Reply};
-    /// assert_eq!(Reply::Object(ObjId(0)).object(), Ok(ObjId(0)));
+    /// assert_eq!(Reply::Object(ObjId::numbered(0)).object(), Ok(ObjId::numbered(0)));
     /// let refused = Reply::Refused(Refusal::TooMany);
     /// assert_eq!(refused.object(), Err(Error::Refused(Refusal::TooMany)));
     /// ```
@@ -61,7 +61,7 @@ impl Reply {
     ///
     /// ```
     /// use argus_guardian::{ActionId, Reply};
-    /// assert_eq!(Reply::Begun(ActionId(2)).action(), Ok(ActionId(2)));
+    /// assert_eq!(Reply::Begun(ActionId::numbered(2)).action(), Ok(ActionId::numbered(2)));
     /// ```
     pub fn action(self) -> Result<ActionId, Error> {
         match self {

@@ -14,13 +14,13 @@ use crate::taken_end::TakenEnd;
 ///
 /// ```
 /// use argus_guardian::{Guardian, Listing, Resuming, TakenEnd};
-/// let mut first = Guardian::new()?;
+/// let first = Guardian::new()?;
 /// first.declare("atomic_array[int]")?;
 /// let listing = first.list(Listing::Journal)?;
 ///
 /// let mut resuming = Resuming::new()?;
 /// assert_eq!(resuming.take(&listing).end, TakenEnd::Whole);
-/// let mut second = resuming.into_guardian()?.guardian;
+/// let second = resuming.into_guardian()?.guardian;
 /// assert_eq!(second.list(Listing::Journal)?, listing);
 /// # Ok::<(), argus_guardian::Error>(())
 /// ```
@@ -39,6 +39,35 @@ impl Resuming {
         Ok(Resuming {
             guardian: Guardian::new()?,
         })
+    }
+
+    /// A new one, for the journal of this guardian, as it is written by somebody else. The guardian that
+    /// comes of it takes the ids of this one's objects; an action with an id of this one is over.
+    ///
+    /// # Errors
+    ///
+    /// As for [`Guardian::new`].
+    ///
+    /// ```
+    /// use argus_guardian::{Guardian, Listing, Resuming};
+    /// let first = Guardian::new()?;
+    /// let object = first.declare("atomic_array[int]")?;
+    /// let mut resuming = Resuming::after(&first)?;
+    /// resuming.take(&first.list(Listing::Journal)?);
+    /// let second = resuming.into_guardian()?.guardian;
+    /// assert_eq!(second.base(object)?, None);
+    /// # Ok::<(), argus_guardian::Error>(())
+    /// ```
+    pub fn after(guardian: &Guardian) -> Result<Resuming, Error> {
+        Ok(Resuming {
+            guardian: guardian.successor()?,
+        })
+    }
+
+    // One that has taken nothing, and takes the ids that this one would.
+    #[cfg(all(feature = "logged", unix))]
+    pub(crate) fn anew(&self) -> Result<Resuming, Error> {
+        Resuming::after(&self.guardian)
     }
 
     /// Takes whole lines from the beginning of the text, up to the first that isn't the next one of
@@ -60,7 +89,7 @@ impl Resuming {
         // are other memory.
         let status = unsafe {
             sys::argus_c_resume(
-                &raw mut self.guardian.handle,
+                self.guardian.handle(),
                 text.as_ptr(),
                 text.len(),
                 &raw mut bytes,
@@ -79,7 +108,7 @@ impl Resuming {
             }),
             status::NOT_SOUND => TakenEnd::Fault(LineFault::NotSound),
             status::NOT_THE_REPLY => TakenEnd::Fault(LineFault::NotTheReply {
-                reply: self.guardian.text().map(str::to_owned).ok(),
+                reply: self.guardian.read_text(|reply| Ok(reply.to_owned())).ok(),
             }),
             _ => TakenEnd::OutOfMemory,
         };
@@ -98,15 +127,14 @@ impl Resuming {
     /// use argus_guardian::{ActionId, Resuming, Status};
     /// let mut resuming = Resuming::new()?;
     /// resuming.take("0 begin_top -> a0\n");
-    /// let mut guardian = resuming.into_guardian()?.guardian;
-    /// assert_eq!(guardian.status(ActionId(0)), Some(Status::Live));
+    /// let guardian = resuming.into_guardian()?.guardian;
+    /// assert_eq!(guardian.status(ActionId::numbered(0)), Some(Status::Live));
     /// # Ok::<(), argus_guardian::Error>(())
     /// ```
-    pub fn into_guardian(mut self) -> Result<Opened, Resuming> {
+    pub fn into_guardian(self) -> Result<Opened, Resuming> {
         let mut dropped = 0;
         // SAFETY: no other guardian has the handle, and the number is other memory.
-        let status =
-            unsafe { sys::argus_c_resumed(&raw mut self.guardian.handle, &raw mut dropped) };
+        let status = unsafe { sys::argus_c_resumed(self.guardian.handle(), &raw mut dropped) };
         if status != status::DONE {
             return Err(self);
         }

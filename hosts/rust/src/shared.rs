@@ -5,6 +5,7 @@ use crate::call::Call;
 use crate::error::Error;
 use crate::guardian::Guardian;
 use crate::kept::Kept;
+use crate::lending::Lending;
 use crate::may_conflict::MayConflict;
 use crate::refusal::Refusal;
 use crate::reply::Reply;
@@ -39,7 +40,7 @@ const CONFLICT: Reply = Reply::Refused(Refusal::Conflict);
 /// use std::thread;
 /// use std::time::Duration;
 ///
-/// let mut guardian = Guardian::new()?;
+/// let guardian = Guardian::new()?;
 /// let account = guardian.declare("atomic_array[int]")?;
 /// let shared = Shared::new(guardian, Duration::from_secs(1));
 /// let top = shared.topaction()?;
@@ -62,6 +63,7 @@ const CONFLICT: Reply = Reply::Refused(Refusal::Conflict);
 #[derive(Debug)]
 pub struct Shared {
     kept: Mutex<Kept>,
+    lending: Lending,
     patience: Duration,
 }
 
@@ -94,12 +96,18 @@ impl Shared {
     pub fn new(guardian: Guardian, patience: Duration) -> Shared {
         Shared {
             kept: Mutex::new(Kept::new(guardian)),
+            lending: Lending::default(),
             patience,
         }
     }
 
     // A thread that panics leaves the guardian between two calls, so a poisoned lock is as good as any.
+    #[track_caller]
     pub(crate) fn lock(&self) -> MutexGuard<'_, Kept> {
+        assert!(
+            !self.lending.is_here(),
+            "this thread is inside `Shared::with` of the same guardian, and would wait for itself"
+        );
         self.kept.lock().unwrap_or_else(PoisonError::into_inner)
     }
 
@@ -137,24 +145,18 @@ impl Shared {
     /// use argus_guardian::{ActionId, Call, Guardian, Reply, Shared};
     /// use std::time::Duration;
     /// let shared = Shared::new(Guardian::new()?, Duration::ZERO);
-    /// assert_eq!(shared.call(&Call::BeginTop)?, Reply::Begun(ActionId(0)));
+    /// assert_eq!(shared.call(&Call::BeginTop)?, Reply::Begun(ActionId::numbered(0)));
     /// # Ok::<(), argus_guardian::Error>(())
     /// ```
     pub fn call(&self, call: &Call) -> Result<Reply, Error> {
         self.lock().call(call)
     }
 
-    // The same for an action that was begun after so many renewals: if there were more since, its
-    // number is another's, and it is over.
-    pub(crate) fn call_since(&self, renewals: u64, call: &Call) -> Result<Reply, Error> {
-        self.lock().call_since(renewals, call)
-    }
-
     // The same, with how many entries the journal has had up to this call.
     #[cfg(all(feature = "logged", unix))]
-    pub(crate) fn call_counted(&self, renewals: u64, call: &Call) -> Result<(Reply, u64), Error> {
+    pub(crate) fn call_counted(&self, call: &Call) -> Result<(Reply, u64), Error> {
         let mut kept = self.lock();
-        let reply = kept.call_since(renewals, call)?;
+        let reply = kept.call(call)?;
         Ok((reply, kept.guardian.entries()))
     }
 
@@ -174,7 +176,7 @@ impl Shared {
     /// ```
     /// use argus_guardian::{Call, Change, Guardian, Refusal, Reply, Shared};
     /// use std::time::Duration;
-    /// let mut guardian = Guardian::new()?;
+    /// let guardian = Guardian::new()?;
     /// let object = guardian.declare("atomic_array[int]")?;
     /// let shared = Shared::new(guardian, Duration::ZERO);
     /// let (first, second) = (shared.topaction()?, shared.topaction()?);
@@ -185,25 +187,22 @@ impl Shared {
     /// # Ok::<(), argus_guardian::Error>(())
     /// ```
     pub fn call_waiting(&self, call: &Call, patience: Duration) -> Result<Reply, Error> {
-        let renewals = self.lock().guardian.renewals;
-        self.access(call, renewals, patience, |action| vec![action])
+        self.access(call, patience, |action| vec![action])
     }
 
-    // The same for an action that was begun after so many renewals; the last argument returns an
-    // action with its ancestors.
+    // The same; the last argument returns an action with its ancestors.
     pub(crate) fn access(
         &self,
         call: &Call,
-        renewals: u64,
         patience: Duration,
         lineage_of: impl FnOnce(ActionId) -> Vec<ActionId>,
     ) -> Result<Reply, Error> {
         let mut kept = self.lock();
-        let mut reply = kept.call_since(renewals, call);
+        let mut reply = kept.call(call);
         if reply != Ok(CONFLICT) || patience.is_zero() {
             return reply;
         }
-        let Some(access) = WaitingAccess::by(call, renewals, lineage_of) else {
+        let Some(access) = WaitingAccess::by(call, lineage_of) else {
             return reply;
         };
         if kept.is_in_vain(&access) {
@@ -211,7 +210,7 @@ impl Shared {
         }
         let wanted = Wanted::Access(access);
         let _kept = Shared::wait_while(kept, wanted, patience, |kept| {
-            reply = kept.call_since(renewals, call);
+            reply = kept.call(call);
             reply == Ok(CONFLICT)
         });
         reply
@@ -238,7 +237,7 @@ impl Shared {
             kept = Shared::wait_while(kept, Wanted::NoFolding, Duration::MAX, still);
         }
         let id = kept.call(&Call::BeginTop)?.action()?;
-        Ok(SharedAction::of(self, id, kept.guardian.renewals))
+        Ok(SharedAction::of(self, id))
     }
 
     /// How often [`run`](Self::run) tries at most.
@@ -260,7 +259,7 @@ impl Shared {
     ///
     /// ```
     /// use argus_guardian::{Change, Error, Guardian, Shared};
-    /// let mut guardian = Guardian::new()?;
+    /// let guardian = Guardian::new()?;
     /// let counter = guardian.declare("atomic_record[n:int]")?;
     /// let shared = Shared::from(guardian);
     /// shared.run(|top| top.alter(counter, Change::Create("{0}".parse()?))?.done())?;
@@ -297,26 +296,54 @@ impl Shared {
 
     // Lends the guardian for questions only: no thread is woken.
     #[cfg(all(feature = "logged", unix))]
-    pub(crate) fn lend<T>(&self, what: impl FnOnce(&mut Guardian) -> T) -> T {
-        what(&mut self.lock().guardian)
+    pub(crate) fn lend<T>(&self, what: impl FnOnce(&Guardian) -> T) -> T {
+        what(&self.lock().guardian)
     }
 
     /// Does something with the guardian while no other thread has it, and then wakes those waiting
     /// threads that may go on, after a panic too.
     ///
-    /// The mutex is held meanwhile. So inside, call nothing of this `Shared` or of its actions, and
-    /// drop none of its actions: that would wait for the mutex for ever.
+    /// The mutex is held meanwhile. An action of this `Shared` that is dropped inside is aborted when
+    /// this ends.
+    ///
+    /// # Panics
+    ///
+    /// Inside, any call of this `Shared` or of its actions panics: it would wait for itself. Other
+    /// threads wait.
     ///
     /// ```
     /// use argus_guardian::{Guardian, Shared};
-    /// use std::time::Duration;
-    /// let shared = Shared::new(Guardian::new()?, Duration::ZERO);
-    /// assert_eq!(shared.with(|guardian| guardian.entries()), 0);
+    /// let shared = Shared::from(Guardian::new()?);
+    /// let other = Guardian::new()?;
+    /// shared.with(|guardian| assert_eq!(guardian.entries(), other.entries()));
     /// # Ok::<(), argus_guardian::Error>(())
     /// ```
-    pub fn with<T>(&self, what: impl FnOnce(&mut Guardian) -> T) -> T {
-        let mut lent = Lent { kept: self.lock() };
-        what(&mut lent.kept.guardian)
+    ///
+    /// Another guardian can't take its place:
+    ///
+    /// ```compile_fail,E0308
+    /// use argus_guardian::{Guardian, Shared};
+    /// let shared = Shared::from(Guardian::new()?);
+    /// let mut other = Guardian::new()?;
+    /// shared.with(|guardian| std::mem::swap(guardian, &mut other));
+    /// # Ok::<(), argus_guardian::Error>(())
+    /// ```
+    #[track_caller]
+    pub fn with<T>(&self, what: impl FnOnce(&Guardian) -> T) -> T {
+        let kept = self.lock();
+        self.lending.begin();
+        let lent = Lent { shared: self, kept };
+        what(&lent.kept.guardian)
+    }
+
+    // The action is dropped: it is aborted now, or when this thread's `with` ends.
+    pub(crate) fn abort_dropped(&self, action: ActionId) {
+        if self.lending.is_here() {
+            self.lending.drop_later(action);
+        } else {
+            // A drop can't report an error.
+            let _ = self.call(&Call::Abort(action));
+        }
     }
 
     /// How long an access by a [`SharedAction`] waits for its lock at most.
@@ -351,12 +378,17 @@ impl Shared {
 
 // The guardian, while it is lent to `with`.
 struct Lent<'s> {
+    shared: &'s Shared,
     kept: MutexGuard<'s, Kept>,
 }
 
 impl Drop for Lent<'_> {
     fn drop(&mut self) {
-        // It may have ended actions.
+        for action in self.shared.lending.end() {
+            // A drop can't report an error.
+            let _ = self.kept.guardian.call(&Call::Abort(action));
+        }
+        // It may have ended other actions, too.
         self.kept.wake();
     }
 }

@@ -29,7 +29,7 @@ use std::{iter, mem};
 /// use std::thread;
 /// use std::time::Duration;
 ///
-/// let mut guardian = Guardian::new()?;
+/// let guardian = Guardian::new()?;
 /// let left = guardian.declare("atomic_record[n:int]")?;
 /// let right = guardian.declare("atomic_record[n:int]")?;
 /// let shared = Shared::new(guardian, Duration::from_secs(1));
@@ -55,12 +55,10 @@ pub struct SharedAction<'s> {
     id: ActionId,
     // The action whose subaction it is.
     parent: Option<&'s SharedAction<'s>>,
-    // How often the guardian had been renewed when it was begun.
-    renewals: u64,
 }
 
 impl<'s> SharedAction<'s> {
-    // A child of this action. Both are live, so there was no renewal since.
+    // A child of this action.
     fn begun(
         &self,
         call: &Call,
@@ -71,22 +69,16 @@ impl<'s> SharedAction<'s> {
             shared: self.shared,
             id,
             parent,
-            renewals: self.renewals,
         })
     }
 
-    pub(crate) fn of(shared: &'s Shared, id: ActionId, renewals: u64) -> SharedAction<'s> {
+    pub(crate) fn of(shared: &'s Shared, id: ActionId) -> SharedAction<'s> {
         let parent = None;
-        SharedAction {
-            shared,
-            id,
-            parent,
-            renewals,
-        }
+        SharedAction { shared, id, parent }
     }
 
     fn call(&self, call: &Call) -> Result<Reply, Error> {
-        self.shared.call_since(self.renewals, call)
+        self.shared.call(call)
     }
 
     // The action itself and its ancestors.
@@ -99,10 +91,7 @@ impl<'s> SharedAction<'s> {
     fn access(&self, call: &Call) -> Result<Answer, Error> {
         let patience = self.shared.patience();
         let lineage_of = |_| self.lineage();
-        let reply = self
-            .shared
-            .access(call, self.renewals, patience, lineage_of);
-        reply?.answer()
+        self.shared.access(call, patience, lineage_of)?.answer()
     }
 
     /// Its number.
@@ -111,7 +100,7 @@ impl<'s> SharedAction<'s> {
     /// # use argus_guardian::{ActionId, Error, Guardian, Shared};
     /// # use std::time::Duration;
     /// let shared = Shared::new(Guardian::new()?, Duration::ZERO);
-    /// assert_eq!(shared.topaction()?.id(), ActionId(0));
+    /// assert_eq!(shared.topaction()?.id(), ActionId::numbered(0));
     /// # Ok::<(), Error>(())
     /// ```
     #[must_use]
@@ -124,12 +113,13 @@ impl<'s> SharedAction<'s> {
     /// # Errors
     ///
     /// [`Error::Refused`] with `Over` (a sibling or an ancestor was faster), `Suspended`, `NoObject`,
-    /// `IllTyped` or `Conflict`; [`Error::OutOfMemory`]; [`Error::NoRoom`].
+    /// `IllTyped` or `Conflict`; [`Error::OtherGuardian`] if the id is another guardian's;
+    /// [`Error::OutOfMemory`]; [`Error::NoRoom`].
     ///
     /// ```
     /// # use argus_guardian::{Answer, Error, Guardian, Query, Shared, Signal};
     /// # use std::time::Duration;
-    /// let mut guardian = Guardian::new()?;
+    /// let guardian = Guardian::new()?;
     /// let object = guardian.declare("atomic_array[int]")?;
     /// let shared = Shared::new(guardian, Duration::ZERO);
     /// let answer = shared.topaction()?.ask(object, Query::Whole)?;
@@ -144,12 +134,13 @@ impl<'s> SharedAction<'s> {
     ///
     /// # Errors
     ///
-    /// As for [`ask`](Self::ask); [`Error::BadText`] if a value is deeper than 16.
+    /// As for [`ask`](Self::ask), also if a value refers to another guardian's object;
+    /// [`Error::BadText`] if a value is deeper than 16.
     ///
     /// ```
     /// # use argus_guardian::{Answer, Change, Error, Guardian, Shared};
     /// # use std::time::Duration;
-    /// let mut guardian = Guardian::new()?;
+    /// let guardian = Guardian::new()?;
     /// let object = guardian.declare("atomic_array[int]")?;
     /// let shared = Shared::new(guardian, Duration::ZERO);
     /// assert_eq!(shared.topaction()?.alter(object, Change::Touch)?, Answer::Done);
@@ -168,7 +159,7 @@ impl<'s> SharedAction<'s> {
     /// ```
     /// # use argus_guardian::{Error, Guardian, Shared, Signal};
     /// # use std::time::Duration;
-    /// let mut guardian = Guardian::new()?;
+    /// let guardian = Guardian::new()?;
     /// let object = guardian.declare("atomic_record[n:int]")?;
     /// let shared = Shared::new(guardian, Duration::ZERO);
     /// assert_eq!(shared.topaction()?.get(object, 0), Err(Error::Signal(Signal::Absent)));
@@ -187,7 +178,7 @@ impl<'s> SharedAction<'s> {
     /// ```
     /// # use argus_guardian::{Change, Error, Guardian, Shared, Value};
     /// # use std::time::Duration;
-    /// let mut guardian = Guardian::new()?;
+    /// let guardian = Guardian::new()?;
     /// let object = guardian.declare("atomic_record[n:int]")?;
     /// let shared = Shared::new(guardian, Duration::ZERO);
     /// let top = shared.topaction()?;
@@ -210,7 +201,7 @@ impl<'s> SharedAction<'s> {
     ///
     /// ```
     /// use argus_guardian::{Change, Guardian, Shared, Value};
-    /// let mut guardian = Guardian::new()?;
+    /// let guardian = Guardian::new()?;
     /// let record = guardian.declare("atomic_record[n:int]")?;
     /// let record = guardian.object(record)?;
     /// let shared = Shared::from(guardian);
@@ -232,7 +223,7 @@ impl<'s> SharedAction<'s> {
     ///
     /// ```
     /// use argus_guardian::{Change, Guardian, Shared, Value};
-    /// let mut guardian = Guardian::new()?;
+    /// let guardian = Guardian::new()?;
     /// let record = guardian.declare("atomic_record[n:int]")?;
     /// let record = guardian.object(record)?;
     /// let shared = Shared::from(guardian);
@@ -260,7 +251,7 @@ impl<'s> SharedAction<'s> {
     /// ```
     /// # use argus_guardian::{Change, Error, Guardian, Shared, Value};
     /// # use std::time::Duration;
-    /// # let mut guardian = Guardian::new()?;
+    /// # let guardian = Guardian::new()?;
     /// # let seat = guardian.declare("atomic_record[taken:bool]")?;
     /// # let shared = Shared::new(guardian, Duration::ZERO);
     /// # let top = shared.topaction()?;
@@ -282,12 +273,13 @@ impl<'s> SharedAction<'s> {
     ///
     /// # Errors
     ///
-    /// [`Error::Refused`] with `Over`, `Suspended` or `NoObject`; [`Error::OutOfMemory`].
+    /// [`Error::Refused`] with `Over`, `Suspended` or `NoObject`; [`Error::OtherGuardian`];
+    /// [`Error::OutOfMemory`].
     ///
     /// ```
     /// # use argus_guardian::{Error, Guardian, Shared};
     /// # use std::time::Duration;
-    /// let mut guardian = Guardian::new()?;
+    /// let guardian = Guardian::new()?;
     /// let object = guardian.declare("atomic_array[int]")?;
     /// let shared = Shared::new(guardian, Duration::ZERO);
     /// assert!(shared.topaction()?.test_read(object)?);
@@ -307,7 +299,7 @@ impl<'s> SharedAction<'s> {
     /// ```
     /// # use argus_guardian::{Error, Guardian, Shared};
     /// # use std::time::Duration;
-    /// let mut guardian = Guardian::new()?;
+    /// let guardian = Guardian::new()?;
     /// let object = guardian.declare("atomic_array[int]")?;
     /// let shared = Shared::new(guardian, Duration::ZERO);
     /// let (first, second) = (shared.topaction()?, shared.topaction()?);
@@ -424,7 +416,7 @@ impl<'s> SharedAction<'s> {
     #[cfg(all(feature = "logged", unix))]
     pub(crate) fn commit_counted(self) -> Result<u64, Error> {
         let commit = Call::Commit(self.id);
-        let (reply, entries) = self.shared.call_counted(self.renewals, &commit)?;
+        let (reply, entries) = self.shared.call_counted(&commit)?;
         reply.answer()?.done()?;
         mem::forget(self);
         Ok(entries)
@@ -433,7 +425,6 @@ impl<'s> SharedAction<'s> {
 
 impl Drop for SharedAction<'_> {
     fn drop(&mut self) {
-        // A drop can't report an error.
-        let _ = self.call(&Call::Abort(self.id));
+        self.shared.abort_dropped(self.id);
     }
 }

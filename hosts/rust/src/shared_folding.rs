@@ -8,7 +8,7 @@ use std::time::Duration;
 
 impl Shared {
     // Folds the journal. When half of the numbers for actions are used, it renews the guardian.
-    pub(crate) fn fold(guardian: &mut Guardian) -> Result<(), CheckpointError> {
+    pub(crate) fn fold(guardian: &Guardian) -> Result<(), CheckpointError> {
         if guardian.actions_left() > Guardian::MAX_ACTIONS / 2 {
             guardian.checkpoint()
         } else {
@@ -31,8 +31,8 @@ impl Shared {
     }
 
     /// Folds the journal's entries: [`Guardian::checkpoint`]. When half of the numbers for actions
-    /// are used, it also renews the guardian ([`Guardian::renew`]): then an earlier [`ActionId`]
-    /// names another action or none, and each earlier [`SharedAction`] is over.
+    /// are used, it also renews the guardian ([`Guardian::renew`]): then each earlier
+    /// [`SharedAction`](crate::SharedAction) is over.
     ///
     /// # Errors
     ///
@@ -46,7 +46,7 @@ impl Shared {
     /// # Ok::<(), argus_guardian::Error>(())
     /// ```
     pub fn checkpoint(&self) -> Result<(), CheckpointError> {
-        Shared::fold(&mut self.lock().guardian)
+        Shared::fold(&self.lock().guardian)
     }
 
     /// Folds the journal's entries when no action is live, as [`checkpoint`](Self::checkpoint)
@@ -76,16 +76,16 @@ impl Shared {
     pub(crate) fn fold_waiting<T>(
         &self,
         patience: Duration,
-        mut fold: impl FnMut(&mut Guardian) -> Result<T, CheckpointError>,
+        mut fold: impl FnMut(&Guardian) -> Result<T, CheckpointError>,
     ) -> Result<T, CheckpointError> {
         let mut kept = self.lock();
-        let mut result = fold(&mut kept.guardian);
+        let mut result = fold(&kept.guardian);
         if !is_busy(&result) || patience.is_zero() {
             return result;
         }
         kept.folding += 1;
         kept = Shared::wait_while(kept, Wanted::NoLiveAction, patience, |kept| {
-            result = fold(&mut kept.guardian);
+            result = fold(&kept.guardian);
             is_busy(&result)
         });
         kept.folding -= 1;

@@ -6,7 +6,7 @@
 /// use argus_guardian::{ActionId, Guardian, Status};
 /// let mut guardian = Guardian::new()?;
 /// guardian.topaction()?.abort()?;
-/// assert_eq!(guardian.status(ActionId(0)), Some(Status::Aborted));
+/// assert_eq!(guardian.status(ActionId::numbered(0)), Some(Status::Aborted));
 /// # Ok::<(), argus_guardian::Error>(())
 /// ```
 #[derive(Debug, Clone, Copy, PartialEq, Eq, Hash)]

@@ -13,16 +13,12 @@ pub(crate) struct WaitingAccess {
     action: ActionId,
     // The action itself and its ancestors, whose locks don't conflict with its own.
     lineage: Vec<ActionId>,
-    // How often the guardian had been renewed when the action was begun.
-    renewals: u64,
 }
 
 impl WaitingAccess {
-    /// The call as an access by an action that was begun after so many renewals; the last argument returns an action
-    /// with its ancestors. `None`: the call is no access.
+    /// The call as an access; the last argument returns an action with its ancestors. `None`: the call is no access.
     pub(crate) fn by(
         call: &Call,
-        renewals: u64,
         lineage_of: impl FnOnce(ActionId) -> Vec<ActionId>,
     ) -> Option<WaitingAccess> {
         let (action, object, writes) = match *call {
@@ -35,12 +31,11 @@ impl WaitingAccess {
             writes,
             action,
             lineage: lineage_of(action),
-            renewals,
         })
     }
 
     /// Whether its lock is free.
-    pub(crate) fn may_be_made(&self, guardian: &mut Guardian) -> bool {
+    pub(crate) fn may_be_made(&self, guardian: &Guardian) -> bool {
         if self.writes {
             guardian.can_write(self.action, self.object)
         } else {
@@ -49,8 +44,8 @@ impl WaitingAccess {
     }
 
     /// Whether its action is over.
-    pub(crate) fn is_over(&self, guardian: &mut Guardian) -> bool {
-        guardian.renewals != self.renewals || guardian.status(self.action) != Some(Status::Live)
+    pub(crate) fn is_over(&self, guardian: &Guardian) -> bool {
+        guardian.status(self.action) != Some(Status::Live)
     }
 
     /// Whether both are accesses of one object, and at least one of them writes.

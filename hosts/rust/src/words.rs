@@ -2,12 +2,13 @@
 
 use crate::call::Call;
 use crate::change::Change;
+use crate::owner::Owner;
 use crate::query::Query;
 use crate::sys::kind;
+use crate::value::Value;
 use crate::{ActionId, ObjId};
 
 /// A call as the library takes it: its kind, and its arguments, zero if there is none.
-#[derive(Default)]
 pub(crate) struct Words {
     pub(crate) kind: u32,
     pub(crate) action: u32,
@@ -15,45 +16,61 @@ pub(crate) struct Words {
     pub(crate) first: i64,
     pub(crate) second: i64,
     pub(crate) text: String,
+    /// Whether the guardian takes all of its ids.
+    pub(crate) is_own: bool,
 }
 
 impl Words {
-    pub(crate) fn of(call: &Call) -> Words {
+    /// The words of a call of this guardian.
+    #[inline]
+    pub(crate) fn of(call: &Call, guardian: Owner) -> Words {
+        let by = |kind, action: &ActionId| Words::of_kind(kind).by(*action, guardian);
         match call {
             Call::Declare(shape) => Words {
-                kind: kind::DECLARE,
                 text: shape.clone(),
-                ..Words::default()
+                ..Words::of_kind(kind::DECLARE)
             },
-            Call::BeginTop => Words::of_action(kind::BEGIN_TOP, ActionId(0)),
-            Call::BeginSub(parent) => Words::of_action(kind::BEGIN_SUB, *parent),
-            Call::BeginNested(creator) => Words::of_action(kind::BEGIN_NESTED, *creator),
-            Call::Commit(action) => Words::of_action(kind::COMMIT, *action),
-            Call::Abort(action) => Words::of_action(kind::ABORT, *action),
-            Call::AbortOthers(action) => Words::of_action(kind::ABORT_OTHERS, *action),
-            Call::Ask(action, object, query) => Words::of_query(query).by(*action, *object),
-            Call::Alter(action, object, change) => Words::of_change(change).by(*action, *object),
-            Call::TestRead(action, object) => {
-                Words::of_action(kind::TEST_READ, *action).by(*action, *object)
-            }
-            Call::TestWrite(action, object) => {
-                Words::of_action(kind::TEST_WRITE, *action).by(*action, *object)
-            }
+            Call::BeginTop => Words::of_kind(kind::BEGIN_TOP),
+            Call::BeginSub(parent) => by(kind::BEGIN_SUB, parent),
+            Call::BeginNested(creator) => by(kind::BEGIN_NESTED, creator),
+            Call::Commit(action) => by(kind::COMMIT, action),
+            Call::Abort(action) => by(kind::ABORT, action),
+            Call::AbortOthers(action) => by(kind::ABORT_OTHERS, action),
+            Call::Ask(action, object, query) => Words::of_query(query)
+                .by(*action, guardian)
+                .on(*object, guardian),
+            Call::Alter(action, object, change) => Words::of_change(change, guardian)
+                .by(*action, guardian)
+                .on(*object, guardian),
+            Call::TestRead(action, object) => by(kind::TEST_READ, action).on(*object, guardian),
+            Call::TestWrite(action, object) => by(kind::TEST_WRITE, action).on(*object, guardian),
         }
     }
 
-    fn of_action(kind: u32, ActionId(action): ActionId) -> Words {
+    fn of_kind(kind: u32) -> Words {
         Words {
             kind,
-            action,
-            ..Words::default()
+            action: 0,
+            object: 0,
+            first: 0,
+            second: 0,
+            text: String::new(),
+            is_own: true,
         }
     }
 
-    fn by(self, ActionId(action): ActionId, ObjId(object): ObjId) -> Words {
+    fn by(self, action: ActionId, guardian: Owner) -> Words {
         Words {
-            action,
-            object,
+            action: action.number(),
+            is_own: self.is_own && action.is_for(guardian),
+            ..self
+        }
+    }
+
+    fn on(self, object: ObjId, guardian: Owner) -> Words {
+        Words {
+            object: object.number(),
+            is_own: self.is_own && object.is_for(guardian),
             ..self
         }
     }
@@ -72,36 +89,45 @@ impl Words {
             Query::TagValue(tag) => (kind::TAG_VALUE, i64::from(tag)),
         };
         Words {
-            kind,
             first,
-            ..Words::default()
+            ..Words::of_kind(kind)
         }
     }
 
-    fn of_change(change: &Change) -> Words {
-        let (kind, first, second, text) = match change {
-            Change::Create(content) => (kind::CREATE, 0, 0, content.to_string()),
-            Change::SetField(field, value) => {
-                (kind::SET_FIELD, i64::from(*field), 0, value.to_string())
+    fn of_change(change: &Change, guardian: Owner) -> Words {
+        let (kind, first, second, value) = match change {
+            Change::Create(content) => {
+                return Words {
+                    text: content.to_string(),
+                    is_own: content.is_for(guardian),
+                    ..Words::of_kind(kind::CREATE)
+                };
             }
-            Change::Store(place, value) => (kind::STORE, *place, 0, value.to_string()),
-            Change::Addh(value) => (kind::ADDH, 0, 0, value.to_string()),
-            Change::Addl(value) => (kind::ADDL, 0, 0, value.to_string()),
-            Change::Remh => (kind::REMH, 0, 0, String::new()),
-            Change::Reml => (kind::REML, 0, 0, String::new()),
-            Change::SetLow(low) => (kind::SET_LOW, *low, 0, String::new()),
-            Change::Trim(low, count) => (kind::TRIM, *low, *count, String::new()),
-            Change::ChangeTag(tag, value) => {
-                (kind::CHANGE_TAG, i64::from(*tag), 0, value.to_string())
-            }
-            Change::Touch => (kind::TOUCH, 0, 0, String::new()),
+            Change::SetField(field, value) => (kind::SET_FIELD, i64::from(*field), 0, Some(value)),
+            Change::Store(place, value) => (kind::STORE, *place, 0, Some(value)),
+            Change::Addh(value) => (kind::ADDH, 0, 0, Some(value)),
+            Change::Addl(value) => (kind::ADDL, 0, 0, Some(value)),
+            Change::Remh => (kind::REMH, 0, 0, None),
+            Change::Reml => (kind::REML, 0, 0, None),
+            Change::SetLow(low) => (kind::SET_LOW, *low, 0, None),
+            Change::Trim(low, count) => (kind::TRIM, *low, *count, None),
+            Change::ChangeTag(tag, value) => (kind::CHANGE_TAG, i64::from(*tag), 0, Some(value)),
+            Change::Touch => (kind::TOUCH, 0, 0, None),
         };
         Words {
-            kind,
             first,
             second,
-            text,
-            ..Words::default()
+            text: value.map_or_else(String::new, text_of),
+            is_own: value.is_none_or(|it| it.is_for(guardian)),
+            ..Words::of_kind(kind)
         }
+    }
+}
+
+// The written form. Most values are integers, which need no formatter.
+fn text_of(value: &Value) -> String {
+    match value {
+        Value::Int(number) => number.to_string(),
+        other => other.to_string(),
     }
 }

@@ -1,6 +1,5 @@
 //! `Writer`: writes the parts of values, however deep they are.
 
-use crate::ObjId;
 use crate::value::Value;
 use std::fmt::{self, Write};
 use std::slice;
@@ -77,7 +76,7 @@ impl<'v> Writer<'v> {
             Value::Bool(flag) => write!(f, "{flag}"),
             Value::Int(number) => write!(f, "{number}"),
             Value::Text(text) => write_text(f, text),
-            Value::Atomic(ObjId(number)) => write!(f, "@{number}"),
+            Value::Atomic(object) => write!(f, "@{}", object.number()),
             Value::Sequence(values) => self.enter(f, '[', values, ']'),
             Value::Fields(values) => self.enter(f, '{', values, '}'),
             Value::Choice(tag, value) => {

@@ -41,7 +41,7 @@ fn integers_and_truth_values_are_values() -> Result<(), Error> {
 
 #[test]
 fn a_topaction_at_once() -> Result<(), Error> {
-    let (mut guardian, record) = guardian()?;
+    let (guardian, record) = guardian()?;
     let made = guardian.call_each(&[
         ListedCall::from(Call::BeginTop),
         ListedCall::by(0, |a| Call::Ask(a, record, Query::Field(0))),
@@ -71,11 +71,11 @@ fn a_topaction_at_once() -> Result<(), Error> {
 
 #[test]
 fn what_ends_a_list() -> Result<(), Error> {
-    let (mut guardian, record) = guardian()?;
+    let (guardian, record) = guardian()?;
     let holder = guardian.call(&Call::BeginTop)?;
-    assert_eq!(holder, Reply::Begun(ActionId(1)));
+    assert_eq!(holder, Reply::Begun(ActionId::numbered(1)));
     guardian
-        .call(&Call::Alter(ActionId(1), record, Change::Touch))?
+        .call(&Call::Alter(ActionId::numbered(1), record, Change::Touch))?
         .answer()?
         .done()?;
     let made = guardian.call_each(&[
@@ -85,12 +85,16 @@ fn what_ends_a_list() -> Result<(), Error> {
     ])?;
     assert_eq!(
         made.replies,
-        [Reply::Begun(ActionId(2)), Reply::Refused(Refusal::Conflict)]
+        [
+            Reply::Begun(ActionId::numbered(2)),
+            Reply::Refused(Refusal::Conflict)
+        ]
     );
     assert_eq!(made.end, ListEnd::Unmet);
     let made = guardian.call_each(&[
-        ListedCall::from(Call::Ask(ActionId(2), record, Query::Whole)).demanding(Demand::Nothing),
-        ListedCall::from(Call::Abort(ActionId(2))),
+        ListedCall::from(Call::Ask(ActionId::numbered(2), record, Query::Whole))
+            .demanding(Demand::Nothing),
+        ListedCall::from(Call::Abort(ActionId::numbered(2))),
         ListedCall::by(5, Call::Commit),
     ])?;
     assert_eq!(made.replies.len(), 2);
@@ -100,7 +104,7 @@ fn what_ends_a_list() -> Result<(), Error> {
 
 #[test]
 fn a_signal_ends_a_list_where_none_may_come() -> Result<(), Error> {
-    let mut guardian = Guardian::new()?;
+    let guardian = Guardian::new()?;
     let array = guardian.declare("atomic_array[int]")?;
     let size = || ListedCall::by(0, |a| Call::Ask(a, array, Query::Size));
     let made = guardian.call_each(&[

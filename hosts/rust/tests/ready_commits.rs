@@ -24,7 +24,7 @@ fn what_is_logged_is_what_the_journal_then_has() -> Result<(), Error> {
     let (guardian, account, top) = with_account()?;
     let mut ready = guardian.ready_commit(top)?;
     let logged = ready.line()?;
-    let (mut guardian, committed) = ready.make();
+    let (guardian, committed) = ready.make();
     committed?;
     assert_eq!(logged, "3 commit a0 -> done\n");
     assert_eq!(guardian.entry(3)?, "3 commit a0 -> done");
@@ -34,13 +34,13 @@ fn what_is_logged_is_what_the_journal_then_has() -> Result<(), Error> {
 
 #[test]
 fn what_is_cancelled_is_as_before() -> Result<(), Error> {
-    let (mut guardian, account, top) = with_account()?;
+    let (guardian, account, top) = with_account()?;
     assert_eq!(guardian.shape(account)?, "atomic_record[balance:int]");
-    let mut guardian = guardian.ready_commit(top)?.cancel();
+    let guardian = guardian.ready_commit(top)?.cancel();
     assert_eq!(guardian.entries(), 3);
     assert_eq!(guardian.status(top), Some(Status::Live));
     assert_eq!(guardian.base(account)?, None);
-    let (mut guardian, committed) = guardian.ready_commit(top)?.make();
+    let (guardian, committed) = guardian.ready_commit(top)?.make();
     committed?;
     assert_eq!(guardian.base(account)?, Some(five()));
     Ok(())
@@ -48,9 +48,9 @@ fn what_is_cancelled_is_as_before() -> Result<(), Error> {
 
 #[test]
 fn a_refused_one_is_ready_too() -> Result<(), Error> {
-    let mut ready = Guardian::new()?.ready_commit(ActionId(7))?;
+    let mut ready = Guardian::new()?.ready_commit(ActionId::numbered(7))?;
     assert_eq!(ready.line()?, "0 commit a7 -> refused NoAction\n");
-    let (mut guardian, committed) = ready.make();
+    let (guardian, committed) = ready.make();
     assert_eq!(committed, Err(Error::Refused(Refusal::NoAction)));
     assert_eq!(guardian.entry(0)?, "0 commit a7 -> refused NoAction");
     Ok(())
@@ -61,7 +61,7 @@ fn it_may_go_to_another_thread() -> Result<(), Error> {
     let (guardian, account, top) = with_account()?;
     let mut ready = guardian.ready_commit(top)?;
     let made = thread::spawn(move || ready.line().map(|line| (line, ready.make())));
-    let (line, (mut guardian, committed)) = made.join().expect("it has no panic")?;
+    let (line, (guardian, committed)) = made.join().expect("it has no panic")?;
     committed?;
     assert_eq!(line, "3 commit a0 -> done\n");
     assert_eq!(guardian.base(account)?, Some(five()));

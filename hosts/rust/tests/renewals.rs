@@ -29,11 +29,14 @@ fn objects_and_entries_go_on() -> Result<(), Error> {
     guardian.renew()?;
     assert_eq!(guardian.base(counter)?, Some("{5}".parse()?));
     assert_eq!((guardian.actions(), guardian.entries()), (0, 4));
-    assert_eq!(guardian.status(ActionId(0)), None);
+    assert_eq!(guardian.status(ActionId::numbered(0)), None);
     assert_eq!(guardian.entry(3), Err(Error::NotThere));
     guardian.topaction()?.commit()?;
     assert_eq!(guardian.entry(4)?, "4 begin_top -> a0");
-    assert_eq!(guardian.status(ActionId(0)), Some(Status::Committed));
+    assert_eq!(
+        guardian.status(ActionId::numbered(0)),
+        Some(Status::Committed)
+    );
     Ok(())
 }
 
@@ -47,19 +50,19 @@ fn a_sharing_renews_once_half_of_the_numbers_are_gone() -> Result<(), Error> {
     shared.topaction()?.commit()?;
     shared.checkpoint_waiting(Duration::ZERO)?;
     assert_eq!(shared.actions_left(), Guardian::MAX_ACTIONS);
-    assert_eq!(shared.topaction()?.id(), ActionId(0));
+    assert_eq!(shared.topaction()?.id(), ActionId::numbered(0));
     Ok(())
 }
 
 #[test]
 fn what_was_begun_before_a_renewal_is_over() -> Result<(), Error> {
-    let mut guardian = Guardian::new()?;
+    let guardian = Guardian::new()?;
     let object = guardian.declare("atomic_array[int]")?;
     let shared = Shared::new(guardian, Duration::ZERO);
     let top = shared.topaction()?;
     let sub = top.subaction()?;
     assert_eq!(
-        shared.call(&Call::Abort(ActionId(0)))?,
+        shared.call(&Call::Abort(ActionId::numbered(0)))?,
         Reply::Answered(argus_guardian::Answer::Done)
     );
     shared.with(Guardian::renew)?;
@@ -71,7 +74,7 @@ fn what_was_begun_before_a_renewal_is_over() -> Result<(), Error> {
     assert_eq!(sub.commit(), OVER);
     drop(top);
     assert_eq!(
-        shared.with(|guardian| guardian.status(ActionId(0))),
+        shared.with(|guardian| guardian.status(ActionId::numbered(0))),
         Some(Status::Live)
     );
     other.lock(object)?;

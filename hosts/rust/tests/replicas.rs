@@ -19,8 +19,8 @@ impl Draws {
 
     /// A call of any kind, by one of the newest actions, and mostly one that may be refused.
     fn call(&mut self, actions: u32) -> Call {
-        let action = ActionId((actions + 1).saturating_sub(self.below(8)));
-        let object = ObjId(self.below(OBJECTS + 1));
+        let action = ActionId::numbered((actions + 1).saturating_sub(self.below(8)));
+        let object = ObjId::numbered(self.below(OBJECTS + 1));
         let number = i64::from(self.below(10));
         match self.below(16) {
             0 => Call::BeginTop,
@@ -49,14 +49,14 @@ fn empty() -> Content {
 
 /// A guardian of some arrays, and what it answers to each call of the log.
 fn replica(log: &[Call]) -> Result<(Guardian, Vec<Reply>), Error> {
-    let mut guardian = Guardian::new()?;
+    let guardian = Guardian::new()?;
     let replies: Result<Vec<Reply>, Error> = log.iter().map(|call| guardian.call(call)).collect();
     Ok((guardian, replies?))
 }
 
 #[test]
 fn replicas_answer_the_same() -> Result<(), Error> {
-    let mut leader = Guardian::new()?;
+    let leader = Guardian::new()?;
     let mut draws = Draws(1);
     let mut log = vec![Call::Declare("atomic_array[int]".to_owned()); OBJECTS as usize];
     let mut replies = Vec::new();
@@ -74,7 +74,7 @@ fn replicas_answer_the_same() -> Result<(), Error> {
         (300..2700).contains(&refusals),
         "{refusals} refusals: too few or too many"
     );
-    let (mut follower, told) = replica(&log)?;
+    let (follower, told) = replica(&log)?;
     assert_eq!(told, replies);
     for listing in [Listing::Bases, Listing::Stacks, Listing::Journal] {
         assert_eq!(follower.list(listing)?, leader.list(listing)?);
@@ -85,7 +85,7 @@ fn replicas_answer_the_same() -> Result<(), Error> {
 #[test]
 fn the_journal_tells_calls_and_replies() -> Result<(), Error> {
     let mut draws = Draws(2);
-    let mut guardian = Guardian::new()?;
+    let guardian = Guardian::new()?;
     guardian.declare("atomic_array[int]")?;
     for number in 1..500 {
         let call = draws.call(guardian.actions());
@@ -101,7 +101,7 @@ fn the_journal_tells_calls_and_replies() -> Result<(), Error> {
 #[test]
 fn an_audit_finds_what_is_there() -> Result<(), Error> {
     let mut draws = Draws(3);
-    let mut guardian = Guardian::new()?;
+    let guardian = Guardian::new()?;
     guardian.declare("atomic_array[int]")?;
     for _ in 0..500 {
         let call = draws.call(guardian.actions());
@@ -109,7 +109,7 @@ fn an_audit_finds_what_is_there() -> Result<(), Error> {
     }
     let audit = guardian.list(Listing::Audit)?;
     for object in 0..guardian.objects() {
-        let base = guardian.base(ObjId(object))?;
+        let base = guardian.base(ObjId::numbered(object))?;
         let told = base.map_or_else(|| "absent".to_owned(), |content| content.to_string());
         assert!(audit.contains(&format!("o{object} base {told}\n")));
     }

@@ -47,12 +47,15 @@ fn a_guardian_goes_on_where_the_lines_end() -> Result<(), Error> {
     assert_eq!(dropped, 0);
     assert_eq!(guardian.list(Listing::Journal)?, LINES);
     assert_eq!(guardian.actions_left(), Guardian::MAX_ACTIONS - 2);
-    assert_eq!(guardian.status(ActionId(0)), Some(Status::Committed));
-    assert_eq!(guardian.status(ActionId(1)), Some(Status::Live));
+    assert_eq!(
+        guardian.status(ActionId::numbered(0)),
+        Some(Status::Committed)
+    );
+    assert_eq!(guardian.status(ActionId::numbered(1)), Some(Status::Live));
     guardian.abort_live()?;
     let five = Content::Record(vec![Value::Int(5)]);
-    assert_eq!(guardian.base(ObjId(0))?, Some(five));
-    assert_eq!(guardian.topaction()?.id(), ActionId(2));
+    assert_eq!(guardian.base(ObjId::numbered(0))?, Some(five));
+    assert_eq!(guardian.topaction()?.id(), ActionId::numbered(2));
     Ok(())
 }
 
@@ -69,7 +72,7 @@ fn a_listing_comes_in_pieces_of_each_size() -> Result<(), Error> {
             assert!(is_whole || taken.end == TakenEnd::Torn && !left.contains(&b'\n'));
         }
         assert_eq!(left, b"");
-        let mut guardian = resuming.into_guardian()?.guardian;
+        let guardian = resuming.into_guardian()?.guardian;
         assert_eq!(guardian.list(Listing::Journal)?, LINES);
     }
     Ok(())
@@ -81,9 +84,9 @@ fn an_opening_may_come_in_part() -> Result<(), Error> {
     assert_eq!(opened.dropped, 38);
     assert_eq!(opened.guardian.objects(), 1);
     assert_eq!(opened.guardian.entries(), 4);
-    assert_eq!(opened.guardian.topaction()?.id(), ActionId(1));
+    assert_eq!(opened.guardian.topaction()?.id(), ActionId::numbered(1));
     let whole = format!("{OPENING}opening o2 atomic_array[int] absent\n");
-    let mut opened = taken(&whole)?.into_guardian()?;
+    let opened = taken(&whole)?.into_guardian()?;
     assert_eq!(opened.dropped, 0);
     assert_eq!(opened.guardian.list(Listing::Journal)?, whole);
     Ok(())
@@ -118,7 +121,7 @@ fn what_came_before_a_fault_is_a_guardian() -> Result<(), Error> {
     assert_eq!(taken.lines, 1);
     let taken = resuming.take("1 abort a0 -> done\n");
     assert_eq!((taken.bytes, taken.end), (19, TakenEnd::Whole));
-    let mut guardian = resuming.into_guardian()?.guardian;
+    let guardian = resuming.into_guardian()?.guardian;
     let lines = "0 begin_top -> a0\n1 abort a0 -> done\n";
     assert_eq!(guardian.list(Listing::Journal)?, lines);
     Ok(())

@@ -11,7 +11,7 @@ use std::time::Duration;
 
 /// A shared guardian with a record of 0.
 fn with_counter(patience: Duration) -> Result<(Shared, ObjId), Error> {
-    let mut guardian = Guardian::new()?;
+    let guardian = Guardian::new()?;
     let counter = guardian.declare("atomic_record[n:int]")?;
     let shared = Shared::new(guardian, patience);
     shared.run(|top| top.alter(counter, Change::Create("{0}".parse()?))?.done())?;

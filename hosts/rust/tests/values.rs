@@ -13,7 +13,7 @@ fn what_becomes_a_value() {
         (true.into(), "true"),
         ("a".into(), r#""a""#),
         (String::from("a").into(), r#""a""#),
-        (ObjId(3).into(), "@3"),
+        (ObjId::numbered(3).into(), "@3"),
     ] {
         assert_eq!(value.to_string(), text);
     }
@@ -24,7 +24,10 @@ fn what_is_taken_out_of_a_value() {
     assert_eq!(i64::try_from(Value::Int(7)), Ok(7));
     assert_eq!(bool::try_from(Value::Bool(true)), Ok(true));
     assert_eq!(String::try_from(Value::from("a")), Ok("a".to_owned()));
-    assert_eq!(ObjId::try_from(Value::Atomic(ObjId(3))), Ok(ObjId(3)));
+    assert_eq!(
+        ObjId::try_from(Value::Atomic(ObjId::numbered(3))),
+        Ok(ObjId::numbered(3))
+    );
     assert_eq!(i64::try_from(Value::Null), Err(Error::OtherAnswer));
     assert_eq!(bool::try_from(Value::Int(1)), Err(Error::OtherAnswer));
     assert_eq!(String::try_from(Value::Null), Err(Error::OtherAnswer));

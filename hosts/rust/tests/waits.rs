@@ -234,7 +234,7 @@ fn abort_others(shared: &Shared, begun: &AtomicU32, is_done: &AtomicBool) -> Res
     while !is_done.load(Ordering::Relaxed) {
         let action = begun.load(Ordering::Relaxed);
         if action != last {
-            drop(shared.call(&Call::Abort(ActionId(action)))?);
+            drop(shared.call(&Call::Abort(ActionId::numbered(action)))?);
             last = action;
         }
         thread::yield_now();
@@ -252,7 +252,7 @@ fn no_wake_up_is_lost() -> Result<(), Error> {
         let mut draws = Draws(number);
         (0..ROUNDS).try_for_each(|_| {
             let top = shared.topaction()?;
-            begun.store(top.id().0, Ordering::Relaxed);
+            begun.store(top.id().number(), Ordering::Relaxed);
             let ended = work(&shared, top, &records, &mut draws);
             ended.or_else(|error| if error == OVER { Ok(()) } else { Err(error) })
         })

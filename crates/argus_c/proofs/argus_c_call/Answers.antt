@@ -1,10 +1,7 @@
--- For the goal that its edit opens: the edit is refused without a search.
+-- What isn't read as a call has a status of an error.
 use Rattle.std.proofs.Common.{rules}
 use Rattle.argus_c.proofs.argus_c_call.Goals.{in-Err, in-Ok-call}
 use Rattle.argus_c.proofs.argus_c_call.Goals as goal
-
-pub returns-clause-made : goal.returns-clause-made
-returns-clause-made c = search rules
 
 -- A status from 10 on is that of an error; those of outcomes are below.
 pub returns-clause-unread : goal.returns-clause-unread

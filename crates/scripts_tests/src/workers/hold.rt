@@ -1,12 +1,12 @@
 //! `Hold`: what happens when an arm comes to a step.
 
 use crate::workers::place::Place;
-use test_rows::{RowFault, first_word};
+use test_rows::RowFault;
 
 /// What happens when an arm comes to a step.
 ///
 /// ```text
-/// let hold = Hold::of_line("hold 1 0 until 0 1")?;        // Hold::Until { .. }
+/// let hold = Hold::of_words("hold", "1 0 until 0 1")?;        // Hold::Until { .. }
 /// ```
 #[derive(Clone, Copy)]
 pub(crate) enum Hold {
@@ -22,32 +22,22 @@ pub(crate) enum Hold {
 
 impl Hold {
     /// As `hold 1 0 until 0 1`, `slow 0 1000`, `refuse 0 1`, `allow 2 0`.
-    pub(crate) fn of_line(line: &str) -> Result<Option<Hold>, RowFault> {
-        let (word, rest) = first_word(line);
+    pub(crate) fn of_words(word: &str, rest: &str) -> Result<Hold, RowFault> {
         match word {
-            "hold" => Ok(Some(until(rest)?)),
-            "slow" => Ok(Some(slow(rest)?)),
-            "refuse" => Ok(Some(Hold::Refuse(Place::of_words(rest)?))),
-            "allow" => Ok(Some(Hold::Allow(Place::of_words(rest)?))),
-            _ => Ok(None),
+            "hold" => {
+                let (at, other) = rest.split_once(" until ").ok_or(RowFault::NotSpelled)?;
+                Ok(Hold::Until {
+                    at: Place::of_words(at)?,
+                    other: Place::of_words(other)?,
+                })
+            }
+            "slow" => {
+                let Place { arm, step: turns } = Place::of_words(rest)?;
+                Ok(Hold::Slow { arm, turns })
+            }
+            "refuse" => Ok(Hold::Refuse(Place::of_words(rest)?)),
+            "allow" => Ok(Hold::Allow(Place::of_words(rest)?)),
+            _ => Err(RowFault::NotSpelled),
         }
     }
-}
-
-fn until(words: &str) -> Result<Hold, RowFault> {
-    match words.split_once(" until ") {
-        Some((at, other)) => Ok(Hold::Until {
-            at: Place::of_words(at)?,
-            other: Place::of_words(other)?,
-        }),
-        None => Err(RowFault::NotSpelled),
-    }
-}
-
-fn slow(words: &str) -> Result<Hold, RowFault> {
-    let (arm, turns) = first_word(words);
-    Ok(Hold::Slow {
-        arm: arm.parse::<u32>()?,
-        turns: turns.parse::<u32>()?,
-    })
 }

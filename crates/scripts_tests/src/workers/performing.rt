@@ -3,11 +3,10 @@
 use crate::workers::done::Done;
 use crate::workers::plan::Plan;
 use crate::workers::ran::Ran;
-use crate::workers::settling::settle;
-use crate::workers::telling::told_made;
+use crate::workers::telling::{told_made, told_run};
 use crate::workers::watched::Watched;
 use crate::workers::watching::{brief_all, look_again, watch_all};
-use anyhow::Result;
+use anyhow::{Result, anyhow};
 use argus_commands::{Gate, RunFault, run_shared};
 use argus_guardian::{Looker, Parts, Seat, Shared, Sharing};
 use argus_values::Room;
@@ -36,14 +35,18 @@ pub(crate) fn perform<
     let texts = plan.setting.texts;
     let made = told_made(texts, seats.as_slice())?;
     let lookers = brief_all(&rt, texts, &shared, watched?)?;
-    let guardian = match &report {
-        Ok(report) if !plan.is_tight => { settle(plan, shared, seats, report.receipts.as_slice())? }
-        Ok(_) | Err(_) => settle(plan, shared, seats, &[])?,
+    let settled = match &report {
+        Ok(report) if !plan.is_tight => shared.settle(seats, report.receipts.as_slice()),
+        Ok(_) | Err(_) => shared.settle(seats, &[]),
+    };
+    let guardian = match settled {
+        Ok(guardian) => guardian,
+        Err(unsettled) => return Err(anyhow!("a run isn't settled: {}", unsettled.fault)),
     };
     look_again(texts, &guardian, lookers)?;
     Ok(Ran {
-        guardian,
-        report,
+        is_done: report.is_ok(),
+        told: told_run(texts, &report, &guardian)?,
         made,
         is_spent,
     })

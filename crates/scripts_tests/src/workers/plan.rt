@@ -20,6 +20,4 @@ pub(crate) struct Plan<'a> {
     pub(crate) workers: u8,
     pub(crate) lookers: u8,
     pub(crate) patience: u32,
-    /// Settlements that are refused, a line each.
-    pub(crate) settlements: &'a str,
 }

@@ -1,20 +1,18 @@
 //! `Ran`: a run that is settled.
 
-use argus_commands::{RunFault, RunReport};
-use argus_guardian::Guardian;
 use argus_values::Room;
 
-/// What came of a run: the guardian after the settlement, what was reported, how many calls each
-/// seat made, and whether no allocation was left.
+/// What came of a run: whether it was done, what is told of it, how many calls each seat made, and
+/// whether no allocation was left.
 ///
 /// ```text
 /// let ran = run(rt, plan, &NoGate)?;
-/// assert!(rt; ran.report.is_ok());
+/// compare(rt, ran.told.as_str(), wanted)?;
 /// ```
 #[derive(Drop)]
 pub(crate) struct Ran {
-    pub(crate) guardian: Guardian,
-    pub(crate) report: Result<RunReport, RunFault>,
+    pub(crate) is_done: bool,
+    pub(crate) told: String<Room>,
     pub(crate) made: String<Room>,
     pub(crate) is_spent: bool,
 }

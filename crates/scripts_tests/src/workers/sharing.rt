@@ -24,7 +24,7 @@ pub(crate) fn run<R: Threads + Wait + Copy + Drop + Send + Sync, G: Gate + Sync>
     plan: Plan<'_>,
     gate: &G,
 ) -> Result<Ran> {
-    let guardian = guardian_after(plan.setting.heap, plan.setting.texts, plan.before)?;
+    let guardian = guardian_after(plan.setting.heap, plan.before)?;
     let blank = Blank::new(u64::from(plan.workers) + 1);
     share_as::<Brand, R, G>(rt, plan, gate, guardian, blank, Keeper::new())
 }

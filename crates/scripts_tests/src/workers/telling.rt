@@ -1,6 +1,6 @@
 //! What comes of a run, as a row says it.
 
-use argus_commands::{ArmOutcome, RunReport};
+use argus_commands::{ArmOutcome, RunFault, RunReport};
 use argus_guardian::{Guardian, Receipt, Seat, Sharing};
 use argus_journal::{Entry, write_entry};
 use argus_values::{Heap, ObjId, OutOfMemory, Room};
@@ -31,31 +31,31 @@ pub(crate) fn told_bases(heap: Heap, guardian: &Guardian) -> Result<String<Room>
     Ok(out)
 }
 
-/// What became of each arm, a line each.
-pub(crate) fn told_arms(heap: Heap, report: &RunReport) -> Result<String<Room>, OutOfMemory> {
+/// Each call with its reply, in script order, and what became of each arm; or the fault. Then the
+/// bases. A line each.
+pub(crate) fn told_run(
+    heap: Heap,
+    report: &Result<RunReport, RunFault>,
+    guardian: &Guardian,
+) -> Result<String<Room>, OutOfMemory> {
     let mut out = String::new(heap.room());
-    for outcome in report.outcomes.as_slice() {
-        tell_arm(*outcome, &mut out)?;
+    match report {
+        Ok(report) => tell_report(report, &mut out)?,
+        Err(fault) => writeln!(out, "{fault}")?,
     }
+    let bases = told_bases(heap, guardian)?;
+    writeln!(out, "bases{bases}")?;
     Ok(out)
 }
 
-fn tell_arm(outcome: ArmOutcome, out: &mut String<Room>) -> Result<(), OutOfMemory> {
-    write!(out, "{} {}", outcome.coenter, outcome.arm)?;
-    if let Some(action) = outcome.action {
-        tell_action(action, out)?;
-    }
-    writeln!(out, " {:?}", outcome.ended)?;
-    Ok(())
-}
-
-/// Each call with its reply, in script order, a line each.
-pub(crate) fn told_receipts(heap: Heap, report: &RunReport) -> Result<String<Room>, OutOfMemory> {
-    let mut out = String::new(heap.room());
+fn tell_report(report: &RunReport, out: &mut String<Room>) -> Result<(), OutOfMemory> {
     for receipt in report.receipts.as_slice() {
-        tell_receipt(receipt, &mut out)?;
+        tell_receipt(receipt, out)?;
     }
-    Ok(out)
+    for outcome in report.outcomes.as_slice() {
+        tell_arm(*outcome, out)?;
+    }
+    Ok(())
 }
 
 fn tell_receipt(receipt: &Receipt, out: &mut String<Room>) -> Result<(), OutOfMemory> {
@@ -67,16 +67,17 @@ fn tell_receipt(receipt: &Receipt, out: &mut String<Room>) -> Result<(), OutOfMe
     let mut line = String::new(heap.room());
     write_entry(receipt.at, &entry, &mut line)?;
     let (_, told) = first_word(line.as_str());
-    out.push_str(told)?;
-    out.push_str("\n")?;
+    writeln!(out, "{told}")?;
     Ok(())
 }
 
-/// Whether the text is one of those that `or` separates.
-pub(crate) fn is_among(wanted: &str, told: &str) -> bool {
-    let mut is_there = false;
-    for one in wanted.split(" or ") {
-        is_there = is_there || one == told;
+/// An arm: its coenter, its number, its action, and how it ended.
+pub(crate) fn tell_arm(outcome: ArmOutcome, out: &mut String<Room>) -> Result<(), OutOfMemory> {
+    write!(out, "arm {} {}", outcome.coenter, outcome.arm)?;
+    match outcome.action {
+        Some(action) => tell_action(action, out)?,
+        None => tell_word("none", out)?,
     }
-    is_there
+    writeln!(out, " {:?}", outcome.ended)?;
+    Ok(())
 }

@@ -4,7 +4,7 @@ use crate::workers::telling::told_bases;
 use crate::workers::watched::Watched;
 use anyhow::{Result, ensure};
 use argus_guardian::{Guardian, LookFault, Looker, Shared, Sharing};
-use argus_values::{Content, Heap, ObjId, OutOfMemory, Room};
+use argus_values::{Heap, ObjId, OutOfMemory, Room};
 use std::alloc::AllocError;
 use std::sync::Wait;
 use std::thread::{Threads, map_vec};
@@ -28,31 +28,19 @@ pub(crate) fn watch_all<N: Sharing + Send + Sync, R: Threads + Wait + Drop + Sen
 fn look_often<N: Sharing>(heap: Heap, mut looker: Looker<N>) -> Watched<N> {
     let mut agrees = true;
     for _look in 0..LOOKS {
-        agrees = agrees && finds_the_same(heap, &mut looker);
+        agrees = agrees
+            && match told_look(heap, &mut looker) {
+                Ok(found) => is_twice(found.as_bytes()),
+                Err(_) => false,
+            };
     }
     Watched { looker, agrees }
 }
 
-fn finds_the_same<N: Sharing>(heap: Heap, looker: &mut Looker<N>) -> bool {
-    match looker.look(heap, &LOOKED_AT) {
-        Ok(found) => are_same(found.as_slice()),
-        Err(_) => false,
-    }
-}
-
-fn are_same(found: &[Option<Content>]) -> bool {
-    match found {
-        [first, second] => says_the_same(first, second),
-        [] | [_] | [_, _, _, ..] => false,
-    }
-}
-
-fn says_the_same(first: &Option<Content>, second: &Option<Content>) -> bool {
-    match (first, second) {
-        (Some(one), Some(other)) => one == other,
-        (None, None) => true,
-        (Some(_), None) | (None, Some(_)) => false,
-    }
+// Whether both halves are the same.
+fn is_twice(found: &[u8]) -> bool {
+    let (one, other) = found.split_at(found.len() / 2);
+    one == other
 }
 
 /// A looker that was briefed, and what it found then.
@@ -101,19 +89,17 @@ pub(crate) fn look_again<N: Sharing>(
     Ok(())
 }
 
+// What the looker finds in the objects that it looks at.
 fn told_look<N: Sharing>(heap: Heap, looker: &mut Looker<N>) -> Result<String<Room>, OutOfMemory> {
     let mut out = String::new(heap.room());
     match looker.look(heap, &LOOKED_AT) {
-        Ok(found) => tell_contents(found.as_slice(), &mut out)?,
+        Ok(found) => {
+            for content in &found {
+                tell_content(content, &mut out)?;
+            }
+        }
         Err(LookFault::Closed) => tell_word("closed", &mut out)?,
         Err(LookFault::Memory) => return Err(OutOfMemory),
     }
     Ok(out)
-}
-
-fn tell_contents(found: &[Option<Content>], out: &mut String<Room>) -> Result<(), OutOfMemory> {
-    for content in found {
-        tell_content(content, out)?;
-    }
-    Ok(())
 }

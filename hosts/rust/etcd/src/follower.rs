@@ -29,7 +29,7 @@ use std::time::Duration;
 /// let mut campaign = Campaign::begin(&options, "host-1")?;
 /// let leadership = loop {
 ///     follower.follow(Duration::from_millis(100))?;
-///     let (base, position) = follower.read(|guardian| guardian.base(ObjId(0)))?;
+///     let (base, position) = follower.read(|guardian| guardian.base(ObjId::numbered(0)))?;
 ///     println!("{base:?} {position}");
 ///     if let Some(leadership) = campaign.poll()? {
 ///         break leadership;
@@ -132,25 +132,38 @@ impl Follower {
     }
 
     /// Reads from the guardian, and returns the position that this reflects. Bases are what has committed up to
-    /// there; actions may be live.
+    /// there; actions may be live. The ids of objects that it returns are good for later reads, too, and for the guardian
+    /// that [leads](Self::lead).
     ///
     /// # Errors
     ///
     /// Why the follower has stopped, if it has: its guardian may have made a call that the log doesn't say.
     /// [`LogError::Damaged`] and [`LogError::Guardian`], if no guardian can be made of an opening; `Damaged`, if `what`
-    /// made a call, so that the journal has grown: the follower has stopped then. Others as of
+    /// made a call, or folded or renewed the journal: the follower has stopped then. Others as of
     /// [`follow`](Self::follow), if an opening was read in part.
     ///
     /// ```no_run
     /// # use argus_guardian::{Listing, Guardian};
     /// # use argus_guardian_etcd::{EtcdOptions, Follower, LogError};
     /// # let mut follower = Follower::begin(&EtcdOptions::at(["http://127.0.0.1:2379"]))?;
+    /// # let mut other = Guardian::new()?;
     /// let (bases, position) = follower.read(|guardian| guardian.list(Listing::Bases))?;
+    /// # Ok::<(), LogError>(())
+    /// ```
+    ///
+    /// Another guardian can't take its place:
+    ///
+    /// ```compile_fail,E0308
+    /// # use argus_guardian::{Listing, Guardian};
+    /// # use argus_guardian_etcd::{EtcdOptions, Follower, LogError};
+    /// # let mut follower = Follower::begin(&EtcdOptions::at(["http://127.0.0.1:2379"]))?;
+    /// # let mut other = Guardian::new()?;
+    /// let (bases, position) = follower.read(|guardian| std::mem::swap(guardian, &mut other))?;
     /// # Ok::<(), LogError>(())
     /// ```
     pub fn read<T>(
         &mut self,
-        what: impl FnOnce(&mut Guardian) -> T,
+        what: impl FnOnce(&Guardian) -> T,
     ) -> Result<(T, Position), LogError> {
         self.check_going()?;
         if self.reader.is_opening {
@@ -165,9 +178,9 @@ impl Follower {
                 return Err(error);
             }
         };
-        let entries = guardian.entries();
+        let before = counts(guardian);
         let said = what(guardian);
-        if guardian.entries() != entries {
+        if counts(guardian) != before {
             let error = self.reader.damage(None, "a reader made a call");
             self.stopped = Some(error.clone());
             return Err(error);
@@ -228,4 +241,13 @@ impl Follower {
             },
         ))
     }
+}
+
+// What a call, a checkpoint or a renewal changes.
+fn counts(guardian: &Guardian) -> (u64, u64, u32) {
+    (
+        guardian.entries(),
+        guardian.first_entry(),
+        guardian.actions(),
+    )
 }

@@ -32,7 +32,7 @@ impl Recovered {
     }
 
     /// The guardian of all that was taken.
-    pub(crate) fn guardian(&mut self) -> Result<&mut Guardian, LineError> {
+    pub(crate) fn guardian(&mut self) -> Result<&Guardian, LineError> {
         if let State::Recovering(_) = self.state {
             self.state = match std::mem::replace(&mut self.state, State::Lost) {
                 State::Recovering(recovery) => {
@@ -41,7 +41,7 @@ impl Recovered {
                 other => other,
             };
         }
-        match &mut self.state {
+        match &self.state {
             State::Made(guardian) => Ok(guardian),
             _ => Err(LineError::OutOfMemory),
         }
@@ -66,8 +66,13 @@ impl Recovered {
 impl Takes for Recovered {
     fn begin_anew(&mut self, is_next: bool) -> Result<(), LineError> {
         self.before = if is_next { Some(self.bases()?) } else { None };
-        let recovery = Recovery::new().map_err(|_| LineError::OutOfMemory)?;
-        self.state = State::Recovering(recovery);
+        // Objects keep their ids: a reader may have some.
+        let recovery = match &self.state {
+            State::Recovering(recovery) => recovery.anew(),
+            State::Made(guardian) => Recovery::after(guardian),
+            State::Lost => Recovery::new(),
+        };
+        self.state = State::Recovering(recovery.map_err(|_| LineError::OutOfMemory)?);
         Ok(())
     }
 
@@ -94,7 +99,7 @@ impl Takes for Recovered {
 }
 
 // Makes the call of a line, and compares the line that the library has of it.
-fn make_again(guardian: &mut Guardian, line: u64, text: &str) -> Result<(), LineError> {
+fn make_again(guardian: &Guardian, line: u64, text: &str) -> Result<(), LineError> {
     let no_entry = |_| fault(line, format!("`{text}`: it isn't the line of an entry"));
     let (number, call) = Call::of_line(text).map_err(no_entry)?;
     let next = guardian.entries();

@@ -91,7 +91,7 @@ impl Bank {
         }
         let mut records = Records::default();
         for number in 0..logged.objects()? {
-            records.take(&logged.object(ObjId(number))?);
+            records.take(&logged.object(ObjId::numbered(number))?);
         }
         let bank = Bank {
             logged,

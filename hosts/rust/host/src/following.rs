@@ -41,9 +41,9 @@ impl Following {
     /// What an account has, and the position that this reflects.
     pub(crate) fn balance(&mut self, account: u32) -> Result<(Option<i64>, Position), LogError> {
         let (records, taken) = (&mut self.records, &mut self.taken);
-        let (balance, position) = self.follower.read(|guardian: &mut Guardian| {
+        let (balance, position) = self.follower.read(|guardian: &Guardian| {
             while *taken < guardian.objects() {
-                records.take(&guardian.object(ObjId(*taken))?);
+                records.take(&guardian.object(ObjId::numbered(*taken))?);
                 *taken += 1;
             }
             let record = records.account(account);

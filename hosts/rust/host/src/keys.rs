@@ -117,17 +117,17 @@ mod tests {
     #[test]
     fn records_that_are_there_count() {
         let mut keys = Keys::with_room(100);
-        keys.add_unused((0..64).map(ObjId));
+        keys.add_unused((0..64).map(ObjId::numbered));
         assert_eq!((keys.most(), keys.missing()), (100, 36));
-        keys.add_unused((64..100).map(ObjId));
+        keys.add_unused((64..100).map(ObjId::numbered));
         assert_eq!((keys.most(), keys.missing()), (100, 0));
         // They were made when more were asked for.
         let mut fewer = Keys::with_room(64);
-        fewer.add_unused((0..100).map(ObjId));
+        fewer.add_unused((0..100).map(ObjId::numbered));
         assert_eq!((fewer.most(), fewer.missing()), (100, 0));
         // There is no room for more.
         let mut full = Keys::with_room(100);
-        full.add_unused((0..64).map(ObjId));
+        full.add_unused((0..64).map(ObjId::numbered));
         full.grow_no_more();
         assert_eq!((full.most(), full.missing()), (64, 0));
     }

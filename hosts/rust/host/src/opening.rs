@@ -38,7 +38,7 @@ fn open_files(folder: &Path) -> Result<Opened, Box<dyn Error>> {
     if let Some(torn) = &found.torn {
         eprintln!("argus-host: cut off: {torn}");
     }
-    let mut guardian = recovery
+    let guardian = recovery
         .into_guardian()
         .map_err(|error| log.not_taken(error))?;
     log.check_next(guardian.entries())?;
@@ -51,7 +51,7 @@ fn open_etcd(options: &EtcdOptions, leadership: Leadership) -> Result<Opened, Bo
         entries += batch.entries;
         recovery.take(batch.lines)
     })?;
-    let mut guardian = recovery.into_guardian().map_err(|error| match error {
+    let guardian = recovery.into_guardian().map_err(|error| match error {
         LineError::Fault { why, .. } => why,
         LineError::OutOfMemory => "out of memory".to_owned(),
     })?;

@@ -19,8 +19,8 @@ pub(crate) fn verify(folder: &Path) -> ExitCode {
             eprintln!("argus-host: {} has no log", folder.display());
             ExitCode::from(NOT_READ)
         }
-        Ok((found, mut guardian)) => {
-            print_found(&found, &mut guardian);
+        Ok((found, guardian)) => {
+            print_found(&found, &guardian);
             ExitCode::SUCCESS
         }
         Err(error @ OpenError::Damaged(_)) => {
@@ -38,12 +38,12 @@ fn read(folder: &Path) -> Result<(Found, Guardian), OpenError> {
     let mut recovery = Recovery::new()?;
     let log = FileLog::read(Folder::open(folder)?, |batch| recovery.take(batch.lines))?;
     let guardian = recovery.into_guardian();
-    let mut guardian = guardian.map_err(|error: LineError| log.not_taken(error))?;
+    let guardian = guardian.map_err(|error: LineError| log.not_taken(error))?;
     log.check_next(guardian.entries())?;
     Ok((log.found().clone(), guardian))
 }
 
-fn print_found(found: &Found, guardian: &mut Guardian) {
+fn print_found(found: &Found, guardian: &Guardian) {
     println!("segments {}", found.segments);
     println!("batches {}", found.batches);
     println!("entries {}, the next one is {}", found.entries, found.next);

@@ -8,6 +8,9 @@ use crate::log::opening::Opening;
 /// machines.
 ///
 /// After a failure each call returns that failure again, and appends nothing more.
+///
+/// A [`Logged`](crate::log::Logged) calls it while commits wait. What it calls of that `Logged` must not wait for the
+/// log: such a call panics, and the log is broken.
 pub trait BatchLog: Send {
     /// Appends entries. `Ok`: they and all before them can't be lost, as far as this log promises.
     ///

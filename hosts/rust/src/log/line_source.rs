@@ -10,7 +10,7 @@ const UNKNOWN: Error = Error::Unknown(0);
 impl Guardian {
     /// The lines of the entries from this number on, as many as fit into the room; at least one, if there are any, for
     /// which the room is made larger.
-    pub(crate) fn lines_in(&mut self, room: &mut Vec<u8>, from: u64) -> Result<EntryLines, Error> {
+    pub(crate) fn lines_in(&self, room: &mut Vec<u8>, from: u64) -> Result<EntryLines, Error> {
         let mut lines = self.lines(from, room)?;
         if lines.count == 0 && lines.size > 0 {
             make_room(room, lines.size)?;

@@ -113,7 +113,7 @@ impl Logged {
     /// # Ok::<(), argus_guardian::log::LoggedError>(())
     /// ```
     #[must_use]
-    pub fn over(mut guardian: Guardian, log: Box<dyn BatchLog>, patience: Duration) -> Logged {
+    pub fn over(guardian: Guardian, log: Box<dyn BatchLog>, patience: Duration) -> Logged {
         let next = guardian.entries();
         Logged::over_from(guardian, log, next, patience)
     }
@@ -208,7 +208,7 @@ impl Logged {
     /// # let log = FileLog::read(MemoryStorage::default(), |_| Ok(())).expect("read").begin().expect("begun");
     /// # let patience = std::time::Duration::ZERO;
     /// # let logged = Logged::over(argus_guardian::Guardian::new()?, Box::new(log), patience);
-    /// assert_eq!(logged.declare("atomic_array[int]")?, argus_guardian::ObjId(0));
+    /// assert_eq!(logged.declare("atomic_array[int]")?, argus_guardian::ObjId::numbered(0));
     /// # Ok::<(), argus_guardian::log::LoggedError>(())
     /// ```
     pub fn declare(&self, shape: &str) -> Result<ObjId, LoggedError> {
@@ -234,11 +234,9 @@ impl Logged {
         &self,
         shapes: impl IntoIterator<Item = &'t str>,
     ) -> Result<Vec<ObjId>, LoggedError> {
-        let declared = |guardian: &mut Guardian| {
-            let objects = shapes.into_iter().map(|shape| guardian.declare(shape));
-            objects.collect()
-        };
-        self.acknowledged(declared)
+        // Not while the mutex is held, which would call the iterator.
+        let shapes: Vec<&str> = shapes.into_iter().collect();
+        self.acknowledged(|guardian| shapes.iter().map(|shape| guardian.declare(shape)).collect())
     }
 
     /// The object's base, which is acknowledged; `None` if it has no content yet.
@@ -348,8 +346,8 @@ impl Logged {
     #[must_use]
     pub fn live_actions(&self) -> usize {
         self.shared.lend(|guardian| {
-            let first = guardian.live(ActionId(0));
-            iter::successors(first, |it| guardian.live(ActionId(it.0 + 1))).count()
+            let next = |live: &ActionId| guardian.live(live.number() + 1);
+            iter::successors(guardian.live(0), next).count()
         })
     }
 
@@ -373,9 +371,9 @@ impl Logged {
     // What the guardian returns, when all of it is in the log.
     fn acknowledged<T>(
         &self,
-        what: impl FnOnce(&mut Guardian) -> Result<T, Error>,
+        what: impl FnOnce(&Guardian) -> Result<T, Error>,
     ) -> Result<T, LoggedError> {
-        let asked = |guardian: &mut Guardian| (what(guardian), guardian.entries());
+        let asked = |guardian: &Guardian| (what(guardian), guardian.entries());
         let (answer, entries) = self.shared()?.lend(asked);
         let answer = answer?;
         self.wait(entries)?;
@@ -428,7 +426,7 @@ impl Logged {
     /// # Ok::<(), argus_guardian::log::LoggedError>(())
     /// ```
     pub fn checkpoint_waiting(&self, patience: Duration) -> Result<(), LoggedError> {
-        let fold = |guardian: &mut Guardian| self.group.outgoing().fold(guardian);
+        let fold = |guardian: &Guardian| self.group.outgoing().fold(guardian);
         let goal: Result<Goal, CheckpointError> = self.shared()?.fold_waiting(patience, fold);
         let waited = self.group.wait(&self.shared, goal?);
         waited.map_err(LoggedError::InDoubt)

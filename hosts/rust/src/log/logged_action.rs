@@ -60,7 +60,7 @@ impl<'l> LoggedAction<'l> {
     /// # let log = FileLog::read(MemoryStorage::default(), |_| Ok(())).expect("read").begin().expect("begun");
     /// # let patience = std::time::Duration::ZERO;
     /// # let logged = Logged::over(argus_guardian::Guardian::new()?, Box::new(log), patience);
-    /// assert_eq!(logged.topaction()?.id(), ActionId(0));
+    /// assert_eq!(logged.topaction()?.id(), ActionId::numbered(0));
     /// # Ok::<(), argus_guardian::log::LoggedError>(())
     /// ```
     #[must_use]

@@ -28,7 +28,7 @@ impl Logged {
     /// use argus_guardian::{Change, ObjId};
     /// # let path = std::env::temp_dir().join(format!("argus-open-{}", std::process::id()));
     ///
-    /// let account = ObjId(0);
+    /// let account = ObjId::numbered(0);
     /// let (bank, _) = Logged::open(&path)?; // a new log, or all that the log has
     /// if bank.objects()? == 0 {
     ///     bank.declare("atomic_record[balance:int]")?;
@@ -130,7 +130,7 @@ impl Logged {
     /// use std::time::Duration;
     /// let mut recovery = Recovery::new()?;
     /// let found = FileLog::read(MemoryStorage::default(), |batch| recovery.take(batch.lines))?;
-    /// let mut guardian = recovery.into_guardian().map_err(|error| found.not_taken(error))?;
+    /// let guardian = recovery.into_guardian().map_err(|error| found.not_taken(error))?;
     /// found.check_next(guardian.entries())?;
     /// let log = Box::new(found.begin()?);
     /// let (logged, aborted) = Logged::resumed(guardian, log, Duration::from_secs(1))?;
@@ -138,7 +138,7 @@ impl Logged {
     /// # Ok::<(), OpenError>(())
     /// ```
     pub fn resumed(
-        mut guardian: Guardian,
+        guardian: Guardian,
         log: Box<dyn BatchLog>,
         patience: Duration,
     ) -> Result<(Logged, u64), OpenError> {

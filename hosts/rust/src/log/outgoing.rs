@@ -43,7 +43,7 @@ impl Outgoing {
     }
 
     /// The next piece. `None`: the log has all.
-    pub(crate) fn next_piece(&mut self, guardian: &mut Guardian) -> Result<Option<Piece>, Error> {
+    pub(crate) fn next_piece(&mut self, guardian: &Guardian) -> Result<Option<Piece>, Error> {
         if self.pieces.is_empty() {
             self.take_opening(guardian)?;
             self.take(guardian)?;
@@ -52,7 +52,7 @@ impl Outgoing {
     }
 
     // Takes as many lines as fit into a piece.
-    fn take(&mut self, guardian: &mut Guardian) -> Result<(), Error> {
+    fn take(&mut self, guardian: &Guardian) -> Result<(), Error> {
         let lines = guardian.lines_in(&mut self.room, self.next)?;
         self.next = lines.next();
         if !lines.is_empty() {
@@ -62,7 +62,7 @@ impl Outgoing {
     }
 
     // Takes the opening that hasn't been taken yet: the first lines of the journal's listing.
-    fn take_opening(&mut self, guardian: &mut Guardian) -> Result<(), Error> {
+    fn take_opening(&mut self, guardian: &Guardian) -> Result<(), Error> {
         if !self.owes_opening {
             return Ok(());
         }
@@ -78,7 +78,7 @@ impl Outgoing {
 
     /// Folds the journal when all of it has been taken, and takes the opening. Returns the goal at which the log has
     /// it. If there is no memory for the opening, it is taken before the next lines.
-    pub(crate) fn fold(&mut self, guardian: &mut Guardian) -> Result<Goal, CheckpointError> {
+    pub(crate) fn fold(&mut self, guardian: &Guardian) -> Result<Goal, CheckpointError> {
         let out_of_memory = |_: Error| CheckpointError::OutOfMemory;
         self.take_opening(guardian).map_err(out_of_memory)?;
         while self.next < guardian.entries() {

@@ -13,7 +13,8 @@ pub(crate) struct Progress {
     // So many openings are in the log.
     openings: u64,
     broken: Option<Failure>,
-    is_writing: bool,
+    // The thread that writes.
+    writer: Option<ThreadId>,
     waiting: Vec<Waiter>,
 }
 
@@ -42,7 +43,7 @@ impl Progress {
             safe,
             openings: 0,
             broken: None,
-            is_writing: false,
+            writer: None,
             waiting: Vec::new(),
         }
     }
@@ -66,11 +67,15 @@ impl Progress {
         if let Some(failure) = &self.broken {
             return Turn::Failed(failure.clone());
         }
-        if self.is_writing {
+        if let Some(writer) = self.writer {
+            assert!(
+                writer != this.id(),
+                "a log that is being written waits for its own guardian, and so for itself"
+            );
             self.waiting.push(Waiter { goal, thread: this });
             return Turn::Park;
         }
-        self.is_writing = true;
+        self.writer = Some(this.id());
         Turn::Write
     }
 
@@ -92,7 +97,7 @@ impl Progress {
     /// No thread writes any more. Returns those to wake: first one whose goal isn't reached, which writes, and then
     /// all whose goal is.
     pub(crate) fn end_writing(&mut self) -> Vec<Thread> {
-        self.is_writing = false;
+        self.writer = None;
         let waiting = mem::take(&mut self.waiting);
         let is_broken = self.broken.is_some();
         let (woken, rest): (Vec<Waiter>, Vec<Waiter>) = waiting

@@ -17,7 +17,7 @@ pub(crate) fn recovered<S: Storage>(storage: S) -> Result<(FoundLog<S>, Guardian
     let mut recovery = Recovery::new()?;
     let log = FileLog::read(storage, |batch| recovery.take(batch.lines))?;
     let guardian = recovery.into_guardian();
-    let mut guardian = guardian.map_err(|error| log.not_taken(error))?;
+    let guardian = guardian.map_err(|error| log.not_taken(error))?;
     log.check_next(guardian.entries())?;
     Ok((log, guardian))
 }
@@ -50,12 +50,53 @@ impl Recovery {
     ///
     /// ```
     /// use argus_guardian::log::Recovery;
-    /// let mut guardian = Recovery::new()?.into_guardian().expect("there is memory");
+    /// let guardian = Recovery::new()?.into_guardian().expect("there is memory");
     /// assert_eq!(guardian.entries(), 0);
     /// # Ok::<(), argus_guardian::Error>(())
     /// ```
     pub fn new() -> Result<Recovery, Error> {
         let resuming = Resuming::new()?;
+        Ok(Recovery { resuming })
+    }
+
+    /// A new one, for the log of this guardian from an opening on. The guardian that comes of it takes the ids of this
+    /// one's objects; an action with an id of this one is over.
+    ///
+    /// # Errors
+    ///
+    /// As for [`Guardian::new`].
+    ///
+    /// ```
+    /// use argus_guardian::{Guardian, log::Recovery};
+    /// let first = Guardian::new()?;
+    /// let record = first.declare("atomic_record[n:int]")?;
+    /// let mut recovery = Recovery::after(&first)?;
+    /// recovery.take("opening entries 4 actions 1\nopening o0 atomic_record[n:int] {5}\n").expect("lines");
+    /// let second = recovery.into_guardian().expect("there is memory");
+    /// assert_eq!(second.base(record)?, Some("{5}".parse()?));
+    /// # Ok::<(), argus_guardian::Error>(())
+    /// ```
+    pub fn after(guardian: &Guardian) -> Result<Recovery, Error> {
+        let resuming = Resuming::after(guardian)?;
+        Ok(Recovery { resuming })
+    }
+
+    /// The same, in place of one of which no guardian came.
+    ///
+    /// # Errors
+    ///
+    /// As for [`Guardian::new`].
+    ///
+    /// ```
+    /// use argus_guardian::log::Recovery;
+    /// let mut recovery = Recovery::new()?;
+    /// recovery.take("0 begin_top -> a0\n").expect("a journal's line");
+    /// let guardian = recovery.anew()?.into_guardian().expect("there is memory");
+    /// assert_eq!(guardian.entries(), 0);
+    /// # Ok::<(), argus_guardian::Error>(())
+    /// ```
+    pub fn anew(&self) -> Result<Recovery, Error> {
+        let resuming = self.resuming.anew()?;
         Ok(Recovery { resuming })
     }
 
@@ -98,7 +139,7 @@ impl Recovery {
     /// use argus_guardian::log::Recovery;
     /// let mut recovery = Recovery::new()?;
     /// recovery.take("0 begin_top -> a0\n").expect("a journal's line");
-    /// let mut guardian = recovery.into_guardian().expect("there is memory");
+    /// let guardian = recovery.into_guardian().expect("there is memory");
     /// assert_eq!(guardian.entry(0)?, "0 begin_top -> a0");
     /// # Ok::<(), argus_guardian::Error>(())
     /// ```

@@ -35,7 +35,7 @@ pub enum Carried {
 /// The record in which the number of a client's last order stands: the key by which an order is known that
 /// is sent again. It is set by the order's own topaction.
 pub fn last_of(client: u32) -> ObjId {
-    ObjId(ACCOUNTS + client)
+    ObjId::numbered(ACCOUNTS + client)
 }
 
 fn int(action: &LoggedAction<'_>, record: ObjId) -> Result<i64, LoggedError> {
@@ -58,12 +58,14 @@ fn create(top: &LoggedAction<'_>, record: u32) -> Result<(), LoggedError> {
         _ => 0,
     };
     let content = Content::Record(vec![Value::Int(number)]);
-    Ok(top.alter(ObjId(record), Change::Create(content))?.done()?)
+    Ok(top
+        .alter(ObjId::numbered(record), Change::Create(content))?
+        .done()?)
 }
 
 /// Whether the bank has its records: the process may have died before.
 pub fn is_set_up(bank: &Logged) -> Result<bool, LoggedError> {
-    Ok(bank.objects()? > NESTED && bank.base(ObjId(0))?.is_some())
+    Ok(bank.objects()? > NESTED && bank.base(ObjId::numbered(0))?.is_some())
 }
 
 /// Declares and creates what isn't there yet.
@@ -80,7 +82,7 @@ pub fn set_up(bank: &Logged) -> Result<(), LoggedError> {
 
 fn transfer_each(top: &LoggedAction<'_>, order: &Order) -> Result<(), LoggedError> {
     for transfer in &order.transfers {
-        let (from, to) = (ObjId(transfer.from), ObjId(transfer.to));
+        let (from, to) = (ObjId::numbered(transfer.from), ObjId::numbered(transfer.to));
         let sub = top.subaction()?;
         sub.set(to, 0, int(&sub, to)? + transfer.amount)?;
         let here = int(&sub, from)?;
@@ -105,7 +107,7 @@ pub fn carry_out(bank: &Logged, client: u32, number: i64) -> Result<Carried, Log
         return Ok(Carried::Before);
     }
     for account in order.accounts() {
-        top.lock(ObjId(account))?;
+        top.lock(ObjId::numbered(account))?;
     }
     transfer_each(&top, &order)?;
     top.set(last_of(client), 0, number)?;
@@ -141,11 +143,23 @@ pub fn serve(
 /// of its nested topaction by one, whatever becomes of the rest.
 pub fn dawdle(bank: &Logged) -> Result<(), LoggedError> {
     let top = bank.topaction()?;
-    top.set(ObjId(TOPACTIONS), 0, int(&top, ObjId(TOPACTIONS))? + 1)?;
+    top.set(
+        ObjId::numbered(TOPACTIONS),
+        0,
+        int(&top, ObjId::numbered(TOPACTIONS))? + 1,
+    )?;
     let sub = top.subaction()?;
-    sub.set(ObjId(TOPACTIONS), 0, int(&sub, ObjId(TOPACTIONS))? + 1)?;
+    sub.set(
+        ObjId::numbered(TOPACTIONS),
+        0,
+        int(&sub, ObjId::numbered(TOPACTIONS))? + 1,
+    )?;
     let nested = sub.nested()?;
-    nested.set(ObjId(NESTED), 0, int(&nested, ObjId(NESTED))? + 1)?;
+    nested.set(
+        ObjId::numbered(NESTED),
+        0,
+        int(&nested, ObjId::numbered(NESTED))? + 1,
+    )?;
     nested.commit()?;
     thread::sleep(Duration::from_millis(5));
     sub.commit()?;

@@ -17,13 +17,13 @@ const OPTIONS: LoggedOptions = LoggedOptions {
 
 fn count(logged: &Logged) -> Result<(), LoggedError> {
     logged.run(|top| {
-        let next = i64::try_from(top.get(ObjId(0), 0)?)? + 1;
-        top.set(ObjId(0), 0, next)
+        let next = i64::try_from(top.get(ObjId::numbered(0), 0)?)? + 1;
+        top.set(ObjId::numbered(0), 0, next)
     })
 }
 
 fn base(logged: &Logged) -> String {
-    let base = logged.base(ObjId(0)).expect("told");
+    let base = logged.base(ObjId::numbered(0)).expect("told");
     base.expect("created").to_string()
 }
 
@@ -39,7 +39,7 @@ fn a_full_disk() {
     logged.declare("atomic_record[n:int]").expect("declared");
     let create = |top: &LoggedAction<'_>| {
         let zero = Change::Create("{0}".parse()?);
-        Ok::<_, LoggedError>(top.alter(ObjId(0), zero)?.done()?)
+        Ok::<_, LoggedError>(top.alter(ObjId::numbered(0), zero)?.done()?)
     };
     logged.run(create).expect("acknowledged");
     let mut acknowledged = 0;

@@ -178,7 +178,7 @@ fn a_failure_leaves_those_who_wait_in_doubt_and_refuses_the_others() {
             logged.declare("atomic_array[int]").err(),
             logged.barrier().err(),
             logged.checkpoint_waiting(LONG).err(),
-            late.get(ObjId(0), 0).err(),
+            late.get(ObjId::numbered(0), 0).err(),
             late.subaction().err(),
         ];
         for error in errors {

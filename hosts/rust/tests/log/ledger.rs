@@ -69,7 +69,7 @@ impl Ledger {
         for client in 0..CLIENTS {
             self.count(client, number(bank, last_of(client))?);
         }
-        let held = (0..ACCOUNTS).map(|it| number(bank, ObjId(it)));
+        let held = (0..ACCOUNTS).map(|it| number(bank, ObjId::numbered(it)));
         let held: Vec<i64> = held.collect::<Result<_, _>>()?;
         assert_eq!(held, self.balances, "an order is there in part, or twice");
         self.check_dawdling(bank)
@@ -96,8 +96,8 @@ impl Ledger {
     }
 
     fn check_dawdling(&mut self, bank: &Logged) -> Result<(), LoggedError> {
-        let dawdled = number(bank, ObjId(TOPACTIONS))?;
-        let nested = number(bank, ObjId(NESTED))?;
+        let dawdled = number(bank, ObjId::numbered(TOPACTIONS))?;
+        let nested = number(bank, ObjId::numbered(NESTED))?;
         assert!(dawdled % 2 == 0, "a topaction is there in part: {dawdled}");
         assert!(
             2 * nested >= dawdled,

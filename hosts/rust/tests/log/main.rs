@@ -32,6 +32,8 @@ mod ledger;
 mod opening;
 #[cfg(feature = "logged")]
 mod orders;
+#[cfg(feature = "logged")]
+mod owners;
 mod power;
 mod power_storage;
 mod scratch;

@@ -61,7 +61,7 @@ fn it_is_what_it_was_and_what_was_live_is_aborted() {
     let scratch = Scratch::new("again");
     let logged = with_record(scratch.path());
     let top = logged.topaction().expect("begun");
-    top.set(ObjId(0), 0, 6).expect("set");
+    top.set(ObjId::numbered(0), 0, 6).expect("set");
     let nested = top.nested().expect("begun");
     let sub = nested.subaction().expect("begun");
     logged.barrier().expect("all is in the log");
@@ -97,10 +97,10 @@ fn after_a_checkpoint_it_is_what_it_was() {
     assert_eq!(logged.list(Listing::Journal).expect("listed"), folded);
     // The opening and entries, of which a topaction is live at the end.
     let top = logged.topaction().expect("begun");
-    top.set(ObjId(0), 0, 7).expect("set");
+    top.set(ObjId::numbered(0), 0, 7).expect("set");
     top.commit().expect("acknowledged");
     let live = logged.topaction().expect("begun");
-    live.set(ObjId(0), 0, 8).expect("set");
+    live.set(ObjId::numbered(0), 0, 8).expect("set");
     logged.barrier().expect("all is in the log");
     let before = logged.list(Listing::Journal).expect("listed");
     assert_eq!(text_of_open(&scratch), before);
@@ -138,10 +138,10 @@ fn objects_that_refer_to_one_another_are_there_after_a_checkpoint() {
     ];
     logged.declare_each(shapes).expect("declared");
     let created = logged.run(|top| {
-        top.alter(ObjId(0), Change::Create("{@2}".parse()?))?
+        top.alter(ObjId::numbered(0), Change::Create("{@2}".parse()?))?
             .done()?;
         let line_feed = Change::Create("1[\"opening \\n 7 begin_top -> a0\\n\"]".parse()?);
-        Ok::<_, LoggedError>(top.alter(ObjId(1), line_feed)?.done()?)
+        Ok::<_, LoggedError>(top.alter(ObjId::numbered(1), line_feed)?.done()?)
     });
     created.expect("acknowledged");
     logged.checkpoint_waiting(LONG).expect("folded");
@@ -153,7 +153,7 @@ fn objects_that_refer_to_one_another_are_there_after_a_checkpoint() {
     drop(logged);
     let logged = open(scratch.path());
     assert_eq!(logged.list(Listing::Journal).expect("listed"), before);
-    assert_eq!(logged.base(ObjId(2)).expect("told"), None);
+    assert_eq!(logged.base(ObjId::numbered(2)).expect("told"), None);
 }
 
 // The damage where these lines follow those of a record that was created, in a batch of their own from entry 4 on.
@@ -312,8 +312,8 @@ fn numbers_of_actions_begin_anew_and_the_log_has_it() {
     }
     logged.checkpoint_waiting(LONG).expect("folded");
     let again = logged.topaction().expect("begun");
-    assert_eq!(again.id(), ActionId(0));
-    again.set(ObjId(0), 0, 8).expect("set");
+    assert_eq!(again.id(), ActionId::numbered(0));
+    again.set(ObjId::numbered(0), 0, 8).expect("set");
     again.commit().expect("acknowledged");
     let before = logged.list(Listing::Journal).expect("listed");
     assert!(
@@ -323,5 +323,8 @@ fn numbers_of_actions_begin_anew_and_the_log_has_it() {
     drop(logged);
     let logged = open();
     assert_eq!(logged.list(Listing::Journal).expect("listed"), before);
-    assert_eq!(logged.topaction().expect("begun").id(), ActionId(1));
+    assert_eq!(
+        logged.topaction().expect("begun").id(),
+        ActionId::numbered(1)
+    );
 }

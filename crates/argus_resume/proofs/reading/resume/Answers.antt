@@ -1,4 +1,4 @@
--- The guardian's listing is the first bytes of what was read. The edit is refused without a search, too.
+-- The guardian's listing is the first bytes of what was read.
 use Rattle.argus_resume.proofs.Readings.{is_resumed}
 use Rattle.argus_resume.proofs.reading.resume.Goals as goal
 

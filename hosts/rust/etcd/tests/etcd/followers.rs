@@ -4,7 +4,7 @@ use crate::cluster::{Cluster, has_etcd};
 use crate::leading::{lead, lines};
 use crate::proxy::{Proxy, Way};
 use argus_guardian::log::{BatchLog, EntryLines, Logged, LoggedAction, LoggedError, Opening};
-use argus_guardian::{Change, Content, Listing, ObjId, Shared, Value};
+use argus_guardian::{Call, Change, Content, Error, Guardian, Listing, ObjId, Shared, Value};
 use argus_guardian_etcd::{Campaign, EtcdOptions, Follower, Leadership, LogError, Position};
 use std::time::{Duration, Instant};
 
@@ -22,12 +22,13 @@ fn leader(options: &EtcdOptions, name: &str) -> (Logged, Leadership) {
     (led.expect("leads").0, leadership)
 }
 
+// A new record, by an id that the guardian of each host takes.
 fn record(bank: &Logged, number: i64) -> ObjId {
     let record = bank.declare("atomic_record[n:int]").expect("declared");
     let content = || Change::Create(Content::Record(vec![Value::Int(number)]));
     let created = bank.run(|top| Ok::<_, LoggedError>(top.alter(record, content())?.done()?));
     created.expect("acknowledged");
-    record
+    ObjId::numbered(record.number())
 }
 
 fn set(bank: &Logged, record: ObjId, number: i64) {
@@ -39,6 +40,12 @@ fn base(follower: &mut Follower, record: ObjId) -> (Option<String>, Position) {
     let read = follower.read(|guardian| guardian.base(record));
     let (base, position) = read.expect("read");
     (base.expect("a base").map(|it| it.to_string()), position)
+}
+
+// The id of the same record that the follower's guardian returns.
+fn own_id(follower: &mut Follower, record: ObjId) -> ObjId {
+    let read = follower.read(|guardian| guardian.object(record));
+    read.expect("read").0.expect("told").id()
 }
 
 // Follows until it stands before this entry.
@@ -84,8 +91,10 @@ fn a_follower_reads_what_is_acknowledged_and_leads_in_its_turn() {
     std::mem::forget(top);
     leadership.resign();
     let next = elected(&options, "second");
+    let kept = own_id(&mut follower, account);
     let (second, led) = follower.lead(next, Shared::PATIENCE).expect("leads");
     assert_eq!((led.entry, led.aborted), (9, 1));
+    assert_eq!(second.base(kept).expect("told"), "{6}".parse().ok());
     assert_eq!(second.base(account).expect("told"), "{6}".parse().ok());
     // The first one is refused: it can't be acknowledged, and nothing of it is there.
     let late = bank.topaction().and_then(LoggedAction::commit);
@@ -134,6 +143,7 @@ fn a_checkpoint_is_followed_near_and_far() {
     let mut far = Follower::begin(&options).expect("made");
     until_entry(&mut near, bank.entries());
     assert_eq!(base(&mut near, accounts[2]).0.as_deref(), Some("{3}"));
+    let kept = own_id(&mut near, accounts[2]);
     bank.checkpoint_waiting(LONG).expect("folded");
     // One sees the opening come, one only what comes after the next.
     near.catch_up().expect("followed");
@@ -153,6 +163,38 @@ fn a_checkpoint_is_followed_near_and_far() {
             bank.list(Listing::Journal).expect("listed")
         );
     }
+    // An id that a read has returned is good after openings, and is no other guardian's.
+    assert_eq!(base(&mut near, kept).0.as_deref(), Some("{3}"));
+    let other = far.read(|guardian| guardian.base(kept)).expect("read").0;
+    assert_eq!(other, Err(Error::OtherGuardian));
+    assert!(matches!(
+        bank.base(kept),
+        Err(LoggedError::Guardian(Error::OtherGuardian))
+    ));
+}
+
+#[test]
+fn a_reader_that_changes_the_guardian_stops_the_follower() {
+    if !has_etcd("followers that are changed") {
+        return;
+    }
+    let cluster = Cluster::start("changed", 1);
+    let options = cluster.options();
+    let (bank, _leadership) = leader(&options, "first");
+    record(&bank, 5);
+    let changes: [fn(&Guardian) -> bool; 3] = [
+        |guardian| guardian.call(&Call::BeginTop).is_ok(),
+        |guardian| guardian.checkpoint().is_ok(),
+        |guardian| guardian.renew().is_ok(),
+    ];
+    for change in changes {
+        let mut follower = Follower::begin(&options).expect("made");
+        until_entry(&mut follower, bank.entries());
+        let read = follower.read(change);
+        assert!(matches!(read, Err(LogError::Damaged { .. })), "{read:?}");
+        let again = follower.read(Guardian::entries);
+        assert!(matches!(again, Err(LogError::Damaged { .. })), "{again:?}");
+    }
 }
 
 // A leader that writes what no guardian answers: its checksums are right.
@@ -168,7 +210,10 @@ fn damage_after(
     liar.append(&lines(0, text)).expect("appended");
     let mut follower = Follower::begin(&options).expect("made");
     follower.catch_up().expect("followed");
-    assert_eq!(base(&mut follower, ObjId(0)).0.as_deref(), Some("{5}"));
+    assert_eq!(
+        base(&mut follower, ObjId::numbered(0)).0.as_deref(),
+        Some("{5}")
+    );
     log(&mut liar, &mut follower);
     let Err(LogError::Damaged { key, line, why }) = follower.catch_up() else {
         panic!("it went on");
@@ -178,7 +223,7 @@ fn damage_after(
         follower.follow(LONG),
         Err(LogError::Damaged { .. })
     ));
-    let read = follower.read(|guardian| guardian.base(ObjId(0)));
+    let read = follower.read(|guardian| guardian.base(ObjId::numbered(0)));
     assert!(matches!(read, Err(LogError::Damaged { .. })), "{read:?}");
     let mut other = Follower::begin(&options).expect("made");
     let stopped = other.catch_up();

@@ -1,6 +1,0 @@
--- For the goal that its edit opens: the edit is refused without a search.
-use Rattle.std.proofs.Common.{rules}
-use Rattle.argus_c.proofs.readying.argus_c_make_ready.Goals as goal
-
-pub returns-clause-made : goal.returns-clause-made
-returns-clause-made c = search rules

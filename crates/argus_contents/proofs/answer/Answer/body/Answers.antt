@@ -1,6 +1,0 @@
--- For the goal that its edit opens: the edit is refused without a search.
-use Rattle.std.proofs.Common.{rules}
-use Rattle.argus_contents.proofs.answer.Answer.body.Goals as goal
-
-pub returns : goal.returns
-returns c = search rules

@@ -1,6 +1,0 @@
--- For the goal that its edit opens: the edit is refused without a search.
-use Rattle.std.proofs.Common.{rules}
-use Rattle.argus_listings.proofs.naming.numbered_name.Goals as goal
-
-pub returns-in-Ok : goal.returns-in-Ok
-returns-in-Ok c = search rules

@@ -1,6 +1,0 @@
--- For the goal that its edit opens: the edit is refused without a search.
-use Rattle.std.proofs.Common.{rules}
-use Rattle.argus_sharing.proofs.locked.Locked.brief.Goals as goal
-
-pub returns-clause-all : goal.returns-clause-all
-returns-clause-all g c = search rules

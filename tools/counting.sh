@@ -1,0 +1,35 @@
+# SPDX-License-Identifier: MIT
+# What ./test and .ci/run have in common: they add up what the scripts that they run have counted. Whoever takes
+# this in has set `room`, a folder for what is held back.
+
+passed=0
+failed=0
+
+# Prints all lines but the last, which goes to a file: hold_last FILE
+hold_last() {
+    : > "$1"
+    awk -v last="$1" 'NR > 1 { print line; fflush() } { line = $0 } END { if (NR > 0) print line > last }'
+}
+
+# Prints what a script printed but for its last line, and adds the numbers of that: count FILE
+count() {
+    hold_last "$room/counted" < "$1"
+    if [[ $(cat "$room/counted") =~ ^([0-9]+)\ passed,\ ([0-9]+)\ failed$ ]]; then
+        passed=$((passed + BASH_REMATCH[1]))
+        failed=$((failed + BASH_REMATCH[2]))
+    else
+        cat "$room/counted"
+        failed=$((failed + 1))
+    fi
+}
+
+# Counts a command by its status: count_status WHAT COMMAND..
+count_status() {
+    if "${@:2}"; then
+        passed=$((passed + 1))
+        echo "$1 passed"
+    else
+        failed=$((failed + 1))
+        echo "$1 FAILED"
+    fi
+}

@@ -1,0 +1,184 @@
+#!/usr/bin/env bash
+# SPDX-License-Identifier: MIT
+# Tries ./argus, ./replay and ./picture: files that are named, what is said of them, help without a build, and the
+# builds that are kept. For these a copy of the launchers has a maker in place of the kit: it does what the file
+# `meanwhile` says, and copies the program that is there. The last line is 'N passed, M failed', and the status tells whether any failed.
+#
+#   [ARGUS=PROGRAM] [REPLAY=PROGRAM] [PICTURE=PROGRAM] tools/launchers.sh
+#
+# The programs have to be built: .ci/run leaves them; others may be named.
+set -uo pipefail
+export LC_ALL=C
+
+top=$(cd "$(dirname "$0")/.." && pwd)
+argus=${ARGUS:-$top/crates/argus/out/argus}
+replay=${REPLAY:-$top/crates/replay/out/replay}
+picture=${PICTURE:-$top/crates/picture/out/picture}
+passed=0
+failed=0
+room=$(mktemp -d)
+trap 'rm -rf "$room"' EXIT
+cd "$room" || exit
+
+# Counts whether the command has this status, prints these lines, and says these: tried STATUS OUTPUT ERRORS COMMAND..
+tried() {
+    local wanted=$1 output=$2 errors=$3 status=0
+    shift 3
+    "$@" > stdout 2> stderr < /dev/null || status=$?
+    if [ "$status $(cat stdout) $(cat stderr)" = "$wanted $output $errors" ]; then
+        passed=$((passed + 1))
+    else
+        failed=$((failed + 1))
+        echo "launchers: FAILED: ${*@Q}: status $status, where $wanted is wanted, and printed"
+        head -n 5 stdout stderr
+    fi
+}
+
+# A folder with the launchers, whose builds are copies of this program or, without one, fail: copy_of FOLDER [PROGRAM]
+copy_of() {
+    mkdir -p "$1/tools" "$1/build/unproved" "$1"/crates/{argus,replay,picture,argus_usage}/src
+    cp "$top"/{argus,replay,picture} "$1"
+    cp -r "$top"/tools/{program.sh,kept.sh,help} "$1/tools"
+    cp "$top/crates/argus_usage/src/command.rt" "$1/crates/argus_usage/src"
+    printf '%s: argus_usage\n' argus replay picture > "$1/crates.txt"
+    echo '// one' > "$1/crates/argus/src/main.rt"
+    printf '#!/bin/sh\necho made >> made\n[ ! -e meanwhile ] || sh meanwhile\necho words\ncp "%s" "$2"\n' \
+        "${2:-/nothing}" > "$1/tools/unproved.py"
+    sed -i "s|^find_kit() {|&\n    echo kit; return|" "$1/tools/program.sh"
+    chmod +x "$1/tools/unproved.py"
+}
+
+# What a first call says, with the seconds left out.
+first_call() {
+    "$@" 2>&1 | sed 's/[0-9]* s\b/N s/'
+}
+
+# How many builds are kept, and whether anything else is: kept_in FOLDER
+kept_in() {
+    find "$1/build/unproved" -mindepth 1 -maxdepth 1 ! -name '*.lock' | sed 's|.*/||; s/-[0-9a-f]\{16\}$/-SUM/'
+}
+
+# How often a build was made.
+times_made() {
+    wc -l < made
+}
+
+of_texts() {
+    local program word
+    for program in "$argus" "$replay" "$picture"; do
+        for word in --help -h --version -V; do
+            tried 0 "$("$program" "$word")" "$(said_of "$word" "${program##*/}")" bare/"${program##*/}" "$word"
+        done
+    done
+    tried 1 '' 'argus: no Rattle kit found: put its command rt on the path, or its folder into RATTLE_KIT' \
+        env RATTLE_KIT=/nothing "PATH=$(path_without_kit)" bare/argus
+}
+
+# What a launcher says beside the text, where nothing is compiled.
+said_of() {
+    case $1 in -V | --version) echo "$2: neither proved nor compiled yet" ;; esac
+}
+
+# The folders of the path that have no command of the kit.
+path_without_kit() {
+    local folder kept=
+    while IFS= read -r folder; do
+        if [ ! -e "$folder/rt" ]; then kept+=${kept:+:}$folder; fi
+    done < <(tr : '\n' <<< "$PATH")
+    echo "$kept"
+}
+
+of_files() {
+    printf '%s\n' 'declare x atomic_record[n:int]' foo > 'a faulty one'
+    printf '0 begin_top -> a0\n1 commit a0 -> refused Over\n' > faulty
+    tried 0 'account {5}' '' kept/argus "$top/docs/first.argus"
+    tried 0 'account {5}' '' kept/argus -- "$top/docs/first.argus"
+    tried 0 'account base {5}' '' sh -c "kept/argus '$top/docs/first.argus' --list audit | head -n 1"
+    tried 3 '' 'a faulty one: line 2: BadWord' kept/argus --workers 2 'a faulty one'
+    tried 3 '' 'line 2: BadWord' sh -c "kept/argus < 'a faulty one'"
+    tried 5 '' 'nothing: read fault' kept/argus nothing
+    tried 5 '' '/: read fault' kept/argus /
+    tried 2 '' "$("$argus" --list locks 2>&1)" kept/argus --list locks 'a faulty one'
+    tried 2 '' "$("$argus" --list --workers 2>&1)" kept/argus --list --workers 2
+    tried 2 '' "$("$argus" faulty 2>&1)" kept/argus 'a faulty one' faulty
+    "$argus" --list journal < "$top/docs/first.argus" > journal
+    tried 0 'o0 {5}' '' kept/replay journal
+    tried 3 '' 'faulty: line 2: NotTheReply: done' kept/replay --list journal faulty
+    tried 0 '0 begin_top -> a0' 'faulty: line 2: NotTheReply: done' kept/replay faulty --prefix --list=journal
+    tried 0 "$("$picture" --script "$top/docs/first.argus" < journal)" '' \
+        kept/picture --script "$top/docs/first.argus" journal
+}
+
+of_kept_builds() {
+    rm made
+    tried 0 'account {5}' "argus: this build isn't proved" sh -c \
+        "kept/argus --version > /dev/null; kept/argus < '$top/docs/first.argus'"
+    tried 1 '' "cat: made: No such file or directory" cat made
+    echo '// two' > kept/crates/argus/src/main.rt
+    tried 0 'argus: compiling argus without proof: N s so far
+argus: compiled in N s, and kept; this build isn'"'"'t proved
+account {5}' '' first_call kept/argus "$top/docs/first.argus"
+    echo '// one' > kept/crates/argus/src/main.rt
+    tried 0 'account {5}' '' kept/argus "$top/docs/first.argus"
+    tried 0 1 '' times_made
+}
+
+# Two calls at once make one build; the other one waits for it.
+of_calls_at_once() {
+    local pid
+    rm -rf kept/build/unproved/* made
+    echo 'sleep 1' > meanwhile
+    kept/argus "$top/docs/first.argus" > first 2> /dev/null &
+    pid=$!
+    kept/argus "$top/docs/first.argus" > second 2> /dev/null
+    wait "$pid"
+    tried 0 "$(printf 'account {5}\naccount {5}')" '' cat first second
+    tried 0 1 '' times_made
+    tried 0 argus-SUM '' kept_in kept
+}
+
+# A build that fails, that is interrupted, or whose sources change meanwhile, leaves nothing.
+of_failures() {
+    local pid
+    tried 1 'argus: compiling argus without proof: N s so far
+words
+cp: cannot stat '"'/nothing'"': No such file or directory
+argus: not compiled, as the lines above say' '' first_call broken/argus "$top/docs/first.argus"
+    tried 0 '' '' kept_in broken
+    rm -rf kept/build/unproved/*
+    echo 'touch begun; sleep 60' > meanwhile
+    setsid kept/argus "$top/docs/first.argus" > /dev/null 2>&1 &
+    pid=$!
+    until [ -e begun ]; do sleep 0.1; done
+    kill -TERM -- "-$pid"
+    wait "$pid"
+    tried 0 '' '' kept_in kept
+    echo 'echo "// three" > kept/crates/argus/src/main.rt' > meanwhile
+    tried 1 'argus: compiling argus without proof: N s so far
+argus: the sources changed while they were compiled: try again' '' first_call kept/argus "$top/docs/first.argus"
+    tried 0 '' '' kept_in kept
+}
+
+for program in "$argus" "$replay" "$picture"; do
+    if [ ! -x "$program" ]; then
+        echo "launchers: no program $program: .ci/run leaves it"
+        echo "0 passed, 1 failed"
+        exit 1
+    fi
+done
+copy_of kept "$argus"
+copy_of broken
+copy_of bare
+cp "$top/tools/program.sh" bare/tools
+of_texts
+for program in replay picture; do
+    mkdir -p "kept/crates/$program/out"
+    cp "${!program}" "kept/crates/$program/out/$program"
+done
+kept/argus < /dev/null 2> /dev/null
+of_files
+of_kept_builds
+of_calls_at_once
+of_failures
+echo "$passed passed, $failed failed"
+[ "$failed" = 0 ]

@@ -1,0 +1,377 @@
+#!/usr/bin/env python3
+# SPDX-License-Identifier: MIT
+"""Tries the must-fail edits: the prover has to refuse each mistake in must-fail/.
+
+    tools/mistakes.py [--jobs N] [--each SIZE] [--beside LOG ENDED] [CRATE | CRATE/EDIT ..]
+    tools/mistakes.py --list [CRATE | CRATE/EDIT ..]
+
+An edit says in plain words which mistake it is and which promise that breaks; `--list` prints these. Then it
+says the file, and what takes the place of which text. With the line `answers: none` its function is tried
+without what is answered by hand in proofs/, since those answers name places that the mistake takes away. Then
+an open goal counts only if its clause is proved without these answers where the mistake isn't made.
+
+It stands on what `.ci/run` or `rt lib` has just proved: the crates' libraries in crates/NAME/out. Edits of
+one crate that change different functions are tried together: a copy of the crate gets all of them, each
+function of it that has no edit is held by a hole, so that a caller knows its contract alone, and one check
+proves the functions with edits. An edit is refused if its function isn't proved, and not only for a hole.
+That takes a half to a quarter of the time that a check for each edit takes, since the crate isn't proved
+again beneath them.
+
+With `--beside`, `rt ci` is still at work and writes LOG; the file ENDED is there once it has ended. The edits of
+a crate are then tried as soon as the libraries below it are proved.
+
+A line an edit: `refused` with the first goal that stays open, `NOT REFUSED`, or `NOT TRIED` with the reason.
+The last line counts: 'N passed, M failed'.
+"""
+
+import argparse
+import os
+import re
+import shutil
+import signal
+import subprocess
+import sys
+import tempfile
+import threading
+import time
+from concurrent.futures import ThreadPoolExecutor
+from dataclasses import dataclass
+from pathlib import Path
+from typing import NamedTuple
+
+TOP = Path(__file__).resolve().parent.parent
+FUNCTION = re.compile(r"( *)(?:pub(?:\([^)]*\))? )?(?:const )?(?:unsafe )?(?:extern \"C\" )?fn (\w+)")
+IMPL = re.compile(r"impl(?:<.*?>)? (?:(?P<trait>[\w:]+)(?:<.*>)? for )?(?P<type>\w+)")
+TYPE = re.compile(r"(?m)^(?:pub(?:\([^)]*\))? )?(?:struct|enum|union) (\w+)")
+# A function that calls itself, or is called by one that it calls, has its proof with theirs.
+IN_CIRCLE = re.compile(r" *#\[cycle\(")
+# What is said of a file that can't be read: then no goal was tried.
+UNREAD = re.compile(
+    r"error: .*(is not in scope|has no field|is no name|operand is missing|expected the end|cannot continue)"
+)
+HOLE = """use Rattle.{crate}.proofs.{path}.Statement.{{statement}}
+
+pub {name}_spec : {{M : Type 1}} → statement M
+{name}_spec = ?
+"""
+
+
+class NotTried(Exception):
+    """Why an edit can't be tried."""
+
+
+@dataclass(eq=False)
+class Edit:
+    """A mistake: its crate and name, what it says of itself, and for each file its pairs of texts."""
+
+    crate: str
+    name: str
+    said: dict
+    files: dict
+
+    def __str__(self):
+        return f"{self.crate}/{self.name}"
+
+
+class Function(NamedTuple):
+    """A function of a file: its path in the crate, and its first and last lines."""
+
+    path: str
+    start: int
+    end: int
+    is_bound: bool  # a method of a trait, or one of a circle: it is proved, and not held by a hole
+
+
+def read_edits():
+    edits = []
+    for path in sorted((TOP / "must-fail").glob("*/*.edit")):
+        said, files, pairs = {}, {}, []
+        for line in path.read_text(encoding="utf-8").splitlines():
+            key, _, text = line.partition(":")
+            text = text[1:]
+            if key == "file":
+                pairs = files.setdefault(text, [])
+            elif key == "old":
+                pairs.append([text, ""])
+            elif key == "new":
+                pairs[-1][1] = text
+            else:
+                said[key] = text
+        edits.append(Edit(path.parent.name, path.stem, said, files))
+    return edits
+
+
+def functions_of(text, module, homes):
+    """The functions of a file, but those within another function. A method stands in the module of its type."""
+    found, owner, is_trait, in_circle = [], None, False, False
+    lines = text.splitlines()
+    for at, line in enumerate(lines):
+        if impl := IMPL.match(line):
+            owner, is_trait = impl["type"], impl["trait"] is not None
+        elif line == "}":
+            owner = None
+        in_circle = in_circle or bool(IN_CIRCLE.match(line))
+        head = FUNCTION.match(line)
+        if head and len(head[1]) == (4 if owner else 0):
+            end = next((it for it in range(at, len(lines)) if lines[it] == head[1] + "}"), len(lines) - 1)
+            calls_itself = any(re.search(rf"\b{head[2]}\(", it) for it in lines[at + 1 : end])
+            path = [*homes.get(owner, module), owner, head[2]] if owner else [*module, head[2]]
+            found.append(Function("::".join(path), at, end, is_trait or in_circle or calls_itself))
+            in_circle = False
+    return found
+
+
+def module_of(file):
+    """The names of a file's module below the crate."""
+    names = list(Path(file).with_suffix("").parts[1:])
+    return [] if names == ["lib"] else names
+
+
+def sources_of(crate):
+    """The texts of a crate's source files, and the modules in which its types stand."""
+    texts = {it.relative_to(crate).as_posix(): it.read_text(encoding="utf-8") for it in (crate / "src").rglob("*.rt")}
+    homes = {name: module_of(file) for file, text in texts.items() for name in TYPE.findall(text)}
+    return texts, homes
+
+
+def all_of(crate):
+    """The functions of a crate."""
+    texts, homes = sources_of(crate)
+    return [it for file, text in texts.items() for it in functions_of(text, module_of(file), homes)]
+
+
+def changed_by(edit, crate):
+    """The functions that an edit changes."""
+    functions = []
+    texts, homes = sources_of(crate)
+    for file, pairs in edit.files.items():
+        text = texts.get(file, "")
+        inside = functions_of(text, module_of(file), homes)
+        for old, _ in pairs:
+            if text.count(old) != 1:
+                raise NotTried(f"its text is in {file} {text.count(old)} times, and not once")
+            line = text[: text.index(old)].count("\n")
+            around = [it for it in inside if it.start <= line <= it.end]
+            if not around:
+                raise NotTried(f"line {line + 1} of {file} is in no function")
+            functions += [it for it in around if it not in functions]
+    return functions
+
+
+def groups_of(edits, crate, most):
+    """Lists of edits, each with its functions, no two of which are of one function; and why others can't be tried."""
+    groups, refused = [], {}
+    for edit in edits:
+        try:
+            functions = {it.path for it in changed_by(edit, crate)}
+        except NotTried as why:
+            refused[edit] = str(why)
+            continue
+        free = (it for it in groups if len(it) < most and not any(functions & other for other in it.values()))
+        group = next(free, None)
+        if group is None:
+            group = {}
+            groups.append(group)
+        group[edit] = functions
+    return groups, refused
+
+
+def take_answers(room, path):
+    """Takes what is answered by hand of a function out of its proof."""
+    for name in ("Answers.antt", "Invariants.antt"):
+        (room / "proofs" / Path(*path.split("::")) / name).unlink(missing_ok=True)
+
+
+def clause_of(goal):
+    """The clause of which a goal is, at whichever place of the function; else what is asked there."""
+    found = re.search(r"(\w+-requires|returns|invariant_of-\w+|loop-\w+)\b.*?(-clause-\w+)?$", goal)
+    return "".join(filter(None, found.groups())) if found else goal
+
+
+def hold(room, crate, functions):
+    """Holds these functions by holes."""
+    for it in functions:
+        take_answers(room, it.path)
+        folder = room / "proofs" / Path(*it.path.split("::"))
+        folder.mkdir(parents=True, exist_ok=True)
+        hole = HOLE.format(crate=crate, path=it.path.replace("::", "."), name=it.path.rpartition("::")[2])
+        (folder / "Proof.antt").write_text(hole, encoding="utf-8")
+
+
+def apply(group, room):
+    for edit in group:
+        for file, pairs in edit.files.items():
+            text = (room / file).read_text(encoding="utf-8")
+            for old, new in pairs:
+                text = text.replace(old, new)
+            (room / file).write_text(text, encoding="utf-8")
+
+
+class Checker:
+    """Checks copies of crates with the kit's prover."""
+
+    def __init__(self):
+        self.kit = Path(subprocess.check_output(["rt", "doc"], text=True).strip()).parent
+        self.used, self.static = {}, set()
+        for line in (TOP / "crates.txt").read_text(encoding="utf-8").splitlines():
+            name, colon, rest = line.partition(":")
+            if colon and not line.startswith("#"):
+                self.used[name.split()[0]] = rest.split()
+                self.static |= {name.split()[0]} if "staticlib" in name else set()
+
+    def below(self, crate):
+        """The crates of the repository below a crate."""
+        found = set()
+        for it in self.used[crate]:
+            if it in self.used:
+                found |= {it, *self.below(it)}
+        return sorted(found)
+
+    def words(self, crate):
+        """The prover's words for a library as it stands in the current folder."""
+        words = ["--crate-name", crate, "src/lib.rt", "--extern", f"std={self.kit}/rlibs/std.rlib"]
+        for it in self.used[crate]:
+            place = TOP / "crates" / it / "out/rlib" if it in self.used else self.kit / "rlibs"
+            words += ["--extern", f"{it}={place}/{it}.rlib"]
+        for place in (self.kit / "rlibs", *(TOP / "crates" / it / "out/rlib" for it in self.below(crate))):
+            words += ["-L", f"dependency={place}"]
+        logic = self.kit / "rattle/logic/antt-project.json"
+        words += ["--crate-type", "staticlib"] if crate in self.static else []
+        return [*words, "--antt-project", str(logic), "--logic-built", f"{self.kit}/logic_built"]
+
+    def lines(self, crate, room, functions):
+        """What a check of these functions prints. Where the system ended it for want of memory it is made again."""
+        asked = [word for it in functions for word in ("--only", it)]
+        command = [self.kit / "bin/rattle", "check", *self.words(crate), "--allow-holes", *asked]
+        for _ in range(3):
+            ran = subprocess.run(
+                command, cwd=room, stdin=subprocess.DEVNULL, capture_output=True, text=True, check=False
+            )
+            if ran.returncode != -signal.SIGKILL:
+                break
+        return ran.stdout.splitlines() + ran.stderr.splitlines()
+
+
+def answers(checker, crate, group):
+    """What a check of the crate with the edits of a group comes to, by edit."""
+    folder = TOP / "crates" / crate
+    with tempfile.TemporaryDirectory(prefix="mistakes-") as made:
+        room = Path(made)
+        for part in ("src", "specs", "proofs"):
+            if (folder / part).is_dir():
+                shutil.copytree(folder / part, room / part)
+        asked = sorted({path for functions in group.values() for path in functions})
+        hold(room, crate, [it for it in all_of(folder) if it.path not in asked and not it.is_bound])
+        bare = {path for edit, functions in group.items() if edit.said.get("answers") == "none" for path in functions}
+        for path in bare:
+            take_answers(room, path)
+        told = told_of(f"{crate}::", bare, checker.lines(crate, room, bare)) if bare else {}
+        usual = {path: {clause_of(it) for it in goals_of(path, said)} for path, said in told.items()}
+        apply(group, room)
+        lines = checker.lines(crate, room, asked)
+    if not any(it.startswith("only=") for it in lines):
+        said = next((it for it in lines if re.search("error[:[]", it)), lines[-1] if lines else "nothing was said")
+        return {edit: f"NOT TRIED: {said[:160]}" for edit in group}
+    return {edit: verdict(f"{crate}::", functions, usual, lines) for edit, functions in group.items()}
+
+
+def told_of(prefix, functions, lines):
+    """What a check says of each of these functions."""
+    told = {}
+    for line in lines:
+        name, colon, rest = line.removeprefix(f"fn {prefix}").partition(": ")
+        if line.startswith("fn ") and colon and name in functions:
+            told[name] = rest
+    return told
+
+
+def verdict(prefix, functions, usual, lines):
+    """What the check says of an edit of these functions, of which these clauses are open without it, too."""
+    told = told_of(prefix, functions, lines)
+    if set(told) != functions:
+        return f"NOT TRIED: nothing was said of {', '.join(sorted(functions - set(told)))}"
+    own = ("src/", "specs/", *(f"proofs/{it.replace('::', '/')}/" for it in functions))
+    unread = next((it for it in lines if it.removeprefix("./").startswith(own) and UNREAD.search(it)), None)
+    if unread:
+        return f"NOT TRIED: {unread[:160]}"
+    goals = [(path, goal) for path, rest in told.items() for goal in goals_of(path, rest)]
+    goals = [goal for path, goal in goals if clause_of(goal) not in usual.get(path, ())]
+    return f"refused at {', '.join(goals)}" if goals else f"NOT REFUSED: {'; '.join(told.values())[:160]}"
+
+
+def goals_of(path, said):
+    """The goals of a function that stay open, by what is said of it.
+
+    Only its own goals count: those that no search proves, and those whose answer is refused.
+    """
+    unproved = re.search(r"did not prove ((?:`[^`]+`(?:, )?)+)", said)
+    answers = re.findall(rf"proofs\.{path.replace('::', '.')}\.(?:Answers|Invariants)\.([^`]+)`", said)
+    searched = re.findall("`([^`]+)`", unproved[1]) if unproved else []
+    return searched + (answers if "which antt refuses" in said else [])
+
+
+class Beside(NamedTuple):
+    """`rt ci` at work: its log, and the file that is there once it has ended."""
+
+    log: Path
+    ended: Path
+
+    def wait_for(self, crates):
+        """Waits until these crates are proved, or `rt ci` has ended."""
+        while not self.ended.exists():
+            lines = self.log.read_text(encoding="utf-8", errors="replace").splitlines()
+            said = {it.split()[1] for it in lines if re.match(r"rt: \w+ (proved|is kept)", it)}
+            if said.issuperset(crates):
+                return
+            time.sleep(2)
+
+
+def results_of(given, checker, tries):
+    """What each edit of these groups comes to. Each group waits for its libraries, and then for its turn."""
+    beside, turn = Beside(*given.beside) if given.beside else None, threading.Semaphore(given.jobs)
+
+    def tried(crate, group):
+        if beside:
+            beside.wait_for(checker.below(crate))
+        with turn:
+            return answers(checker, crate, group)
+
+    with ThreadPoolExecutor(len(tries) or 1) as pool:
+        found = pool.map(lambda it: tried(*it), tries)
+        return {edit: said for results in found for edit, said in results.items()}
+
+
+def print_list(edits):
+    """A table of these mistakes."""
+    print("| Edit | Mistake | Promise that it breaks |\n|---|---|---|")
+    for it in edits:
+        print(f"| {it} | {it.said['mistake']} | {it.said['promise']} |")
+
+
+def main():
+    options = argparse.ArgumentParser(description=__doc__.split("\n")[0])
+    options.add_argument("--jobs", type=int, default=len(os.sched_getaffinity(0)))
+    options.add_argument("--each", type=int, default=6)
+    options.add_argument("--beside", type=Path, nargs=2, metavar=("LOG", "ENDED"))
+    options.add_argument("--list", action="store_true")
+    options.add_argument("names", nargs="*")
+    given = options.parse_args()
+    wanted = [it for it in read_edits() if not given.names or it.crate in given.names or str(it) in given.names]
+    if given.list:
+        print_list(wanted)
+        return False
+    checker, tries, results = Checker(), [], {}
+    for crate in sorted({it.crate for it in wanted}):
+        groups, why = groups_of([it for it in wanted if it.crate == crate], TOP / "crates" / crate, given.each)
+        results.update({edit: f"NOT TRIED: {text}" for edit, text in why.items()})
+        tries += [(crate, it) for it in groups]
+    results.update(results_of(given, checker, tries))
+    for edit in wanted:
+        print(f"must-fail {edit}: {results[edit]}")
+    passed = sum(it.startswith("refused") for it in results.values())
+    print(f"{passed} passed, {len(results) - passed} failed")
+    return passed != len(results)
+
+
+if __name__ == "__main__":
+    sys.exit(main())
