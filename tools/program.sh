@@ -115,7 +115,8 @@ leave_newest() {
 # Makes the unproved build in the folder `making`: compile CRATE
 compile() {
     begin=$(date +%s)
-    tell_seconds "compiling $1 without proof" 9>&- &
+    # The lock isn't the ticker's: `exec` gives it up, where a redirection of the call would keep a copy.
+    { exec 9>&-; tell_seconds "compiling $1 without proof"; } &
     ticker=$!
     "$top/tools/unproved.py" "$1" "$making/$(file_of "$1")" < /dev/null > "$making/log" 2>&1 9>&- || compiled=no
     kill "$ticker"
