@@ -38,7 +38,6 @@ busy:1 $millis W5 guardian-board-c $millis 1
 busy:3 $millis W5 guardian-board-c $millis 3
 idle:1 $millis W5 guardian-board-c@0 $millis 1
 idle:3 $millis W5 guardian-board-c@0 $millis 3
-publishes 100000 W5 left-right-c $millis 0
 END
 }
 
@@ -52,7 +51,7 @@ nanos() {
     case $1 in
         turns) value ns_per_op "$figures/peer" ;;
         looks) value reads_per_s "$figures/peer" | awk '{ print 1e9 / $1 }' ;;
-        commits | publishes) value commits_per_s "$figures/peer" | awk '{ print 1e9 / $1 }' ;;
+        commits) value commits_per_s "$figures/peer" | awk '{ print 1e9 / $1 }' ;;
     esac
 }
 

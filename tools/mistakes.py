@@ -11,11 +11,10 @@ without what is answered by hand in proofs/, since those answers name places tha
 an open goal counts only if its clause is proved without these answers where the mistake isn't made.
 
 It stands on what `.ci/run` or `rt lib` has just proved: the crates' libraries in crates/NAME/out. Edits of
-one crate that change different functions are tried together: a copy of the crate gets all of them, each
-function of it that has no edit is held by a hole, so that a caller knows its contract alone, and one check
-proves the functions with edits. An edit is refused if its function isn't proved, and not only for a hole.
-That takes a half to a quarter of the time that a check for each edit takes, since the crate isn't proved
-again beneath them.
+one crate that change different functions are tried together, in a copy of the crate that gets all of them. Of
+each other function only the contract is left: its proof is a hole and its body a loop without an end, since a
+check also reads what a function calls, and what that calls. One check then proves the functions with edits.
+An edit is refused if its function isn't proved, and not only for a hole.
 
 With `--beside`, `rt ci` is still at work and writes LOG; the file ENDED is there once it has ended. The edits of
 a crate are then tried as soon as the libraries below it are proved.
@@ -25,6 +24,7 @@ The last line counts: 'N passed, M failed'.
 """
 
 import argparse
+import itertools
 import os
 import re
 import shutil
@@ -47,7 +47,8 @@ TYPE = re.compile(r"(?m)^(?:pub(?:\([^)]*\))? )?(?:struct|enum|union) (\w+)")
 IN_CIRCLE = re.compile(r" *#\[cycle\(")
 # What is said of a file that can't be read: then no goal was tried.
 UNREAD = re.compile(
-    r"error: .*(is not in scope|has no field|is no name|operand is missing|expected the end|cannot continue)"
+    r"error: .*(is not in scope|has no field|can be named from here|is no name|operand is missing|expected the end|"
+    r"cannot continue)"
 )
 HOLE = """use Rattle.{crate}.proofs.{path}.Statement.{{statement}}
 
@@ -134,12 +135,6 @@ def sources_of(crate):
     return texts, homes
 
 
-def all_of(crate):
-    """The functions of a crate."""
-    texts, homes = sources_of(crate)
-    return [it for file, text in texts.items() for it in functions_of(text, module_of(file), homes)]
-
-
 def changed_by(edit, crate):
     """The functions that an edit changes."""
     functions = []
@@ -188,14 +183,32 @@ def clause_of(goal):
     return "".join(filter(None, found.groups())) if found else goal
 
 
-def hold(room, crate, functions):
-    """Holds these functions by holes."""
-    for it in functions:
-        take_answers(room, it.path)
-        folder = room / "proofs" / Path(*it.path.split("::"))
-        folder.mkdir(parents=True, exist_ok=True)
-        hole = HOLE.format(crate=crate, path=it.path.replace("::", "."), name=it.path.rpartition("::")[2])
-        (folder / "Proof.antt").write_text(hole, encoding="utf-8")
+def emptied(text, functions):
+    """A file's text, in which these functions run for ever: then they call nothing that has to be checked."""
+    lines = text.splitlines()
+    for it in sorted(functions, key=lambda it: -it.start):
+        indent = lines[it.start][: len(lines[it.start]) - len(lines[it.start].lstrip())]
+        inside = range(it.start, it.end)
+        # The body of a function with clauses begins in a line of its own.
+        begin = next((at for at in inside if lines[at] == indent + "{"), None)
+        begin = begin or next((at for at in inside if lines[at].endswith("{")), None)
+        if begin is not None:
+            lines[begin + 1 : it.end] = [indent + "    loop {}"]
+    return "\n".join(lines) + "\n"
+
+
+def hold(room, crate, is_held):
+    """Holds functions by holes: nothing of them is left but their contracts."""
+    texts, homes = sources_of(room)
+    for file, text in texts.items():
+        held = [it for it in functions_of(text, module_of(file), homes) if is_held(it)]
+        (room / file).write_text(emptied(text, held), encoding="utf-8")
+        for it in held:
+            take_answers(room, it.path)
+            folder = room / "proofs" / Path(*it.path.split("::"))
+            folder.mkdir(parents=True, exist_ok=True)
+            hole = HOLE.format(crate=crate, path=it.path.replace("::", "."), name=it.path.rpartition("::")[2])
+            (folder / "Proof.antt").write_text(hole, encoding="utf-8")
 
 
 def apply(group, room):
@@ -252,21 +265,45 @@ class Checker:
         return ran.stdout.splitlines() + ran.stderr.splitlines()
 
 
-def answers(checker, crate, group):
-    """What a check of the crate with the edits of a group comes to, by edit."""
-    folder = TOP / "crates" / crate
+def copy_of(crate, made):
+    """A copy of a crate's sources in this folder."""
+    room = Path(made)
+    for part in ("src", "specs", "proofs"):
+        if (TOP / "crates" / crate / part).is_dir():
+            shutil.copytree(TOP / "crates" / crate / part, room / part)
+    return room
+
+
+def is_bare(edit):
+    """Whether its function is tried without what is answered by hand."""
+    return edit.said.get("answers") == "none"
+
+
+def prepare(crate, room, asked, bare):
+    """Holds all but these functions, some of which lose their answers."""
+    hold(room, crate, lambda it: it.path not in asked and not it.is_bound)
+    for path in bare:
+        take_answers(room, path)
+
+
+def usual_goals(checker, crate, edits):
+    """The clauses that stay open, by function, where these edits' functions have no mistake and no answers."""
+    bare = {it.path for edit in edits if is_bare(edit) for it in changed_by(edit, TOP / "crates" / crate)}
+    if not bare:
+        return {}
     with tempfile.TemporaryDirectory(prefix="mistakes-") as made:
-        room = Path(made)
-        for part in ("src", "specs", "proofs"):
-            if (folder / part).is_dir():
-                shutil.copytree(folder / part, room / part)
+        room = copy_of(crate, made)
+        prepare(crate, room, bare, bare)
+        told = told_of(f"{crate}::", bare, checker.lines(crate, room, sorted(bare)))
+    return {path: {clause_of(it) for it in goals_of(path, said)} for path, said in told.items()}
+
+
+def answers(checker, crate, group, usual):
+    """What a check of the crate with the edits of a group comes to, by edit; without them these clauses are open."""
+    with tempfile.TemporaryDirectory(prefix="mistakes-") as made:
+        room = copy_of(crate, made)
         asked = sorted({path for functions in group.values() for path in functions})
-        hold(room, crate, [it for it in all_of(folder) if it.path not in asked and not it.is_bound])
-        bare = {path for edit, functions in group.items() if edit.said.get("answers") == "none" for path in functions}
-        for path in bare:
-            take_answers(room, path)
-        told = told_of(f"{crate}::", bare, checker.lines(crate, room, bare)) if bare else {}
-        usual = {path: {clause_of(it) for it in goals_of(path, said)} for path, said in told.items()}
+        prepare(crate, room, asked, {path for edit, paths in group.items() if is_bare(edit) for path in paths})
         apply(group, room)
         lines = checker.lines(crate, room, asked)
     if not any(it.startswith("only=") for it in lines):
@@ -327,18 +364,23 @@ class Beside(NamedTuple):
 
 
 def results_of(given, checker, tries):
-    """What each edit of these groups comes to. Each group waits for its libraries, and then for its turn."""
+    """What each edit comes to, of groups of edits by crate. A crate waits for its libraries, a check for its turn."""
     beside, turn = Beside(*given.beside) if given.beside else None, threading.Semaphore(given.jobs)
 
-    def tried(crate, group):
+    def in_turn(work, *words):
+        with turn:
+            return work(checker, *words)
+
+    def tried(crate):
         if beside:
             beside.wait_for(checker.below(crate))
-        with turn:
-            return answers(checker, crate, group)
+        usual = in_turn(usual_goals, crate, [edit for group in tries[crate] for edit in group])
+        return list(pool.map(lambda group: in_turn(answers, crate, group, usual), tries[crate]))
 
-    with ThreadPoolExecutor(len(tries) or 1) as pool:
-        found = pool.map(lambda it: tried(*it), tries)
-        return {edit: said for results in found for edit, said in results.items()}
+    with ThreadPoolExecutor() as crates, ThreadPoolExecutor(given.jobs) as pool:
+        for results in crates.map(tried, tries):
+            for group in results:
+                yield from group.items()
 
 
 def print_list(edits):
@@ -360,17 +402,16 @@ def main():
     if given.list:
         print_list(wanted)
         return False
-    checker, tries, results = Checker(), [], {}
+    checker, tries, results = Checker(), {}, []
     for crate in sorted({it.crate for it in wanted}):
-        groups, why = groups_of([it for it in wanted if it.crate == crate], TOP / "crates" / crate, given.each)
-        results.update({edit: f"NOT TRIED: {text}" for edit, text in why.items()})
-        tries += [(crate, it) for it in groups]
-    results.update(results_of(given, checker, tries))
-    for edit in wanted:
-        print(f"must-fail {edit}: {results[edit]}")
-    passed = sum(it.startswith("refused") for it in results.values())
-    print(f"{passed} passed, {len(results) - passed} failed")
-    return passed != len(results)
+        tries[crate], why = groups_of([it for it in wanted if it.crate == crate], TOP / "crates" / crate, given.each)
+        results += [(edit, f"NOT TRIED: {text}") for edit, text in why.items()]
+    for edit, said in itertools.chain(list(results), results_of(given, checker, tries)):
+        results.append((edit, said))
+        print(f"must-fail {edit}: {said}", flush=True)
+    passed = sum(said.startswith("refused") for _, said in results)
+    print(f"{passed} passed, {len(wanted) - passed} failed")
+    return passed != len(wanted)
 
 
 if __name__ == "__main__":

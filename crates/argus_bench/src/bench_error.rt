@@ -1,6 +1,5 @@
 //! `BenchError`: why a run has no figure.
 
-use argus_commands::{ParseError, RunFault};
 use argus_values::{NameError, OutOfMemory, ShapeFault};
 use std::alloc::{AllocError, AllocFailed};
 use std::io;
@@ -65,20 +64,5 @@ impl From<NameError> for BenchError {
 impl From<ShapeFault> for BenchError {
     fn from(_fault: ShapeFault) -> BenchError {
         BenchError::BadShape
-    }
-}
-
-impl From<ParseError> for BenchError {
-    fn from(error: ParseError) -> BenchError {
-        match error {
-            ParseError::Fault(_) => BenchError::OtherReply,
-            ParseError::Memory => BenchError::OutOfMemory,
-        }
-    }
-}
-
-impl From<RunFault> for BenchError {
-    fn from(_fault: RunFault) -> BenchError {
-        BenchError::OutOfMemory
     }
 }

@@ -1,12 +1,10 @@
 //! Times a guardian's calls: `argus_bench TURNS WORK..`.
 //!
 //! Without words it makes a small run of each work, and prints what the calls have read and left.
-//! `bench/guardian.sh`, `bench/shared.sh` and `bench/workers.sh` print the figures, beside those of
-//! a guardian by hand if there is one.
+//! `bench/guardian.sh` and `bench/shared.sh` print the figures, beside those of a guardian by hand if
+//! there is one.
 #![tactic(auto)]
 
-mod arm_script;
-mod arm_timing;
 mod batching;
 mod bench_error;
 mod callee;
@@ -20,7 +18,6 @@ mod looks;
 mod manner;
 mod outcome;
 mod part;
-mod publishing;
 mod reply_summary;
 mod seated;
 mod shared_work;
@@ -72,17 +69,10 @@ or one of these, on a shared guardian of 1,000 records:
   busy:N     N lookers look at 2 records again and again, for so many milliseconds, while a
              topaction after the other sets 2 records: 4 calls; the looks, and the commits
   idle:N     the same, while nothing happens
-  arms:N     a script of so many arms, up to 10,000, run by N workers of 1 to 8 on a guardian
-             without records: it creates 1,000 in one topaction, and each arm reads 4 of them
-             and sets them: 10 calls; arms of different workers, of 1, 2, 4 or 8, share none.
-             The calls: threads and the test of the receipts are timed with them
-  publishes  no guardian, and the board alone: what a topaction leaves that has set 2 records
-             is published
 
 It prints WORK PART n=N ns_each=NANOSECONDS sum=SUM for each part that is timed. The sum is
 that of what was read and of what the objects then hold, each times its place; of own, hot and
-batch that of what the records hold; of busy and idle the looks that didn't show one number twice;
-of arms the calls.";
+batch that of what the records hold; of busy and idle the looks that didn't show one number twice.";
 
 // The turns of the small runs.
 const SMALL: u32 = 20;
@@ -103,11 +93,6 @@ const WORKS: &[&str] = &[
     "batch:2",
     "busy:2",
     "idle:1",
-    "arms:1",
-    "arms:2",
-    "arms:4",
-    "arms:8",
-    "publishes",
 ];
 
 fn run<R: Threads + Wait + Clock + Copy + Drop + Send + Sync>(
@@ -116,9 +101,6 @@ fn run<R: Threads + Wait + Clock + Copy + Drop + Send + Sync>(
     word: &str,
     turns: u32,
 ) -> Result<Outcome, BenchError> {
-    if word == "publishes" {
-        return publishing::run(rt, heap, turns);
-    }
     if let Ok(work) = word.parse::<SharedWork>() {
         return sharing::run(rt, heap, work, turns);
     }

@@ -21,10 +21,6 @@ pub(crate) enum Part {
     Commits,
     /// The looks of all lookers.
     Looks,
-    /// What is published on a board.
-    Publishes,
-    /// The calls of a script that workers run.
-    Calls,
 }
 
 impl fmt::Display for Part {
@@ -38,8 +34,6 @@ impl fmt::Display for Part {
             Part::Replays => "replays",
             Part::Commits => "commits",
             Part::Looks => "looks",
-            Part::Publishes => "publishes",
-            Part::Calls => "calls",
         })
     }
 }

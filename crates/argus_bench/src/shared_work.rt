@@ -24,8 +24,6 @@ pub(crate) enum SharedWork {
     Busy(u8),
     /// This many lookers, while nothing happens.
     Idle(u8),
-    /// A script of many arms, run by this many workers.
-    Arms(u8),
 }
 
 impl FromStr for SharedWork {
@@ -51,7 +49,6 @@ fn of_count(name: &str, count: u8) -> Result<SharedWork, BenchError> {
         "batch" => Ok(SharedWork::Batch(count)),
         "busy" => Ok(SharedWork::Busy(count)),
         "idle" => Ok(SharedWork::Idle(count)),
-        "arms" => Ok(SharedWork::Arms(count)),
         _ => Err(BenchError::UnknownWork),
     }
 }
@@ -68,10 +65,9 @@ impl SharedWork {
     pub(crate) fn seats(self) -> u8 {
         match self {
             SharedWork::Turns(_) | SharedWork::Busy(_) | SharedWork::Idle(_) => 1,
-            SharedWork::Own(threads)
-            | SharedWork::Hot(threads)
-            | SharedWork::Batch(threads)
-            | SharedWork::Arms(threads) => threads.saturating_add(1),
+            SharedWork::Own(threads) | SharedWork::Hot(threads) | SharedWork::Batch(threads) => {
+                threads.saturating_add(1)
+            }
         }
     }
 
@@ -80,11 +76,8 @@ impl SharedWork {
         match self {
             SharedWork::Hot(_) => Manner::Hot,
             SharedWork::Batch(_) => Manner::Batch,
-            SharedWork::Turns(_)
-            | SharedWork::Own(_)
-            | SharedWork::Busy(_)
-            | SharedWork::Idle(_)
-            | SharedWork::Arms(_) => Manner::Own,
+            SharedWork::Turns(_) | SharedWork::Own(_) | SharedWork::Busy(_) | SharedWork::Idle(_) =>
+                Manner::Own,
         }
     }
 
@@ -96,11 +89,8 @@ impl SharedWork {
     /// How many lookers it takes.
     pub(crate) fn lookers(self) -> u8 {
         match self {
-            SharedWork::Turns(_)
-            | SharedWork::Own(_)
-            | SharedWork::Hot(_)
-            | SharedWork::Batch(_)
-            | SharedWork::Arms(_) => 0,
+            SharedWork::Turns(_) | SharedWork::Own(_) | SharedWork::Hot(_) | SharedWork::Batch(_) =>
+                0,
             SharedWork::Busy(lookers) | SharedWork::Idle(lookers) => lookers,
         }
     }

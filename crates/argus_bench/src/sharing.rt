@@ -6,7 +6,6 @@ ghost use Rattle.argus_journal.specs.Opening.{content_in};
 ghost use Rattle.argus_guardian.specs.Following.{journal_bases, journal_effects};
 ghost use Rattle.argus_journal.specs.JournalView.{next_entry};
 
-use crate::arm_timing::time_arms;
 use crate::bench_error::BenchError;
 use crate::client::Client;
 use crate::counting::time_threads;
@@ -26,15 +25,14 @@ use std::sync::Wait;
 use std::sync::ledger::Blank;
 use std::thread::Threads;
 
-/// A run of this many turns; with lookers, of this many milliseconds; of a script, of this many
-/// arms.
+/// A run of this many turns; with lookers, of this many milliseconds.
 pub(crate) fn run<R: Threads + Wait + Clock + Copy + Drop + Send + Sync>(
     rt: R,
     heap: Heap,
     work: SharedWork,
     turns: u32,
 ) -> Result<Outcome, BenchError> {
-    let guardian = guardian_for(heap, work)?;
+    let guardian = with_records(heap, RECORDS)?.callee;
     let (seats, lookers) = (work.seats(), work.lookers());
     let blank = Blank::new(u64::from(seats));
     time_shared::<Brand, R>(
@@ -48,14 +46,6 @@ pub(crate) fn run<R: Threads + Wait + Clock + Copy + Drop + Send + Sync>(
         blank,
         Keeper::new(),
     )
-}
-
-// One with records; for a script, which makes its own, an empty one.
-fn guardian_for(heap: Heap, work: SharedWork) -> Result<Guardian, BenchError> {
-    match work {
-        SharedWork::Arms(_) => Ok(Guardian::new(heap)),
-        _ => Ok(with_records(heap, RECORDS)?.callee),
-    }
 }
 
 // The conditions say which sharing this is.
@@ -93,9 +83,6 @@ fn time_parts<N: Sharing + Send + Sync, R: Threads + Wait + Clock + Drop + Send 
     work: SharedWork,
     turns: u32,
 ) -> Result<Outcome, BenchError> {
-    if let SharedWork::Arms(workers) = work {
-        return time_arms(rt, heap, parts, workers, turns);
-    }
     let Parts {
         shared,
         mut seats,
@@ -112,7 +99,6 @@ fn time_parts<N: Sharing + Send + Sync, R: Threads + Wait + Clock + Drop + Send 
         SharedWork::Busy(_) | SharedWork::Idle(_) => {
             time_lookers(rt, heap, &shared, last, lookers, work.is_busy(), turns)
         }
-        SharedWork::Arms(_) => Err(BenchError::BadCount),
     }
 }
 
