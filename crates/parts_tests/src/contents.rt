@@ -1,66 +1,98 @@
-//! Contents and texts: asks and changes contents, makes names and shapes, copies and compares all
-//! of
-//! them; reads texts, and writes what was read. It calls each law of `argus_texts`.
+//! What queries return, what makes a name, and what suits a shape.
 
-mod appending;
-mod array_limits;
-mod asking;
-mod boxing;
-mod changing;
-mod comparing;
-mod content_calls;
-mod copying;
-mod fitting;
-mod lists;
-mod making;
-mod naming;
-mod reading;
-mod shaping;
-mod text_calls;
-
-use crate::row_files::run_files;
-use anyhow::Result;
-use argus_texts::{
-    content_texts_are_unambiguous, contents_are_read_back, fitting_contents_are_read_back,
-    shape_texts_are_unambiguous, shapes_are_read_back, value_texts_are_unambiguous,
-    values_are_read_back,
+use crate::kept::kept_of;
+use argus_contents::{
+    Change, Name, NameError, Shape, ShapeView, ask, ask_small, change_fits, fits, query_fits, typed,
 };
-use content_calls::ContentCalls;
-use text_calls::TextCalls;
+use argus_entries::{Call, Reply, write_reply};
+use argus_memory::Room;
+use argus_texts::read_shape;
+use test_rows::{RowFault, Setting, call_of, first_word, tell_word};
 
-// The files in data/ whose rows make calls of `argus_contents`.
-const CONTENT_ROWS: [&str; 6] = [
-    "queries.rows",
-    "changes.rows",
-    "names.rows",
-    "fitting.rows",
-    "equality.rows",
-    "memory.rows",
-];
-
-// Those whose rows make calls of `argus_texts`.
-const TEXT_ROWS: [&str; 4] = [
-    "text_values.rows",
-    "text_contents.rows",
-    "text_shapes.rows",
-    "text_memory.rows",
-];
-
-/// Whether each row of contents and of texts gets the answer that it says.
-pub(crate) fn run_rows(rt: HostRuntime) -> Result<bool> {
-    call_laws();
-    let are_contents_right = run_files::<ContentCalls>(rt, &CONTENT_ROWS)?;
-    let are_texts_right = run_files::<TextCalls>(rt, &TEXT_ROWS)?;
-    Ok(are_contents_right && are_texts_right)
+/// The operation of any action on any object: `ask fetch 3`, `alter addh 5`.
+pub(crate) fn operation_of(setting: Setting, kind: &str, text: &str) -> Result<Call, RowFault> {
+    let mut call = String::from_str(setting.texts.room(), kind)?;
+    call.push_str(" a0 o0 ")?;
+    call.push_str(text)?;
+    call_of(setting.texts, call.as_str())
 }
 
-// Each law can be called: it does nothing.
-fn call_laws() {
-    values_are_read_back();
-    contents_are_read_back();
-    fitting_contents_are_read_back();
-    shapes_are_read_back();
-    value_texts_are_unambiguous();
-    content_texts_are_unambiguous();
-    shape_texts_are_unambiguous();
+/// `CONTENT QUERY`: the answer. A small answer has to be the same.
+pub(crate) fn tell_asked(
+    setting: Setting,
+    text: &str,
+    out: &mut String<Room>,
+) -> Result<(), RowFault> {
+    let (content, query) = first_word(text);
+    let content = kept_of(setting.texts, content)?;
+    let Call::Ask(_, _, query) = operation_of(setting, "ask", query)? else {
+        return Err(RowFault::NotSpelled);
+    };
+    setting.limit();
+    let answer = ask(setting.heap, &content, &query)?;
+    if let Some(small) = ask_small(&content, &query)
+        && small.answer() != answer
+    {
+        tell_word("another small answer than", out)?;
+    }
+    write_reply(&Reply::Answered(answer), out)?;
+    Ok(())
+}
+
+/// `good` if the text makes a name, and its copy is the same; `BadName` if it makes none.
+pub(crate) fn tell_named(
+    setting: Setting,
+    text: &str,
+    out: &mut String<Room>,
+) -> Result<(), RowFault> {
+    setting.limit();
+    let said = match Name::new(setting.heap, text) {
+        Ok(name) => {
+            let copy = name.duplicate(setting.heap)?;
+            copy.form_is_kept();
+            if copy.as_str() == text {
+                "good"
+            } else {
+                "another name"
+            }
+        }
+        Err(NameError::BadName) if Name::is_name(text) => "BadName of a name",
+        Err(NameError::BadName) => "BadName",
+        Err(NameError::OutOfMemory) => return Err(RowFault::OutOfMemory),
+    };
+    out.push_str(said)?;
+    Ok(())
+}
+
+/// `SHAPE 3 ask QUERY`, `SHAPE 3 alter CHANGE`: whether it suits, with 3 objects declared.
+pub(crate) fn tell_fit(
+    setting: Setting,
+    text: &str,
+    out: &mut String<Room>,
+) -> Result<(), RowFault> {
+    let (shape, rest) = first_word(text);
+    let (declared, rest) = first_word(rest);
+    let declared = declared.parse::<u32>()?;
+    let (kind, operation) = first_word(rest);
+    let Some(shape) = read_shape(setting.texts, shape)? else {
+        return Err(RowFault::NotSpelled);
+    };
+    shape.limits_are_kept();
+    let is_fit = match operation_of(setting, kind, operation)? {
+        Call::Ask(_, _, query) => query_fits(&shape, &query),
+        Call::Alter(_, _, change) => suits(&shape, declared, &change),
+        _ => return Err(RowFault::NotSpelled),
+    };
+    out.push_str(if is_fit { "true" } else { "false" })?;
+    Ok(())
+}
+
+// A content and an item are tested by themselves, too.
+fn suits(shape: &Shape, declared: u32, change: &Change) -> bool {
+    let suits_alone = match (change, shape.view()) {
+        (Change::Create(content), _) => fits(shape, declared, content),
+        (Change::Addh(value), ShapeView::Arr(item)) => typed(item, declared, value),
+        _ => true,
+    };
+    suits_alone && change_fits(shape, declared, change)
 }

@@ -1,22 +1,49 @@
-//! Tests of a guardian's parts: contents and texts, trees of actions and locks, entries, journals
-//! and receipts, by the rows in data/. A row that doesn't get the answer that it says is printed,
-//! and the status is then 1, after all rows have run.
+//! Tests of a guardian's parts, by the rows in data/: contents, texts, trees of actions, locks,
+//! lines and receipts. A row that doesn't get the answer that it says is printed, and the status is
+//! then 1, after all rows have run.
 #![tactic(auto)]
 
+mod cells;
+mod changing;
 mod contents;
-mod journals;
-mod objects;
-mod row_files;
+mod journal_laws;
+mod kept;
+mod laws;
+mod lines;
+mod lists;
+mod parts;
+mod receipts;
+mod texts;
+mod trees;
 
 use anyhow::{Result, ensure};
+use parts::Parts;
+use std::fs;
+use test_rows::Tester;
+
+// The files in data/.
+const FILES: [&str; 11] = [
+    "queries.rows",
+    "changes.rows",
+    "names.rows",
+    "fitting.rows",
+    "text_values.rows",
+    "text_contents.rows",
+    "text_shapes.rows",
+    "trees.rows",
+    "locks.rows",
+    "lines.rows",
+    "receipts.rows",
+];
 
 fn main(rt: HostRuntime) -> Result<()> {
-    let are_contents_right = contents::run_rows(rt)?;
-    let are_objects_right = objects::run_rows(rt)?;
-    let are_journals_right = journals::run_rows(rt)?;
-    ensure!(
-        are_contents_right && are_objects_right && are_journals_right,
-        "not all rows are answered as they say"
-    );
+    laws::call_laws();
+    let mut tester = Tester::<Parts>::new(rt.alloc())?;
+    for name in &FILES {
+        let text = fs::read_to_string(&rt, *name)?;
+        tester.run_text(&rt, text.as_str())?;
+    }
+    tester.tell_counts(&rt)?;
+    ensure!(tester.is_content(), "not all rows are answered as they say");
     Ok(())
 }

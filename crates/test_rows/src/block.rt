@@ -23,27 +23,17 @@ pub enum Block<'a> {
 /// The test that the lines are.
 pub fn block_of<'a>(text: &'a str) -> Block<'a> {
     let (heading, lines) = text.split_once('\n').unwrap_or((text, ""));
-    if let Some(name) = heading.strip_prefix("test ") {
-        return test_of(name, false, lines);
-    }
-    if let Some(name) = heading.strip_prefix("large test ") {
-        return test_of(name, true, lines);
-    }
-    if are_comments(text) {
-        Block::Comment
-    } else {
-        Block::Unheaded
-    }
-}
-
-fn are_comments(text: &str) -> bool {
-    text.lines().all(|line| line.starts_with('#'))
-}
-
-fn test_of<'a>(name: &'a str, is_large: bool, lines: &'a str) -> Block<'a> {
-    Block::Test {
-        name,
-        is_large,
-        lines,
+    let (is_large, heading) = match heading.strip_prefix("large ") {
+        Some(heading) => (true, heading),
+        None => (false, heading),
+    };
+    match heading.strip_prefix("test ") {
+        Some(name) => Block::Test {
+            name,
+            is_large,
+            lines,
+        },
+        None if text.lines().all(|line| line.starts_with('#')) => Block::Comment,
+        None => Block::Unheaded,
     }
 }

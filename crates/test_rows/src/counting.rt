@@ -32,15 +32,6 @@ impl Counted<'_> {
         self.first.abs_diff(self.last)
     }
 
-    /// The row, if the number isn't in it.
-    pub fn same_row(&self) -> Option<&str> {
-        if self.row.contains('%') || self.row.contains('^') {
-            None
-        } else {
-            Some(self.row)
-        }
-    }
-
     /// The row this many steps after the first one: `%` stands for the number that is counted, up
     /// or down, and `^` for the number below it. `OutOfMemory`: there was no memory for its text.
     pub fn row_at(&self, texts: Heap, step: u32) -> Result<String<Room>, OutOfMemory> {
@@ -49,18 +40,14 @@ impl Counted<'_> {
         } else {
             self.first.saturating_sub(step)
         };
-        with_number(texts, self.row, number)
-    }
-}
-
-fn with_number(texts: Heap, row: &str, number: u32) -> Result<String<Room>, OutOfMemory> {
-    let mut out = String::new(texts.room());
-    for letter in row.chars() {
-        match letter {
-            '%' => tell_marked("", u64::from(number), &mut out)?,
-            '^' => tell_marked("", u64::from(number.saturating_sub(1)), &mut out)?,
-            _ => out.push(letter)?,
+        let mut out = String::new(texts.room());
+        for letter in self.row.chars() {
+            match letter {
+                '%' => tell_marked("", u64::from(number), &mut out)?,
+                '^' => tell_marked("", u64::from(number.saturating_sub(1)), &mut out)?,
+                _ => out.push(letter)?,
+            }
         }
+        Ok(out)
     }
-    Ok(out)
 }

@@ -1,6 +1,5 @@
 //! `RowFault`: why a row has no answer.
 
-use argus_contents::NameError;
 use argus_memory::OutOfMemory;
 use argus_texts::ReadError;
 use std::alloc::{AllocError, AllocFailed};
@@ -9,7 +8,7 @@ use std::num::ParseIntError;
 /// Why a row has no answer.
 ///
 /// ```text
-/// assert!(rt; matches!(query_of("ask"), Err(RowFault::NotSpelled)));
+/// assert!(rt; matches!(call_of(heap, "ask"), Err(RowFault::NotSpelled)));
 /// ```
 #[derive(Clone, Copy)]
 pub enum RowFault {
@@ -19,8 +18,6 @@ pub enum RowFault {
     OutOfMemory,
     /// After a refused allocation something had changed.
     Changed,
-    /// An allocation was refused, and the answer wasn't `OutOfMemory`.
-    Hidden,
     /// However many allocations were allowed, one was refused.
     NeverAnswered,
 }
@@ -32,7 +29,6 @@ impl RowFault {
             RowFault::NotSpelled => "it is no row",
             RowFault::OutOfMemory => "out of memory",
             RowFault::Changed => "a refused allocation has changed something",
-            RowFault::Hidden => "a refused allocation is answered otherwise",
             RowFault::NeverAnswered => "out of memory, whatever is allowed",
         }
     }
@@ -68,15 +64,6 @@ impl<T: Drop> From<AllocFailed<T>> for RowFault {
 
     fn from(_refused: AllocFailed<T>) -> RowFault {
         RowFault::OutOfMemory
-    }
-}
-
-impl From<NameError> for RowFault {
-    fn from(error: NameError) -> RowFault {
-        match error {
-            NameError::BadName => RowFault::NotSpelled,
-            NameError::OutOfMemory => RowFault::OutOfMemory,
-        }
     }
 }
 

@@ -28,27 +28,16 @@ pub fn spell_line(text: &str, out: &mut Vec<u8, Room>) -> Result<(), RowFault> {
     }
 }
 
-/// Adds the bytes that the text stands for.
-pub fn spell(text: &str, out: &mut Vec<u8, Room>) -> Result<(), RowFault> {
-    match text.split_once('<') {
-        None => add(text, out),
-        Some((plain, marked)) => {
-            add(plain, out)?;
-            spell_marked(marked, out)
-        }
-    }
-}
-
-// The text begins after a `<`.
-fn spell_marked(text: &str, out: &mut Vec<u8, Room>) -> Result<(), RowFault> {
-    for piece in text.split('<') {
+// Adds the bytes that the text stands for.
+fn spell(text: &str, out: &mut Vec<u8, Room>) -> Result<(), RowFault> {
+    for (place, piece) in text.split('<').enumerate() {
         match piece.split_once('>') {
-            Some((mark, plain)) if is_mark(mark) => {
+            Some((mark, plain)) if place > 0 && is_mark(mark) => {
                 spell_mark(mark, out)?;
                 add(plain, out)?;
             }
             Some(_) | None => {
-                add("<", out)?;
+                add(if place > 0 { "<" } else { "" }, out)?;
                 add(piece, out)?;
             }
         }
@@ -63,26 +52,19 @@ fn is_mark(mark: &str) -> bool {
 
 fn spell_mark(mark: &str, out: &mut Vec<u8, Room>) -> Result<(), RowFault> {
     match mark {
-        "tab" => add("\t", out),
-        "space" => add(" ", out),
-        "return" => add("\r", out),
-        "feed" => add("\n", out),
-        _ => match counted_of(mark) {
-            Some(counted) => add_counted(counted, out),
-            None => spell_number(mark, out),
-        },
+        "tab" => return add("\t", out),
+        "space" => return add(" ", out),
+        "return" => return add("\r", out),
+        "feed" => return add("\n", out),
+        _ => {}
     }
-}
-
-// A byte by its number, or a text this many times.
-fn spell_number(mark: &str, out: &mut Vec<u8, Room>) -> Result<(), RowFault> {
     if let Some(number) = mark.strip_prefix("byte ") {
         out.push(number.parse::<u8>()?)?;
         return Ok(());
     }
-    match mark.split_once(" times ") {
-        Some((times, text)) => add_times(times.parse::<u32>()?, text, out),
-        None => Err(RowFault::NotSpelled),
+    match counted_of(mark) {
+        Some(counted) => add_counted(counted, out),
+        None => add_times(mark, out),
     }
 }
 
@@ -94,8 +76,10 @@ fn add_counted(counted: Counted<'_>, out: &mut Vec<u8, Room>) -> Result<(), RowF
     Ok(())
 }
 
-fn add_times(times: u32, text: &str, out: &mut Vec<u8, Room>) -> Result<(), RowFault> {
-    for _ in 0..times {
+// `128 times TEXT`.
+fn add_times(mark: &str, out: &mut Vec<u8, Room>) -> Result<(), RowFault> {
+    let (times, text) = mark.split_once(" times ").ok_or(RowFault::NotSpelled)?;
+    for _ in 0..times.parse::<u32>()? {
         add(text, out)?;
     }
     Ok(())

@@ -6,11 +6,9 @@ use crate::row_fault::RowFault;
 use crate::setting::Setting;
 use crate::spelling::spelled_row;
 use crate::subject::Subject;
-use crate::telling::tell_marked;
-use crate::tight_answer::TightAnswer;
 use crate::word_reading::first_word;
 use anyhow::Result;
-use argus_memory::{OutOfMemory, Room};
+use argus_memory::Room;
 use std::alloc::{AllocError, Global};
 use std::collections::BTreeSet;
 use std::io::Print;
@@ -29,11 +27,10 @@ const MOST: u64 = 10_000;
 #[derive(Drop)]
 pub struct Tester<S: Subject> {
     setting: Setting,
-    // Those of the test that is running, and how many allocations its second one was refused.
+    // Those of the test that is running.
     ample: S,
     tight: S,
     rows: u32,
-    refusals: u64,
     // The first words of the rows that were refused an allocation.
     refused: BTreeSet<String<Room>, Room>,
     tests: u32,
@@ -49,7 +46,6 @@ impl<S: Subject> Tester<S> {
             ample: S::new(setting),
             tight: S::new(setting),
             rows: 0,
-            refusals: 0,
             refused: BTreeSet::new(setting.texts.room()),
             tests: 0,
             wrong: 0,
@@ -60,19 +56,12 @@ impl<S: Subject> Tester<S> {
     /// of rows that come before those of each test below it. An error comes if it can't be printed,
     /// or there is no memory; a wrong answer is printed and counted, and isn't an error.
     pub fn run_text(&mut self, rt: &impl Print, text: &str) -> Result<()> {
-        match text.split_once("before each test\n") {
-            None => self.run_blocks(rt, "", text),
-            Some((above, below)) => {
-                let (before, tests) = below.split_once("\n\n").unwrap_or((below, ""));
-                self.run_blocks(rt, "", above)?;
-                self.run_blocks(rt, before, tests)
-            }
-        }
-    }
-
-    fn run_blocks(&mut self, rt: &impl Print, before: &str, text: &str) -> Result<()> {
+        let mut before = "";
         for block in text.split("\n\n") {
-            self.run_block(rt, before, block)?;
+            match block.strip_prefix("before each test\n") {
+                Some(rows) => before = rows,
+                None => self.run_block(rt, before, block)?,
+            }
         }
         Ok(())
     }
@@ -84,7 +73,10 @@ impl<S: Subject> Tester<S> {
                 is_large,
                 lines,
             } => {
-                self.begin_test();
+                self.ample = S::new(self.setting);
+                self.tight = S::new(self.setting);
+                self.rows = 0;
+                self.tests = self.tests.saturating_add(1);
                 self.run_lines(rt, is_large, before)?;
                 self.run_lines(rt, is_large, lines)?;
                 println!(rt; "{name}: {} rows", self.rows)?;
@@ -95,28 +87,15 @@ impl<S: Subject> Tester<S> {
         Ok(())
     }
 
-    fn begin_test(&mut self) {
-        self.ample = S::new(self.setting);
-        self.tight = S::new(self.setting);
-        self.rows = 0;
-        self.refusals = 0;
-        self.tests = self.tests.saturating_add(1);
-    }
-
     fn run_lines(&mut self, rt: &impl Print, is_large: bool, lines: &str) -> Result<()> {
         for line in lines.lines() {
-            if !line.starts_with('#') {
-                self.run_line(rt, is_large, line)?;
+            match counted_of(line) {
+                None if line.starts_with('#') => {}
+                None => self.run_row(rt, is_large, line)?,
+                Some(counted) => self.run_counted(rt, is_large, counted)?,
             }
         }
         Ok(())
-    }
-
-    fn run_line(&mut self, rt: &impl Print, is_large: bool, line: &str) -> Result<()> {
-        match counted_of(line) {
-            None => self.run_row(rt, is_large, line),
-            Some(counted) => self.run_counted(rt, is_large, counted),
-        }
     }
 
     fn run_counted(&mut self, rt: &impl Print, is_large: bool, counted: Counted<'_>) -> Result<()> {
@@ -130,21 +109,13 @@ impl<S: Subject> Tester<S> {
     fn run_row(&mut self, rt: &impl Print, is_large: bool, row: &str) -> Result<()> {
         self.rows = self.rows.saturating_add(1);
         let (asked, wanted) = row.split_once(" -> ").unwrap_or((row, "an answer"));
-        if asked == "refusals" {
-            let answer = self.number_text(self.refusals, wanted);
-            return self.compare(rt, row, wanted, answer);
-        }
-        if let Some(counted) = asked.strip_prefix("allocations ") {
-            let answer = self.allocations(counted, wanted);
-            return self.compare(rt, row, wanted, answer);
-        }
         let answer = self.ample_answer(asked);
         self.compare(rt, row, wanted, answer)?;
         if is_large {
             return Ok(());
         }
         let answer = self.tight_answer(asked);
-        self.compare_tight(rt, row, wanted, answer)
+        self.compare(rt, row, wanted, answer)
     }
 
     fn ample_answer(&mut self, asked: &str) -> Result<String<Room>, RowFault> {
@@ -155,60 +126,20 @@ impl<S: Subject> Tester<S> {
     }
 
     // First no allocation is allowed, then one, then two, until none is refused.
-    fn tight_answer(&mut self, asked: &str) -> Result<TightAnswer, RowFault> {
+    fn tight_answer(&mut self, asked: &str) -> Result<String<Room>, RowFault> {
         let asked = spelled_row(self.setting.texts, asked)?;
         for allowed in 0..MOST {
             let setting = self.setting.allowing(allowed);
             let answer = self.tight.answer(setting, asked.as_str());
             self.setting.lift();
-            match answer {
-                Err(RowFault::OutOfMemory) => self.refusals = self.refusals.saturating_add(1),
-                Err(fault) => return Err(fault),
-                Ok(text) => {
-                    return Ok(TightAnswer {
-                        text,
-                        refused: allowed,
-                    });
-                }
+            if !matches!(answer, Err(RowFault::OutOfMemory)) {
+                return answer;
             }
+            let (word, _) = first_word(asked.as_str());
+            self.refused
+                .insert(String::from_str(self.setting.texts.room(), word)?)?;
         }
         Err(RowFault::NeverAnswered)
-    }
-
-    // How many allocations the request takes. The subject with ample memory gets it, too.
-    fn allocations(&mut self, asked: &str, wanted: &str) -> Result<String<Room>, RowFault> {
-        let _told = self.ample_answer(asked)?;
-        let answer = self.tight_answer(asked)?;
-        self.number_text(answer.refused, wanted)
-    }
-
-    // The number; or what is wanted, such as `2 or more`, if the number is that.
-    fn number_text(&self, number: u64, wanted: &str) -> Result<String<Room>, RowFault> {
-        let mut out = String::new(self.setting.texts.room());
-        if is_within(wanted, number) {
-            out.push_str(wanted)?;
-        } else {
-            tell_marked("", number, &mut out)?;
-        }
-        Ok(out)
-    }
-
-    fn compare_tight(
-        &mut self,
-        rt: &impl Print,
-        row: &str,
-        wanted: &str,
-        answer: Result<TightAnswer, RowFault>,
-    ) -> Result<()> {
-        match answer {
-            Ok(tight) => {
-                if tight.refused > 0 {
-                    self.note_refused(row)?;
-                }
-                self.compare(rt, row, wanted, Ok(tight.text))
-            }
-            Err(fault) => self.compare(rt, row, wanted, Err(fault)),
-        }
     }
 
     fn compare(
@@ -222,11 +153,14 @@ impl<S: Subject> Tester<S> {
             Ok(wanted) => wanted,
             Err(fault) => return self.tell_wrong(rt, row, fault.as_str(), wanted),
         };
-        match answer {
-            Ok(told) if told.as_str().trim_start() == wanted.as_str() => Ok(()),
-            Ok(told) => self.tell_wrong(rt, row, told.as_str(), wanted.as_str()),
-            Err(fault) => self.tell_wrong(rt, row, fault.as_str(), wanted.as_str()),
+        let told = match &answer {
+            Ok(told) => told.as_str().trim_start(),
+            Err(fault) => fault.as_str(),
+        };
+        if answer.is_ok() && told == wanted.as_str() {
+            return Ok(());
         }
+        self.tell_wrong(rt, row, told, wanted.as_str())
     }
 
     fn tell_wrong(&mut self, rt: &impl Print, row: &str, told: &str, wanted: &str) -> Result<()> {
@@ -235,13 +169,6 @@ impl<S: Subject> Tester<S> {
             "row {}: {row}\n  told: {told}; wanted: {wanted}",
             self.rows
         )?;
-        Ok(())
-    }
-
-    fn note_refused(&mut self, row: &str) -> Result<(), OutOfMemory> {
-        let (word, _) = first_word(row);
-        self.refused
-            .insert(String::from_str(self.setting.texts.room(), word)?)?;
         Ok(())
     }
 
@@ -260,23 +187,4 @@ impl<S: Subject> Tester<S> {
     pub fn is_content(&self) -> bool {
         self.wrong == 0
     }
-}
-
-// Whether the text is `2 or more` or `2 to 5`, and the number is.
-fn is_within(text: &str, number: u64) -> bool {
-    if let Some(least) = text.strip_suffix(" or more") {
-        return is_least(least, number);
-    }
-    match text.split_once(" to ") {
-        Some((least, most)) => is_least(least, number) && is_most(most, number),
-        None => false,
-    }
-}
-
-fn is_least(text: &str, number: u64) -> bool {
-    text.parse::<u64>().is_ok_and(|least| least <= number)
-}
-
-fn is_most(text: &str, number: u64) -> bool {
-    text.parse::<u64>().is_ok_and(|most| number <= most)
 }

@@ -1,9 +1,8 @@
 //! The words of rows. A text that isn't such a word is `NotSpelled`.
 
 ghost use Rattle.std.specs.Prelude.{◌≡◌, ◌==◌};
-ghost use Rattle.std.specs.Int.{w64};
 ghost use Rattle.std.specs.List.{after_first, before_first};
-ghost use Rattle.std.specs.Str.Parse.{ParsesSigned, ParsesUnsigned};
+ghost use Rattle.std.specs.Str.Parse.{ParsesUnsigned};
 
 use crate::row_fault::RowFault;
 use argus_actions::ActionId;
@@ -44,14 +43,7 @@ pub fn pair(text: &str) -> Result<(ActionId, ObjId), RowFault> {
     Ok((action(actor)?, object(rest)?))
 }
 
-/// An index, or a bound.
-pub fn place(text: &str) -> Result<i64, RowFault>
-    ensures { ParsesSigned w64 10 text.now result }
-{
-    Ok(text.parse::<i64>()?)
-}
-
-/// A field, or a tag.
+/// A number of one byte.
 pub fn part(text: &str) -> Result<u8, RowFault>
     ensures { ParsesUnsigned 8 10 text.now result }
 {
