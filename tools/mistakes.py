@@ -114,7 +114,8 @@ def functions_of(text, module, homes):
         in_circle = in_circle or bool(IN_CIRCLE.match(line))
         head = FUNCTION.match(line)
         if head and len(head[1]) == (4 if owner else 0):
-            end = next((it for it in range(at, len(lines)) if lines[it] == head[1] + "}"), len(lines) - 1)
+            ends = (head[1] + "}", head[1] + "{}")
+            end = next((it for it in range(at, len(lines)) if lines[it] in ends), len(lines) - 1)
             calls_itself = any(re.search(rf"\b{head[2]}\(", it) for it in lines[at + 1 : end])
             path = [*homes.get(owner, module), owner, head[2]] if owner else [*module, head[2]]
             found.append(Function("::".join(path), at, end, is_trait or in_circle or calls_itself))
