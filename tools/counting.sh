@@ -1,6 +1,6 @@
 # SPDX-License-Identifier: MIT
-# What ./test and .ci/run have in common: they add up what the scripts that they run have counted. Whoever takes
-# this in has set `room`, a folder for what is held back.
+# What ./test and .ci/run have in common: the parts that both run, and how they add up what these have counted.
+# Whoever takes this in has set `room`, a folder for what is held back.
 
 passed=0
 failed=0
@@ -32,4 +32,18 @@ count_status() {
         failed=$((failed + 1))
         echo "$1 FAILED"
     fi
+}
+
+# The rows of the programs, and the launchers, over the programs that are proved, or that ARGUS, REPLAY and PICTURE
+# name.
+count_programs() {
+    tools/programs/run.py > "$room/programs" 2>&1 || true
+    count "$room/programs"
+    tools/launchers.sh > "$room/launchers" 2>&1 || true
+    count "$room/launchers"
+}
+
+# What README.md shows, once the programs and the library for C are there.
+count_shown() {
+    count_status "README.md: what it shows" tools/readme.py
 }

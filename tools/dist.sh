@@ -14,7 +14,7 @@
 #   DIST/include/argus_values.h     that for values, which includes it
 #   DIST/share/doc/argus/LICENSE    the license
 #
-# tools/release.sh then adds what is handed on: programs, manual page, crates, a list, an archive and a wheel.
+# tools/release.sh then adds what is handed on: programs, manual page, crates, licenses, a list, an archive and a wheel.
 #
 # FOLDER is that of libargus_c.a, else where `rt lib` in crates/argus_c leaves it. DIST is the folder dist
 # at the repository's top where nothing is said; make -C hosts/c install PREFIX=.. installs what is in it.

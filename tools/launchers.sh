@@ -2,7 +2,8 @@
 # SPDX-License-Identifier: MIT
 # Tries ./argus, ./replay and ./picture: files that are named, what is said of them, help without a build, and the
 # builds that are kept. For these a copy of the launchers has a maker in place of the kit: it does what the file
-# `meanwhile` says, and copies the program that is there. The last line is 'N passed, M failed', and the status tells whether any failed.
+# `meanwhile` says, and copies the program that is there. The last line is 'N passed, M failed', and the status tells
+# whether any failed.
 #
 #   [ARGUS=PROGRAM] [REPLAY=PROGRAM] [PICTURE=PROGRAM] tools/launchers.sh
 #
@@ -34,6 +35,13 @@ tried() {
     fi
 }
 
+# Runs a command whose output goes to a pipe that nobody reads.
+unread() {
+    exec 4> >(:)
+    wait $!
+    "$@" >&4 4>&-
+}
+
 # A folder with the launchers, whose builds are copies of this program or, without one, fail: copy_of FOLDER [PROGRAM]
 copy_of() {
     mkdir -p "$1/tools" "$1/build/unproved" "$1"/crates/{argus,replay,picture,argus_usage}/src
@@ -42,7 +50,7 @@ copy_of() {
     cp "$top/crates/argus_usage/src/command.rt" "$1/crates/argus_usage/src"
     printf '%s: argus_usage\n' argus replay picture > "$1/crates.txt"
     echo '// one' > "$1/crates/argus/src/main.rt"
-    printf '#!/bin/sh\necho made >> made\n[ ! -e meanwhile ] || sh meanwhile\necho words\ncp "%s" "$2"\n' \
+    printf '#!/bin/sh\necho made >> made\n[ ! -e meanwhile ] || . ./meanwhile\necho words\ncp "%s" "$2"\n' \
         "${2:-/nothing}" > "$1/tools/unproved.py"
     sed -i "s|^find_kit() {|&\n    echo kit; return|" "$1/tools/program.sh"
     chmod +x "$1/tools/unproved.py"
@@ -94,6 +102,8 @@ of_files() {
     tried 0 'account {5}' '' kept/argus "$top/docs/first.argus"
     tried 0 'account {5}' '' kept/argus -- "$top/docs/first.argus"
     tried 0 'account base {5}' '' sh -c "kept/argus '$top/docs/first.argus' --list audit | head -n 1"
+    tried 5 '' 'write fault' unread kept/argus "$top/docs/first.argus"
+    tried 5 '' 'write fault' unread sh -c "kept/argus < '$top/docs/first.argus'"
     tried 3 '' 'a faulty one: line 2: BadWord' kept/argus --workers 2 'a faulty one'
     tried 3 '' 'line 2: BadWord' sh -c "kept/argus < 'a faulty one'"
     tried 5 '' 'nothing: read fault' kept/argus nothing
@@ -123,40 +133,72 @@ account {5}' '' first_call kept/argus "$top/docs/first.argus"
     tried 0 1 '' times_made
 }
 
+# Waits until a file is there, or has this line: wait_for FILE [LINE]
+wait_for() {
+    until [ -e "$1" ] && { [ "$#" = 1 ] || grep -qxF "$2" "$1"; }; do sleep 0.02; done
+}
+
 # Two calls at once make one build; the other one waits for it.
 of_calls_at_once() {
-    local pid
+    local other='argus: another call compiles it; waiting for that'
     rm -rf kept/build/unproved/* made
-    echo 'sleep 1' > meanwhile
+    echo 'touch begun; until [ -e waited ]; do sleep 0.02; done' > meanwhile
     kept/argus "$top/docs/first.argus" > first 2> /dev/null &
-    pid=$!
-    kept/argus "$top/docs/first.argus" > second 2> /dev/null
-    wait "$pid"
-    tried 0 "$(printf 'account {5}\naccount {5}')" '' cat first second
+    wait_for begun
+    kept/argus "$top/docs/first.argus" > second 2> said &
+    wait_for said "$other"
+    touch waited
+    wait
+    tried 0 "$(printf 'account {5}\naccount {5}\n%s' "$other")" '' cat first second said
     tried 0 1 '' times_made
     tried 0 argus-SUM '' kept_in kept
 }
 
-# A build that fails, that is interrupted, or whose sources change meanwhile, leaves nothing.
+# A build that fails, or whose sources change meanwhile, leaves nothing.
 of_failures() {
-    local pid
     tried 1 'argus: compiling argus without proof: N s so far
 words
 cp: cannot stat '"'/nothing'"': No such file or directory
 argus: not compiled, as the lines above say' '' first_call broken/argus "$top/docs/first.argus"
     tried 0 '' '' kept_in broken
     rm -rf kept/build/unproved/*
-    echo 'touch begun; sleep 60' > meanwhile
-    setsid kept/argus "$top/docs/first.argus" > /dev/null 2>&1 &
-    pid=$!
-    until [ -e begun ]; do sleep 0.1; done
-    kill -TERM -- "-$pid"
-    wait "$pid"
-    tried 0 '' '' kept_in kept
     echo 'echo "// three" > kept/crates/argus/src/main.rt' > meanwhile
     tried 1 'argus: compiling argus without proof: N s so far
 argus: the sources changed while they were compiled: try again' '' first_call kept/argus "$top/docs/first.argus"
     tried 0 '' '' kept_in kept
+}
+
+# Whether no process of a group is left, now or in a moment: is_over GROUP
+is_over() {
+    local tries
+    for ((tries = 0; tries < 250; tries++)); do
+        kill -0 -- "-$1" 2> /dev/null || return 0
+        sleep 0.02
+    done
+    return 1
+}
+
+# Nor does one that is interrupted, be it the launcher alone or all that it has begun, as from a terminal; and nothing
+# goes on: interrupted SIGNAL WHO
+interrupted() {
+    local pid
+    rm -f begun
+    env --default-signal=INT setsid kept/argus "$top/docs/first.argus" > said 2>&1 &
+    pid=$!
+    wait_for begun
+    kill "-$1" -- "${2/PID/$pid}"
+    tried 1 '' '' wait "$pid"
+    tried 0 '' '' is_over "$pid"
+    tried 0 '' '' kept_in kept
+}
+
+of_interrupts() {
+    rm -rf kept/build/unproved/*
+    echo 'touch begun; exec sleep 60' > meanwhile
+    interrupted TERM PID
+    interrupted TERM -PID
+    interrupted HUP -PID
+    interrupted INT -PID
 }
 
 for program in "$argus" "$replay" "$picture"; do
@@ -180,5 +222,6 @@ of_files
 of_kept_builds
 of_calls_at_once
 of_failures
+of_interrupts
 echo "$passed passed, $failed failed"
 [ "$failed" = 0 ]

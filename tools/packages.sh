@@ -1,7 +1,8 @@
 #!/usr/bin/env bash
 # SPDX-License-Identifier: MIT
 # Debian's packages that the hosts' tests need beside a C compiler, cargo and Python: those of
-# hosts/rust/etcd and hosts/rust/host, and etcd itself. Without them hosts/run leaves those tests out.
+# hosts/rust/etcd and hosts/rust/host, and etcd itself; what looks at Python's types, and what the shops of
+# hosts/python stand on. Without them hosts/run leaves those tests out.
 #
 #   tools/packages.sh             prints the packages that are missing, one a line; status 1 if any is
 #   tools/packages.sh --install   installs those, by apt-get, as root
@@ -23,6 +24,8 @@ packages=(
     librust-clap-dev librust-clap-derive-dev librust-httparse-dev librust-signal-hook-dev librust-subtle-dev
     # how the crate of libcurl finds it
     pkg-config
+    # types of Python, and the shops
+    mypy python3-aiohttp
 )
 
 if ! command -v dpkg-query > /dev/null; then

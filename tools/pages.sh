@@ -1,8 +1,8 @@
 #!/usr/bin/env bash
 # SPDX-License-Identifier: MIT
 # Looks at the pages of the repository, in a second: what they point to is there, the maps of files and
-# the picture of the design are as their scripts write them, README.md shows the texts of files that
-# are run, and the version is that of CHANGELOG.md wherever it stands. All look, and each line that is
+# the picture of the design are as their scripts write them, README.md and docs/EMBEDDING.md show the texts of
+# files that are run, and the version is that of CHANGELOG.md wherever it stands. All look, and each line that is
 # printed but the count of links is a fault.
 #
 #   tools/pages.sh           the status tells whether all is well
@@ -19,6 +19,8 @@ tools/links.py || status=1
 tools/maps.py --check || status=1
 tools/design.py --check || status=1
 tools/readme.py --texts || status=1
+awk '/^```$/ { shown = 0 } shown; /^```rust$/ { shown = 1 }' docs/EMBEDDING.md |
+    cmp - crates/argus_embedding_example/src/main.rt || status=1
 version=$(sed -n 's/^## \([0-9.]*\).*/\1/p' CHANGELOG.md | head -n 1)
 places=(crates/argus_usage/src/command.rt crates/argus_c/include/argus.h hosts/rust/Cargo.toml hosts/rust/sys/Cargo.toml
     hosts/rust/etcd/Cargo.toml hosts/rust/host/Cargo.toml hosts/rust/log_c/Cargo.toml

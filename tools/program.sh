@@ -43,9 +43,9 @@ is_proved() {
     [ -z "$newer" ]
 }
 
-# The command of the Rattle kit: on the path, or where a kit usually lies.
+# The command of the Rattle kit: of the one that is named, on the path, or where a kit usually lies.
 find_kit() {
-    if command -v rt > /dev/null 2>&1; then
+    if [ -z "${RATTLE_KIT:-}" ] && command -v rt > /dev/null 2>&1; then
         command -v rt
     elif [ -x "${RATTLE_KIT:-/opt/rattle}/bin/rt" ]; then
         echo "${RATTLE_KIT:-/opt/rattle}/bin/rt"
@@ -80,19 +80,38 @@ file_of() {
     if [ "$1" = argus_c ]; then echo libargus_c.a; else echo "$1"; fi
 }
 
-# Counts the seconds until it is ended: on a terminal in one line, else in a line each half minute.
+# Sleeps, until it is over or a signal comes, of which a shell would print a line: nap SECONDS
+nap() {
+    sleep "$1" > /dev/null 2>&1 &
+    napping=$!
+    wait "$napping" 2> /dev/null
+}
+
+# Says how long something takes so far; on a terminal in one line, else in a line each half minute:
+# tell_progress WHAT SECONDS
+tell_progress() {
+    if [ -t 2 ]; then
+        printf '\r%s: %s: %s s so far' "$name" "$1" "$2" >&2
+    elif [ $(($2 % 30)) = 0 ]; then
+        say "$1: $2 s so far"
+    fi
+}
+
+# Counts the seconds until it is ended, or the launcher has: tell_seconds WHAT
 tell_seconds() {
-    trap 'exit 0' TERM
+    napping=
+    trap 'kill $napping 2> /dev/null && wait "$napping" 2> /dev/null; exit 0' TERM
     seconds=0
-    while :; do
-        if [ -t 2 ]; then
-            printf '\r%s: %s: %s s so far' "$name" "$1" "$seconds" >&2
-        elif [ $((seconds % 30)) = 0 ]; then
-            say "$1: $seconds s so far"
-        fi
-        sleep 1 > /dev/null 2>&1
+    while nap 1 && kill -0 $$ 2> /dev/null; do
         seconds=$((seconds + 1))
+        tell_progress "$1" "$seconds"
     done
+}
+
+# Ends these processes, which may have ended, and waits for all: end PROCESS..
+end() {
+    [ "$#" = 0 ] || kill "$@" 2> /dev/null || :
+    wait 2> /dev/null || :
 }
 
 # Lets one call at a time make builds of a crate.
@@ -115,19 +134,34 @@ leave_newest() {
 # Makes the unproved build in the folder `making`: compile CRATE
 compile() {
     begin=$(date +%s)
+    what="compiling $1 without proof"
+    tell_progress "$what" 0
     # The lock isn't the ticker's: `exec` gives it up, where a redirection of the call would keep a copy.
-    { exec 9>&-; tell_seconds "compiling $1 without proof"; } &
+    { exec 9>&-; tell_seconds "$what"; } &
     ticker=$!
-    "$top/tools/unproved.py" "$1" "$making/$(file_of "$1")" < /dev/null > "$making/log" 2>&1 9>&- || compiled=no
-    kill "$ticker"
+    # The launcher waits for it, since a shell hears no signal while it runs a command.
+    "$top/tools/unproved.py" "$1" "$making/$(file_of "$1")" < /dev/null > "$making/log" 2>&1 9>&- &
+    maker=$!
+    wait "$maker" || compiled=no
+    maker=
+    end "$ticker"
     ticker=
-    [ ! -t 2 ] || printf '\r' >&2
     if [ "${compiled:-}" = no ]; then
+        [ ! -t 2 ] || echo >&2
         cat "$making/log" >&2
         say "not compiled, as the lines above say"
         exit 1
     fi
+    # What comes next is longer than the line that it takes the place of.
+    [ ! -t 2 ] || printf '\r' >&2
     rm "$making/log"
+}
+
+# Leaves nothing of a build that isn't made.
+leave_nothing() {
+    if [ -n "$ticker" ] && [ -t 2 ]; then echo >&2; fi
+    end $ticker $maker
+    rm -rf "$making"
 }
 
 # Makes an unproved build of the sources as they stand, if another call hasn't meanwhile: keep CRATE
@@ -139,15 +173,16 @@ keep() {
     if [ ! -e "$kept" ]; then
         making=$(mktemp -d "$top/build/unproved/$1-making.XXXXXX")
         ticker=
-        trap '[ -z "$ticker" ] || kill "$ticker"; rm -rf "$making"' EXIT
-        trap 'exit 1' HUP INT TERM
+        maker=
+        trap leave_nothing EXIT
+        trap 'exit 1' HUP INT QUIT TERM
         compile "$1"
         if [ "$(kept_folder "$1")" != "$kept" ]; then
             say "the sources changed while they were compiled: try again"
             exit 1
         fi
         mv "$making" "$kept"
-        trap - EXIT HUP INT TERM
+        trap - EXIT HUP INT QUIT TERM
         say "compiled in $(($(date +%s) - begin)) s, and kept; this build isn't proved"
         leave_newest "$1"
     fi
@@ -156,12 +191,11 @@ keep() {
 
 # Says how far the proof is, now and each minute until it is ended: tell_minutes WHERE BEGIN
 tell_minutes() {
-    trap 'kill "$nap"; exit 0' TERM
-    while :; do
+    napping=
+    trap 'kill $napping 2> /dev/null && wait "$napping" 2> /dev/null; exit 0' TERM
+    while kill -0 $$ 2> /dev/null; do
         say "$1; $((($(date +%s) - $2) / 60)) min so far"
-        sleep 60 > /dev/null 2>&1 &
-        nap=$!
-        wait "$nap"
+        nap 60
     done
 }
 
@@ -177,7 +211,7 @@ prove() {
     total=$(crates | wc -l)
     number=0
     ticker=
-    trap '[ -z "$ticker" ] || kill "$ticker"' EXIT
+    trap 'end $ticker' EXIT
     trap 'exit 1' INT TERM
     for crate in $(crates); do
         number=$((number + 1))
@@ -190,7 +224,7 @@ prove() {
             say "not proved: see $log"
             exit 1
         fi
-        kill "$ticker"
+        end "$ticker"
         ticker=
     done
     # What was saved since the proof began is newer: it may not have been read.

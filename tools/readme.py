@@ -6,20 +6,23 @@
                                example of hosts/rust/src/lib.rs, which `cargo test` runs, the figures of
                                what it costs with bench/README.md, where a line has all those of a row
     tools/readme.py            also runs what it shows: the command lines, by ./argus, and the picture, by
-                               ./picture, have to print what stands there; so does the Python, over the
-                               library, where hosts/run has made build/hosts/dist
+                               ./picture, have to print what stands there; so do the way in without a kit
+                               and the Python, over what hosts/run has made, build/hosts/dist
 
 It says what isn't so, and what it leaves out. The status tells whether all is. Python 3 is all that it needs.
 """
 
+import importlib.util
 import os
 import pathlib
 import re
 import subprocess
 import sys
+import tempfile
 
 TOP = pathlib.Path(__file__).resolve().parent.parent
-LIBRARY = TOP / "build/hosts/dist/lib/libargus.so.0"
+DIST = TOP / "build/hosts/dist"
+LIBRARY = DIST / "lib/libargus.so.0"
 
 
 def block(text, language):
@@ -65,6 +68,34 @@ def python_prints(source):
     return printed_by([sys.executable, "-c", source], env=settings).splitlines(), said
 
 
+def has_release():
+    """Whether the way in can be gone: there are the programs, the wheel, and what makes an environment of Python's."""
+    has_files = (DIST / "bin/argus").exists() and any(DIST.glob("*.whl"))
+    return has_files and importlib.util.find_spec("ensurepip") is not None
+
+
+def ways_in(source):
+    """What the lines without a kit print, in a folder with a release and an environment of Python's; and what
+    comments behind them say of it."""
+    with tempfile.TemporaryDirectory() as room:
+        subprocess.run([sys.executable, "-m", "venv", f"{room}/venv"], check=True)
+        os.symlink(TOP / "docs", f"{room}/docs")
+        os.mkdir(f"{room}/dist")
+        for it in (*DIST.glob("*.tar.gz"), *DIST.glob("*.whl")):
+            os.symlink(it, f"{room}/dist/{it.name}")
+        settings = {**os.environ, "PATH": f"{room}/venv/bin:{os.environ['PATH']}", "PIP_NO_INDEX": "1"}
+        printed = subprocess.run(
+            ["sh", "-euc", source.replace("pip install", "pip install --quiet")],
+            cwd=room,
+            env=settings,
+            capture_output=True,
+            text=True,
+            check=False,
+        )
+        shown = printed.stdout if printed.returncode == 0 else printed.stderr
+    return shown.splitlines(), re.findall(r"# prints (.*)$", source, re.MULTILINE)
+
+
 def main():
     page = (TOP / "README.md").read_text(encoding="utf-8")
     pairs = [
@@ -82,6 +113,10 @@ def main():
             pairs.append(("the Python", *python_prints(block(page, "python"))))
         else:
             print("README.md: the Python LEFT OUT: no archive for it")
+        if has_release():
+            pairs.append(("the way in without a kit", *ways_in(block(page, "sh"))))
+        else:
+            print("README.md: the way in without a kit LEFT OUT: no release with programs and a wheel, or no ensurepip")
     wrong = [name for name, shown, so in pairs if not shown or shown != so]
     for name in wrong:
         print(f"README.md: {name} isn't what it should be")

@@ -8,6 +8,7 @@
 #                                          and PICTURE in the environment name others
 #   DIST/share/man/man3/argus.3            the manual page of argus.h
 #   DIST/share/argus/rust                  the crates argus-guardian and, in sys/, argus-guardian-sys
+#   DIST/share/doc/argus/LICENSE.kit       the kit's crates that are in all of this, with their licenses
 #   DIST/share/doc/argus/CONTENTS          each file with its SHA-256, and what isn't proved
 #   DIST/argus-VERSION-linux-x86_64.tar.gz all of that, with its SHA-256 in a file beside it
 #   DIST/argus_guardian-VERSION-*.whl      the wheel, where a Python with setuptools and wheel is there
@@ -69,21 +70,28 @@ add_manual() {
     "$top/tools/manual.py" "$headers/argus.h" "$headers/argus_values.h" > "$dist/share/man/man3/argus.3"
 }
 
+add_licenses() {
+    PYTHONDONTWRITEBYTECODE=1 "$top/tools/licenses.py" argus_c argus replay picture > "$room/licenses"
+    install -m 644 "$room/licenses" "$dist/share/doc/argus/LICENSE.kit"
+}
+
 # What is proved of the release: by what the archive says of itself, and by where the programs come from.
 origins() {
-    local program found
-    if grep -a -q 'rattle logic=' "$dist/lib/libargus.a"; then
-        echo "lib: of an archive that says it was proved in logic $(grep -a -o -m 1 'rattle logic=[0-9a-f]*' "$dist/lib/libargus.a" | head -n 1 | cut -d= -f 2)"
+    local name proved found logic
+    logic=$(grep -a -o -m 1 'rattle logic=[0-9a-f]*' "$dist/lib/libargus.a" | head -n 1 || true)
+    if [ -n "$logic" ]; then
+        echo "lib: of an archive that says it was proved in logic ${logic#*=}"
     else
         echo "lib: of an archive that DOESN'T SAY it was proved"
     fi
-    for program in argus replay picture; do
-        found=$(find_one "$program")
-        case $found in
-            '') ;;
-            "$top/crates/$program/out/$program") echo "bin/$program: proved" ;;
-            *) echo "bin/$program: NOT PROVED" ;;
-        esac
+    for name in argus replay picture; do
+        proved=$top/crates/$name/out/$name
+        found=$(find_one "$name")
+        if [ -n "$found" ] && [ "$found" = "$proved" ] && is_proved; then
+            echo "bin/$name: proved"
+        elif [ -n "$found" ]; then
+            echo "bin/$name: NOT PROVED"
+        fi
     done
 }
 
@@ -142,6 +150,7 @@ make_wheel() {
         platform=manylinux_2_17_x86_64
     fi
     cp -r "$top/hosts/python" "$room/python"
+    cp "$dist"/share/doc/argus/LICENSE* "$room/python"
     if ! (cd "$room/python" && ARGUS_LIB_DIR=$dist/lib "$python" setup.py -q bdist_wheel --plat-name "$platform" \
         --dist-dir "$dist") > "$room/words" 2>&1; then
         cat "$room/words" >&2
@@ -152,6 +161,7 @@ make_wheel() {
 add_programs
 add_crates
 add_manual
+add_licenses
 list_contents
 pack
 make_wheel

@@ -35,9 +35,11 @@ check 'closed output' 'write fault' $?
 check 'a folder as input' 'read fault' $?
 "$program" <&- > /dev/null 2> "$told"
 check 'closed input' 'read fault' $?
-{ sleep 1; "$program" < "$script" 2> "$told"; echo $? > "$told.status"; } | true
-check 'a pipe that nobody reads' 'write fault' "$(cat "$told.status")"
-rm -f "$told.status"
+exec 4> >(:)
+wait $!
+"$program" < "$script" >&4 2> "$told"
+check 'a pipe that nobody reads' 'write fault' $?
+exec 4>&-
 
 for named in "$program" "$replay" "$picture"; do
     name=${named##*/}
