@@ -49,7 +49,7 @@ script() {
 ours() {
     local begin
     begin=$(date +%s%N)
-    "$argus" --workers "$1" --patience 1000000 < "$figures/script" > /dev/null
+    "$argus" --workers "$1" --patience 1000 < "$figures/script" > /dev/null
     echo $((($(date +%s%N) - begin) / 102002)) >> "$figures/ours-$1"
 }
 
