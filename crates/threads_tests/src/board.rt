@@ -1,12 +1,12 @@
-//! One thread publishes, and another looks; and a board at which nobody can look.
+//! One thread publishes, and another looks; and a board at which nobody can look, which takes no
+//! memory.
 
 ghost use Rattle.std.specs.Prelude.{[], None, ◌≡◌};
 ghost use Rattle.argus_board.specs.Effects.{IsTableOf};
 ghost use Rattle.argus_board.specs.Keeper.{StartsHistory};
 
-use crate::effects::{effect, number_at};
-use argus_board::{Board, BoardWriter, Keeper, LookFault, Looker, TellsEffects};
-use argus_contents::ObjId;
+use argus_board::{Board, BoardWriter, Effect, Keeper, LookFault, Looker, TellsEffects};
+use argus_contents::{Content, ObjId, Value};
 use argus_memory::{Budget, Heap, OutOfMemory};
 use std::marker::Brand;
 use std::process::Abort;
@@ -15,6 +15,28 @@ use std::test::Fail;
 use std::thread::{Threads, join};
 
 const TURNS: i64 = 1000;
+
+// Each of these objects, with a record of this number.
+fn effect(heap: Heap, objects: &[u32], number: i64) -> Result<Effect, OutOfMemory> {
+    let mut effect = Vec::new(heap.room());
+    for object in objects {
+        let mut fields = Vec::new(heap.room());
+        fields.push(Value::Int(number))?;
+        effect.push((ObjId(*object), Some(Content::Rec(fields))))?;
+    }
+    Ok(effect)
+}
+
+// The number of the record at this place of what a look returned, if there is one.
+fn number_at(found: &[Option<Content>], place: usize) -> Option<i64> {
+    let Some(Some(Content::Rec(fields))) = found.get(place) else {
+        return None;
+    };
+    let Some(Value::Int(number)) = fields.first() else {
+        return None;
+    };
+    Some(*number)
+}
 
 #[test]
 fn one_publishes_and_one_looks(rt: HostRuntime) -> Result<(), Fail> {
@@ -94,36 +116,12 @@ impl TellsEffects<u8> for NoEffect {
 }
 
 #[test]
-fn a_board_without_places_gives_out_none(rt: HostRuntime) -> Result<(), Fail> {
-    let heap = Heap::new(rt.alloc())?;
-    publish_to_nobody::<Brand, _>(rt, heap, Keeper::new())
-}
-
-fn publish_to_nobody<N: Board, R: Wait + Abort + Copy + Drop>(
-    rt: R,
-    heap: Heap,
-    keeper: Keeper,
-) -> Result<(), Fail>
-    requires keeper { StartsHistory N.history N.root keeper }
-    requires places { N.places ≡ 0 }
-    requires leads { IsTableOf N.opening_contents N.before N.first }
-{
-    let mut board = BoardWriter::<N, R>::without_places(rt, keeper);
-    assert!(rt; !board.has_places());
-    assert!(rt; board.looker().is_err());
-    board.append(effect(heap, &[0, 3], 1)?)?;
-    board.append_told::<u8, NoEffect>(&0);
-    board.publish()?;
-    board.end();
-    Ok(())
-}
-
-#[test]
 fn a_board_for_no_lookers_takes_no_memory(rt: HostRuntime) -> Result<(), Fail> {
     let budget = Budget::new(rt.alloc())?;
     let heap = Heap::with_budget(rt.alloc(), budget);
+    let effect = effect(Heap::new(rt.alloc())?, &[0, 3], 1)?;
     budget.allow(0);
-    open_for_nobody::<Brand, _>(rt, heap, Keeper::new())?;
+    open_for_nobody::<Brand, _>(rt, heap, effect, Keeper::new())?;
     assert_eq!(rt; budget.left(), Some(0));
     Ok(())
 }
@@ -131,6 +129,7 @@ fn a_board_for_no_lookers_takes_no_memory(rt: HostRuntime) -> Result<(), Fail> {
 fn open_for_nobody<N: Board, R: Wait + Abort + Copy + Drop>(
     rt: R,
     heap: Heap,
+    effect: Effect,
     keeper: Keeper,
 ) -> Result<(), Fail>
     requires places { N.places ≡ 0 }
@@ -138,8 +137,12 @@ fn open_for_nobody<N: Board, R: Wait + Abort + Copy + Drop>(
     requires first { N.first ≡ [] }
     requires leads { IsTableOf N.opening_contents N.before N.first }
 {
-    let board = BoardWriter::<N, R>::new(rt, heap, Vec::new(heap.room()), keeper, 0)?;
+    let mut board = BoardWriter::<N, R>::new(rt, heap, Vec::new(heap.room()), keeper, 0)?;
     assert!(rt; !board.has_places());
+    assert!(rt; board.looker().is_err());
+    board.append(effect)?;
+    board.append_told::<u8, NoEffect>(&0);
+    board.publish()?;
     board.end();
     Ok(())
 }

@@ -11,16 +11,13 @@ use std::thread::Threads;
 
 type Names = HashMap<String<Room>, u32, BuildHasherDefault<FoldHasher>, Room>;
 
-fn named(heap: Heap) -> Result<Names, OutOfMemory> {
-    let mut names = HashMap::with_hasher(heap.room(), BuildHasherDefault::default());
+// How many there are in a map and in a tree.
+fn mapped(heap: Heap) -> Result<usize, OutOfMemory> {
+    let mut names: Names = HashMap::with_hasher(heap.room(), BuildHasherDefault::default());
     names.insert(String::from_str(heap.room(), "abc")?, 0)?;
-    Ok(names)
-}
-
-fn sorted(heap: Heap) -> Result<BTreeMap<u8, u32, Room>, OutOfMemory> {
-    let mut map = BTreeMap::new(heap.room());
-    map.insert(1u8, 2u32)?;
-    Ok(map)
+    let mut numbers = BTreeMap::new(heap.room());
+    numbers.insert(1u8, 2u32)?;
+    Ok(names.len().saturating_add(numbers.len()))
 }
 
 // A list of three that grew by itself.
@@ -58,19 +55,12 @@ fn a_heap_without_a_limit_gives(rt: HostRuntime) -> Result<(), Fail> {
     let heap = Heap::new(rt.alloc())?;
     assert_eq!(rt; listed(heap)?.as_slice(), [1, 2].as_slice());
     assert_eq!(rt; pushed(&rt, heap)?, 1);
+    assert_eq!(rt; mapped(heap)?, 2);
     Ok(())
 }
 
 #[test]
-fn a_heap_without_a_limit_gives_maps(rt: HostRuntime) -> Result<(), Fail> {
-    let heap = Heap::new(rt.alloc())?;
-    assert_eq!(rt; named(heap)?.len(), 1);
-    assert_eq!(rt; sorted(heap)?.len(), 1);
-    Ok(())
-}
-
-#[test]
-fn a_budget_counts(rt: HostRuntime) -> Result<(), Fail> {
+fn a_budget_counts_and_refuses_until_it_is_lifted(rt: HostRuntime) -> Result<(), Fail> {
     let budget = Budget::new(rt.alloc())?;
     let heap = Heap::with_budget(rt.alloc(), budget);
     assert_eq!(rt; budget.left(), None);
@@ -78,14 +68,6 @@ fn a_budget_counts(rt: HostRuntime) -> Result<(), Fail> {
     assert_eq!(rt; listed(heap)?.len(), 2);
     // made and grown; shrinking took nothing
     assert_eq!(rt; budget.left(), Some(1));
-    Ok(())
-}
-
-#[test]
-fn a_budget_refuses_until_it_is_lifted(rt: HostRuntime) -> Result<(), Fail> {
-    let budget = Budget::new(rt.alloc())?;
-    let heap = Heap::with_budget(rt.alloc(), budget);
-    budget.allow(1);
     assert!(rt; listed(heap).is_err());
     assert_eq!(rt; budget.left(), Some(0));
     assert!(rt; listed(heap).is_err());
@@ -104,7 +86,7 @@ fn each_allocation_is_refused_in_turn(rt: HostRuntime) -> Result<(), Fail> {
         budget.allow(n);
         lists = lists.saturating_add(u64::from(listed(heap).is_err()));
         budget.allow(n);
-        maps = maps.saturating_add(u64::from(named(heap).is_err()));
+        maps = maps.saturating_add(u64::from(mapped(heap).is_err()));
         budget.allow(n);
         threads = threads.saturating_add(u64::from(pushed(&rt, heap).is_err()));
     }
@@ -116,22 +98,16 @@ fn each_allocation_is_refused_in_turn(rt: HostRuntime) -> Result<(), Fail> {
 }
 
 #[test]
-fn what_is_made_outside_is_asked_for(rt: HostRuntime) -> Result<(), Fail> {
+fn a_room_is_of_its_heap_and_what_is_made_outside_is_asked_for(
+    rt: HostRuntime,
+) -> Result<(), Fail> {
     let budget = Budget::new(rt.alloc())?;
     let heap = Heap::with_budget(rt.alloc(), budget);
-    assert!(rt; heap.ask().is_ok());
+    let list: Vec<u8, Room> = Vec::new(heap.room());
     budget.allow(1);
     assert!(rt; heap.ask().is_ok());
     assert!(rt; heap.ask().is_err());
     assert_eq!(rt; budget.left(), Some(0));
-    Ok(())
-}
-
-#[test]
-fn a_room_is_of_its_heap(rt: HostRuntime) -> Result<(), Fail> {
-    let budget = Budget::new(rt.alloc())?;
-    let list: Vec<u8, Room> = Vec::new(Heap::with_budget(rt.alloc(), budget).room());
-    budget.allow(0);
     assert!(rt; listed(list.allocator().heap()).is_err());
     assert!(rt; listed(list.allocator().clone()?.heap()).is_err());
     Ok(())

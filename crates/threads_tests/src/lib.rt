@@ -1,21 +1,13 @@
-//! Tests with handles: what goes to another thread and comes back (contents, shapes, changes,
-//! entries,
-//! journals, trees of actions, cells and lists of locks), a board on which one thread publishes
-//! while
-//! another looks, and a heap whose budget is used up.
+//! Tests with handles: what goes to another thread and comes back (values, entries, journals, trees
+//! of actions, cells and lists of locks), a board on which one thread publishes while another looks,
+//! and a heap whose budget is used up.
 #![tactic(auto)]
 
 #[cfg(test)]
-mod actions;
-#[cfg(test)]
 mod board;
-#[cfg(test)]
-mod contents;
-#[cfg(test)]
-mod effects;
 #[cfg(test)]
 mod heap;
 #[cfg(test)]
-mod journal;
+mod parts;
 #[cfg(test)]
-mod objects;
+mod values;
