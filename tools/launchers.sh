@@ -133,9 +133,13 @@ account {5}' '' first_call kept/argus "$top/docs/first.argus"
     tried 0 1 '' times_made
 }
 
-# Waits until a file is there, or has this line: wait_for FILE [LINE]
+# Waits until a file is there, or has this line; half a minute at most: wait_for FILE [LINE]
 wait_for() {
-    until [ -e "$1" ] && { [ "$#" = 1 ] || grep -qxF "$2" "$1"; }; do sleep 0.02; done
+    local tries
+    for ((tries = 0; tries < 1500; tries++)); do
+        if [ -e "$1" ] && { [ "$#" = 1 ] || grep -qxF "$2" "$1"; }; then return; fi
+        sleep 0.02
+    done
 }
 
 # Two calls at once make one build; the other one waits for it.
@@ -183,7 +187,8 @@ is_over() {
 interrupted() {
     local pid
     rm -f begun
-    env --default-signal=INT setsid kept/argus "$top/docs/first.argus" > said 2>&1 &
+    # Whoever called this may ignore a signal, which a shell then ignores, too.
+    env --default-signal setsid kept/argus "$top/docs/first.argus" > said 2>&1 &
     pid=$!
     wait_for begun
     kill "-$1" -- "${2/PID/$pid}"
