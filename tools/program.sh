@@ -142,8 +142,9 @@ compile() {
     # The launcher waits for it, since a shell hears no signal while it runs a command.
     "$top/tools/unproved.py" "$1" "$making/$(file_of "$1")" < /dev/null > "$making/log" 2>&1 9>&- &
     maker=$!
-    wait "$maker" || compiled=no
-    maker=
+    # A wait may end early, where a signal comes that the caller ignores.
+    { wait "$maker" && [ -s "$making/$(file_of "$1")" ]; } || compiled=no
+    [ "${compiled:-}" = no ] || maker=
     end "$ticker"
     ticker=
     if [ "${compiled:-}" = no ]; then
