@@ -132,7 +132,7 @@ def numbers_in_python():
     sys.path.insert(0, str(PYTHON.parents[1]))
     library = importlib.import_module("argus_guardian.library")
     kinds = library.Status, library.Kind, library.Question, library.Demand, library.ActionStatus
-    return [(name, value) for kind in kinds for name, value in vars(kind).items() if name.isupper()]
+    return [(it.name, it.value) for kind in kinds for it in kind]
 
 
 def main():

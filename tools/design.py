@@ -1,6 +1,6 @@
 #!/usr/bin/env python3
 # SPDX-License-Identifier: MIT
-"""Draws docs/design.svg: the crates of the surface, the rooms behind them, and the crates of laws.
+"""Draws docs/design.svg: the crates of the surface, the inner crates behind them, and the crates of laws.
 
     tools/design.py            writes the picture
     tools/design.py --check    writes nothing, and says whether the picture is as it would be written, and
@@ -16,10 +16,10 @@ import sys
 TOP = pathlib.Path(__file__).resolve().parent.parent
 PICTURE = TOP / "docs/design.svg"
 WIDTH, MARGIN, GAP = 960, 20, 14
-TITLE, ROOM, PAD = 40, 46, 10
+TITLE, INNER, PAD = 40, 46, 10
 NOT_DRAWN = re.compile(r".*_(tests|bench|example)|test_rows")
 
-# From the top down: layers of boxes. A box has a kind, a name, what it is for, and its rooms with theirs.
+# From the top down: layers of boxes. A box has a kind, a name, what it is for, and its inner crates with theirs.
 LAYERS = [
     [
         ("program", "argus", "runs a script and lists", []),
@@ -29,7 +29,7 @@ LAYERS = [
     ],
     [
         ("surface", "argus_cli", "what argus and replay do", [("argus_usage", "command lines")]),
-        ("surface", "argus_picture", "a listing, drawn", [("argus_frame", "places and names")]),
+        ("surface", "argus_picture", "a listing, drawn", []),
         ("surface", "argus_embed", "calls by numbers and texts", []),
         ("surface", "argus_c", "a static library for C", []),
     ],
@@ -37,7 +37,6 @@ LAYERS = [
         ("surface", "argus_commands", "scripts, parsed and run", [
             ("argus_language", "parses"),
             ("argus_runs", "runs on a guardian"),
-            ("argus_run_check", "receipts, checked"),
             ("argus_workers", "runs by threads"),
         ]),
     ],
@@ -45,7 +44,6 @@ LAYERS = [
         ("surface", "argus_guardian", "the guardian, of one thread and shared", [
             ("argus_core", "of one thread"),
             ("argus_sharing", "one lock, seats"),
-            ("argus_receipts", "receipts of calls"),
             ("argus_board", "readers, no lock"),
             ("argus_listings", "written as text"),
             ("argus_resume", "from its journal"),
@@ -56,7 +54,6 @@ LAYERS = [
         ("surface", "argus_journal", "calls, replies, what a legal journal is", [
             ("argus_entries", "entries and their lines"),
             ("argus_reading", "lines, read back"),
-            ("argus_openings", "openings, read back"),
         ]),
         ("laws", "argus_refinement", "trees and cells are what the journal says", []),
         ("laws", "argus_model", "nested transactions: definitions and laws", []),
@@ -81,14 +78,14 @@ rect { stroke-width: 1.2; rx: 5px }
 .surface { fill: #e3eefb; stroke: #3d76b8 }
 .program { fill: #f2f2f2; stroke: #8a949c }
 .laws { fill: #fbf3df; stroke: #a9802a; stroke-dasharray: 5 3 }
-.room { fill: #ffffff; stroke: #9bb7d6 }
+.inner { fill: #ffffff; stroke: #9bb7d6 }
 @media (prefers-color-scheme: dark) {
 text { fill: #e6edf3 }
 .small { fill: #aab6c0 }
 .surface { fill: #17314d; stroke: #6aa3e0 }
 .program { fill: #2a2f34; stroke: #8a949c }
 .laws { fill: #3a3015; stroke: #d2a84b }
-.room { fill: #0f2033; stroke: #4f7099 }
+.inner { fill: #0f2033; stroke: #4f7099 }
 }"""
 
 
@@ -102,27 +99,27 @@ def words(x, y, text, style):
     return f'<text class="{style}" x="{x}" y="{y}">{text}</text>'
 
 
-def draw_rooms(rooms, x, y, width):
-    """The rooms of a crate, side by side."""
-    each = (width - 2 * PAD - (len(rooms) - 1) * PAD) // max(len(rooms), 1)
-    for place, (name, what) in enumerate(rooms):
+def draw_inner(inner, x, y, width):
+    """The inner crates of a crate, side by side."""
+    each = (width - 2 * PAD - (len(inner) - 1) * PAD) // max(len(inner), 1)
+    for place, (name, what) in enumerate(inner):
         left = x + PAD + place * (each + PAD)
-        yield box("room", left, y + TITLE, each, ROOM - PAD)
+        yield box("inner", left, y + TITLE, each, INNER - PAD)
         yield words(left + 8, y + TITLE + 15, name, "name")
         yield words(left + 8, y + TITLE + 29, what, "small")
 
 
 def draw_layer(layer, y):
     """A layer of boxes, side by side: how high it is, and its lines."""
-    high = TITLE + (ROOM if any(rooms for _, _, _, rooms in layer) else 0)
+    high = TITLE + (INNER if any(inner for _, _, _, inner in layer) else 0)
     each = (WIDTH - 2 * MARGIN - (len(layer) - 1) * GAP) // len(layer)
     lines = []
-    for place, (kind, name, what, rooms) in enumerate(layer):
+    for place, (kind, name, what, inner) in enumerate(layer):
         x = MARGIN + place * (each + GAP)
         lines.append(box(kind, x, y, each, high))
         lines.append(words(x + PAD, y + 17, name, "name"))
         lines.append(words(x + PAD, y + 32, what, "small"))
-        lines += draw_rooms(rooms, x, y, each)
+        lines += draw_inner(inner, x, y, each)
     return high, lines
 
 
@@ -136,7 +133,7 @@ def drawn():
     y += 8
     for place, (kind, what) in enumerate([
         ("surface", "surface: the crates that users name"),
-        ("room", "room: a crate behind it, proved by itself"),
+        ("inner", "inner crate: behind it, proved by itself"),
         ("laws", "laws: proofs, no code that runs"),
     ]):
         x = MARGIN + place * 310
@@ -151,7 +148,7 @@ def crates_not_drawn():
     lines = (TOP / "crates.txt").read_text(encoding="utf-8").splitlines()
     names = [re.split(r"[ :]", line)[0] for line in lines if line and not line.startswith("#")]
     has = {name for layer in LAYERS for _, name, _, _ in layer}
-    has |= {name for layer in LAYERS for _, _, _, rooms in layer for name, _ in rooms}
+    has |= {name for layer in LAYERS for _, _, _, inner in layer for name, _ in inner}
     return [name for name in names if name not in has and not NOT_DRAWN.fullmatch(name)]
 
 

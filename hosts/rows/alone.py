@@ -28,7 +28,7 @@ LISTINGS = {
     "audit": Question.LIST_AUDIT,
 }
 OF_LOCK = {"can_read": Question.CAN_READ, "can_write": Question.CAN_WRITE}
-STATUSES = {number: name.lower() for name, number in vars(ActionStatus).items() if name.isupper()}
+STATUSES: dict[int, str] = {status: status.name.lower() for status in ActionStatus}
 CHECKPOINTS = {Status.DONE: "done", Status.BUSY: "Busy", Status.FULL: "Full"}
 
 

@@ -10,7 +10,7 @@ from reading import as_bytes
 # A kind, an action, an object, two numbers and a text.
 Call: TypeAlias = "tuple[int, int, int, int, int, bytes]"
 
-KINDS: dict[str, int] = {name.lower(): number for name, number in vars(Kind).items() if name.isupper()}
+KINDS: dict[str, int] = {kind.name.lower(): kind for kind in Kind}
 SIGNALS = ("absent", "exists", "bounds", "wrong_tag", "negative_size", "limits")
 REFUSALS = ("NoAction", "Over", "Suspended", "NoObject", "IllTyped", "Conflict", "TooDeep", "TooMany", "NoSiblings")
 # How many numbers come after an operation; the others have none.

@@ -2,7 +2,7 @@
 
 import os
 import subprocess
-from collections.abc import Callable, Iterator, Sequence
+from collections.abc import Callable, Iterator, Mapping, Sequence
 from contextlib import contextmanager
 from dataclasses import dataclass, field
 from pathlib import Path
@@ -46,15 +46,24 @@ class Programs:
         given: bytes | Path = b"",
         output: Path | None = None,
         memory: int | None = None,
+        settings: Mapping[str, str] | None = None,
     ) -> Ended:
         """Calls a program with these words. Its input are these bytes, or a file or a folder; its output may go
-        to a file, and its addresses may be limited to so many bytes. One that takes a minute is ended."""
+        to a file, its addresses may be limited to so many bytes, and its environment may have these settings, too.
+        One that takes a minute is ended."""
         limits = [b"prlimit", b"--as=%d" % memory] if memory else []
         command = [*limits, os.fsencode(self.paths[name]), *words]
+        variables = {**os.environ, **settings} if settings else None
         with source_of(given) as stdin, TemporaryFile() if output is None else open(output, "wb") as stdout:
             try:
                 ran = subprocess.run(
-                    command, stdin=stdin, stdout=stdout, stderr=subprocess.PIPE, timeout=SECONDS, check=False
+                    command,
+                    stdin=stdin,
+                    stdout=stdout,
+                    stderr=subprocess.PIPE,
+                    timeout=SECONDS,
+                    check=False,
+                    env=variables,
                 )
             except subprocess.TimeoutExpired:
                 return Ended(-1, b"", b"it doesn't end")

@@ -28,6 +28,7 @@ import by_chance  # noqa: E402
 import coming_back  # noqa: E402
 import command_lines  # noqa: E402
 import examples  # noqa: E402
+import failing  # noqa: E402
 import memory  # noqa: E402
 import parsed  # noqa: E402
 import pictures  # noqa: E402
@@ -44,6 +45,7 @@ OTHERS = {
     "names.rows": pictures.namings,
     "sizes.rows": pictures.sizes,
     "command_lines.rows": command_lines.trials,
+    "failing.rows": failing.trials,
 }
 
 
@@ -86,6 +88,8 @@ def left_out() -> Iterator[str]:
     """What can't be tried on this machine."""
     if not FULL.exists():
         yield "streams"
+    if not failing.has_compiler():
+        yield "failing.rows"
     if os.getuid() == 0 and not shutil.which("setpriv"):
         yield "threads"
 

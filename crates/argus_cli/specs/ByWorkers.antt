@@ -7,7 +7,7 @@ use Rattle.argus_guardian.specs.Checking.{AreApart, Stands}
 use Rattle.argus_guardian.specs.Receipt.{PlainReceipt}
 use Rattle.argus_commands.specs.Played.{Tells}
 use Rattle.argus_commands.specs.RunCheck.{IsCheckedRun, entries_of_receipts}
-use Rattle.argus_commands.specs.run_check_declared.arm_outcome.ArmOutcome.{ArmOutcome}
+use Rattle.argus_commands.specs.workers_declared.arm_outcome.ArmOutcome.{ArmOutcome}
 use Rattle.argus_journal.specs.JournalView.{JournalView}
 
 -- Several workers ran the script on a new guardian, and this is its journal: its entries, each

@@ -12,13 +12,13 @@ pub use Rattle.argus_runs.specs.Played
 pub use Rattle.argus_runs.specs.RunOutcome
 pub use Rattle.argus_runs.specs.RunPrefix
 pub use Rattle.argus_runs.specs.Running
-pub use Rattle.argus_run_check.specs.Laws as RunCheckLaws
-pub use Rattle.argus_run_check.specs.Order
-pub use Rattle.argus_run_check.specs.Outcomes
-pub use Rattle.argus_run_check.specs.RunCheck
+pub use Rattle.argus_workers.specs.Laws as RunCheckLaws
+pub use Rattle.argus_workers.specs.Order
+pub use Rattle.argus_workers.specs.Outcomes
+pub use Rattle.argus_workers.specs.RunCheck
 pub use Rattle.argus_streams.specs.FailStop
 pub use Rattle.argus_streams.specs.Input
 pub use Rattle.argus_language.specs.declared as language_declared
 pub use Rattle.argus_runs.specs.declared as runs_declared
-pub use Rattle.argus_run_check.specs.declared as run_check_declared
+pub use Rattle.argus_workers.specs.declared as workers_declared
 pub use Rattle.argus_streams.specs.declared as streams_declared

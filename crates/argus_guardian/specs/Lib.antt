@@ -4,21 +4,21 @@ pub use Rattle.argus_core.specs.Effect
 pub use Rattle.argus_core.specs.Objects
 pub use Rattle.argus_core.specs.ReadyCommit
 pub use Rattle.argus_core.specs.Statuses
-pub use Rattle.argus_receipts.specs.Checking
-pub use Rattle.argus_receipts.specs.Receipt
 pub use Rattle.argus_board.specs.BoardView
 pub use Rattle.argus_board.specs.Effects
 pub use Rattle.argus_board.specs.Keeper
 pub use Rattle.argus_sharing.specs.CallEach
+pub use Rattle.argus_sharing.specs.Checking
 pub use Rattle.argus_sharing.specs.Checkpoint as SharedCheckpoint
 pub use Rattle.argus_sharing.specs.Following
 pub use Rattle.argus_sharing.specs.Locked
+pub use Rattle.argus_sharing.specs.Receipt
 pub use Rattle.argus_sharing.specs.Seat
 pub use Rattle.argus_sharing.specs.Waking
 pub use Rattle.argus_listings.specs.Listing
-pub use Rattle.argus_openings.specs.OpeningLanguages
 pub use Rattle.argus_reading.specs.Laws as ReadingLaws
 pub use Rattle.argus_reading.specs.Line as EntryLine
+pub use Rattle.argus_reading.specs.OpeningLanguages
 pub use Rattle.argus_resume.specs.JournalText
 pub use Rattle.argus_resume.specs.Laws as ResumeLaws
 pub use Rattle.argus_resume.specs.Lines
@@ -28,7 +28,6 @@ pub use Rattle.argus_resume.specs.SoundFront
 pub use Rattle.argus_resume.specs.Taking
 pub use Rattle.argus_streams.specs.FailStop
 pub use Rattle.argus_core.specs.declared as core_declared
-pub use Rattle.argus_receipts.specs.declared as receipts_declared
 pub use Rattle.argus_board.specs.declared as board_declared
 pub use Rattle.argus_sharing.specs.declared as sharing_declared
 pub use Rattle.argus_listings.specs.declared as listings_declared

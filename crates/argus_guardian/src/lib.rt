@@ -1,9 +1,9 @@
 //! The guardian: the crate that users name.
 //!
 //! It re-exports `argus_core` (the guardian of one thread), `argus_sharing` (the guardian that
-//! threads share), `argus_receipts` (receipts of its calls), `argus_board` (the readers' board),
-//! `argus_listings` (listings of a guardian), `argus_reading` (a line of the journal's listing read
-//! back) and `argus_resume` (a guardian rebuilt from such lines). It also re-exports `FailStop` of
+//! threads share, and receipts of its calls), `argus_board` (the readers' board), `argus_listings`
+//! (listings of a guardian), `argus_reading` (a line of the journal's listing read back) and
+//! `argus_resume` (a guardian rebuilt from such lines). It also re-exports `FailStop` of
 //! `argus_streams`, in which a listing's reader or writer is passed.
 //!
 //! ```text
@@ -17,13 +17,12 @@ pub use argus_board::{
 pub use argus_core::{CheckpointError, Guardian, ReadyCommit};
 pub use argus_listings::{ListError, Listing, numbered_names, write_listing};
 pub use argus_reading::{ReadEntryError, laws as reading_laws, read_entry};
-pub use argus_receipts::{Receipt, SettleFault, check};
 pub use argus_resume::{
     LineError, LineFault, Opened, ReadEnd, Resumed, Resuming, Taken, TakenEnd, TakenFrom,
     laws as resume_laws, resume,
 };
 pub use argus_sharing::{
-    CallsEnd, CallsMade, Demand, DemandedCall, NotShared, Parts, Seat, Shared, Sharing, Unsettled,
-    laws,
+    CallsEnd, CallsMade, Demand, DemandedCall, NotShared, Parts, Receipt, Seat, SettleFault,
+    Shared, Sharing, Unsettled, check, laws,
 };
 pub use argus_streams::FailStop;

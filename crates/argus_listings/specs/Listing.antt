@@ -13,7 +13,7 @@ use Rattle.argus_journal.specs.Opening.{Opening}
 use Rattle.argus_journal.specs.Replaying.{replayed}
 use Rattle.argus_journal.specs.JournalFacts.{base_of, readers_of, versions_of, writers_of}
 use Rattle.argus_journal.specs.JournalView.{JournalView}
-use Rattle.argus_openings.specs.OpeningLanguages.{content_text}
+use Rattle.argus_reading.specs.OpeningLanguages.{content_text}
 use Rattle.argus_texts.specs.ShapeSpelling.{shape_spelling}
 use Rattle.argus_listings.specs.declared.listing.Listing.{Listing}
 use Rattle.argus_listings.specs.declared.listing.Listing.TheVariants.{Audit, Bases, Journal, Stacks}

@@ -5,7 +5,7 @@ ghost use Rattle.std.specs.List.{flat_map};
 ghost use Rattle.std.specs.Prelude.{◌≡◌, ◌++◌, OnOk, map, string_bytes};
 ghost use Rattle.argus_contents.specs.Content.{plain_option};
 ghost use Rattle.argus_listings.specs.Listing.{object_line, reader_text};
-ghost use Rattle.argus_openings.specs.OpeningLanguages.{content_text};
+ghost use Rattle.argus_reading.specs.OpeningLanguages.{content_text};
 ghost use Rattle.argus_listings.specs.Listing.{readers_line, readers_text, version_line};
 
 use argus_actions::ActionId;

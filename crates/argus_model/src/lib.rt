@@ -24,8 +24,6 @@ pub mod next_event;
 pub mod one_after_another;
 pub mod second_forms;
 pub mod tables;
-#[cfg(test)]
-mod tests;
 pub mod trees;
 pub mod what_counts;
 pub mod worked;

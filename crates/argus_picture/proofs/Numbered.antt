@@ -2,7 +2,7 @@
 use Rattle.std.proofs.Common.{Err, List, Ok, Result, inl, inr, subst, sym, ◌+◌, ◌<◌, ◌≡◌, ◌⊎◌, ℕ}
 use Rattle.std.proofs.lemmas.Result.{IfErr-weaker}
 use Rattle.std.specs.Prelude.{IfErr, OnOk}
-use Rattle.argus_frame.specs.declared.listing_fault_kind.ListingFaultKind.TheVariants as kind
+use Rattle.argus_picture.specs.declared.listing_fault_kind.ListingFaultKind.TheVariants as kind
 use Rattle.argus_picture.specs.Faults.{SaysOfLine}
 use Rattle.argus_picture.specs.Listing.{Enters, IsNumbered, Place}
 use Rattle.argus_picture.specs.declared.limits.TheConstants.{MAX_ENTRIES}

@@ -6,8 +6,8 @@ use Rattle.std.specs.Prelude.{Option}
 use Rattle.argus_contents.specs.Content.{PlainContent}
 use Rattle.argus_contents.specs.Shape.{PlainShape}
 use Rattle.argus_contents.specs.declared.limits.TheConstants.{MAX_OBJECTS}
-use Rattle.argus_openings.specs.OpeningLanguages.{FoldedLines, IsForm, ObjectLines}
-use Rattle.argus_openings.proofs.Told.{object_told}
+use Rattle.argus_reading.specs.OpeningLanguages.{FoldedLines, IsForm, ObjectLines}
+use Rattle.argus_reading.proofs.Told.{object_told}
 use Rattle.argus_texts.specs.Language.{FormOf}
 use Rattle.argus_picture.specs.Faults.{IsNoOpening}
 use Rattle.argus_picture.specs.Fitting.{may_fit}

@@ -6,8 +6,8 @@ use Rattle.std.proofs.lemmas.List.Splits.{length-slice_split, slice_split_first,
 use Rattle.std.proofs.lemmas.List.Sums.{fails_before_first}
 use Rattle.std.specs.List.{position, position_or_len}
 use Rattle.std.specs.Prelude.{nat_lt, ◌==◌}
-use Rattle.argus_frame.specs.declared.listing_fault_kind.ListingFaultKind.{ListingFaultKind}
-use Rattle.argus_frame.specs.declared.listing_fault_kind.ListingFaultKind.TheVariants as kind
+use Rattle.argus_picture.specs.declared.listing_fault_kind.ListingFaultKind.{ListingFaultKind}
+use Rattle.argus_picture.specs.declared.listing_fault_kind.ListingFaultKind.TheVariants as kind
 use Rattle.argus_picture.specs.Faults.{IsFaultyLine, IsTorn, SaysOf, SaysOfLine, SaysOfListing, error_at}
 use Rattle.argus_picture.specs.declared.line_error.LineError.{LineError}
 use Rattle.argus_picture.specs.declared.line_error.LineError.TheVariants as line_error

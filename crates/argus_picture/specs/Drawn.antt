@@ -1,8 +1,8 @@
 -- What `draw` has read: a listing, or what an error says about it.
 use Rattle.std.specs.Prelude.{List, Option, ℕ, ◌+◌}
-use Rattle.argus_frame.specs.declared.draw_error.DrawError.{DrawError}
-use Rattle.argus_frame.specs.declared.draw_error.DrawError.TheVariants as draw_error
-use Rattle.argus_frame.specs.declared.listing_fault.ListingFault.{ListingFault}
+use Rattle.argus_picture.specs.declared.draw_error.DrawError.{DrawError}
+use Rattle.argus_picture.specs.declared.draw_error.DrawError.TheVariants as draw_error
+use Rattle.argus_picture.specs.declared.listing_fault.ListingFault.{ListingFault}
 use Rattle.argus_picture.specs.Faults.{SaysOfListing}
 use Rattle.argus_picture.specs.Listing.{IsListing}
 use Rattle.argus_picture.specs.declared.limits.TheConstants.{MAX_BYTES}

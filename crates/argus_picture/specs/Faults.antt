@@ -1,9 +1,9 @@
 -- What a fault says about a listing: which line is faulty, and why.
 use Rattle.std.specs.Prelude.{List, [], length, ℕ, ◌+◌, ◌++◌, ◌<◌, ◌∷◌, ◌≡◌, ◌≢◌, ◌≤◌, ◌⊎◌}
 use Rattle.std.specs.Str.{IsUtf8, IsValidUpTo}
-use Rattle.argus_frame.specs.declared.listing_fault.ListingFault.{ListingFault}
-use Rattle.argus_frame.specs.declared.listing_fault_kind.ListingFaultKind.{ListingFaultKind}
-use Rattle.argus_frame.specs.declared.listing_fault_kind.ListingFaultKind.TheVariants as kind
+use Rattle.argus_picture.specs.declared.listing_fault.ListingFault.{ListingFault}
+use Rattle.argus_picture.specs.declared.listing_fault_kind.ListingFaultKind.{ListingFaultKind}
+use Rattle.argus_picture.specs.declared.listing_fault_kind.ListingFaultKind.TheVariants as kind
 use Rattle.argus_reading.specs.Line.{IsEntryLine, IsNoLine, LacksShape}
 use Rattle.argus_picture.specs.Listing.{IsNextOfOpening, IsNumbered, IsOfOpening, Leads, Place}
 use Rattle.argus_picture.specs.Listing.{parts, start}

@@ -5,3 +5,8 @@ pub mod Faults
 pub mod Drawn
 pub mod Naming
 pub mod Named
+pub mod Frame
+pub mod DrawError
+pub mod EntrySpacing
+pub mod Escaping
+pub mod Canvas

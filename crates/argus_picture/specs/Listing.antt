@@ -7,7 +7,7 @@ use Rattle.argus_contents.specs.Shape.{PlainShape}
 use Rattle.argus_contents.specs.declared.limits.TheConstants.{MAX_OBJECTS}
 use Rattle.argus_entries.specs.Entry.{PlainEntry}
 use Rattle.argus_entries.specs.EntrySpelling.{entry_spelling}
-use Rattle.argus_openings.specs.OpeningLanguages.{FoldedLines, IsForm, ObjectLines}
+use Rattle.argus_reading.specs.OpeningLanguages.{FoldedLines, IsForm, ObjectLines}
 use Rattle.argus_reading.specs.Line.{IsReadable}
 use Rattle.argus_texts.specs.Language.{Starts}
 use Rattle.argus_texts.specs.Languages.{Word}

@@ -1,7 +1,7 @@
 -- What `draw_named` has read: a script and a listing, or what an error says about them.
 use Rattle.std.specs.Prelude.{List, Option, ℕ, ◌+◌, ◌≡◌, ◌≢◌}
-use Rattle.argus_frame.specs.DrawError.{draw_status}
-use Rattle.argus_frame.specs.declared.draw_error.DrawError.TheVariants as draw_error
+use Rattle.argus_picture.specs.DrawError.{draw_status}
+use Rattle.argus_picture.specs.declared.draw_error.DrawError.TheVariants as draw_error
 use Rattle.argus_language.specs.Fault.{IsFaultOf, NoFault}
 use Rattle.argus_language.specs.Lines.{lines_of}
 use Rattle.argus_language.specs.Script.{PlainScript, Spells}

@@ -1,7 +1,7 @@
 -- Whether the objects that a script declares are those of a journal.
 use Rattle.std.specs.Prelude.{List, [], length, ℕ, ◌++◌, ◌∷◌, ◌≡◌, ◌≢◌}
 use Rattle.argus_contents.specs.Shape.{PlainShape}
-use Rattle.argus_frame.specs.Canvas.{canvas_text}
+use Rattle.argus_picture.specs.Canvas.{canvas_text}
 use Rattle.argus_language.specs.Objects.{PlainObjects}
 use Rattle.argus_picture.specs.declared.names_error.NamesError.{NamesError}
 use Rattle.argus_picture.specs.declared.names_error.NamesError.TheVariants as error

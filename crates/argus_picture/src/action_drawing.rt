@@ -1,13 +1,14 @@
 //! Draws the actions of a picture: their bars, the lines between bars, and refused calls.
 
 use crate::action::Action;
-use crate::escaping::open_group;
+use crate::escaping::{append_escaped, open_group};
 use crate::fate::Fate;
+use crate::frame::{BAR, Frame, bar_top, entry_left};
+use crate::life::{Life, life_of, life_within};
 use crate::limits::MAX_ROWS;
 use crate::origin::Origin;
 use crate::refused_call::RefusedCall;
 use crate::run::Run;
-use argus_frame::{BAR, Frame, Life, append_escaped, bar_top, entry_left, life_of, life_within};
 use argus_memory::{OutOfMemory, Room};
 use std::fmt::Write;
 

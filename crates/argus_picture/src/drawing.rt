@@ -1,16 +1,16 @@
 //! `draw`: reads a listing from a reader, and writes its picture to a writer.
 
 ghost use Rattle.std.specs.Prelude.{◌+◌, ◌≡◌, ◌≢◌, ◌↔◌, false, true, IfErr, OnOk};
-ghost use Rattle.argus_frame.specs.declared.draw_error.DrawError.TheVariants as DrawError;
+ghost use Rattle.argus_picture.specs.declared.draw_error.DrawError.TheVariants as DrawError;
 ghost use Rattle.argus_picture.specs.Drawn.{ReadsListing, RefusesListing};
 ghost use Rattle.argus_picture.specs.declared.limits.TheConstants.{MAX_BYTES};
 ghost use Rattle.argus_streams.specs.FailStop.{has_failed, inner_of};
 ghost use Rattle.argus_streams.specs.Input.{ReadAtMost};
 
+use crate::draw_error::DrawError;
 use crate::listing_reading::read_listing;
 use crate::picture_error::PictureError;
 use crate::picturing::picture;
-use argus_frame::DrawError;
 use argus_memory::Heap;
 use argus_streams::{FailStop, write_whole};
 use std::io::{Read, Write};

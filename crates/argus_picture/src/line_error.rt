@@ -1,6 +1,6 @@
 //! `LineError`: why a line was not accepted.
 
-use argus_frame::ListingFaultKind;
+use crate::listing_fault_kind::ListingFaultKind;
 
 /// Why a line was not accepted.
 #[derive(Clone, Copy)]

@@ -1,14 +1,14 @@
 //! `read_listing`: the bytes of a listing, as far as a picture takes them.
 
 ghost use Rattle.std.specs.Prelude.{IfErr, IfOk, OnOk, false, true, ◌+◌, ◌↔◌, ◌≡◌, ◌≢◌};
-ghost use Rattle.argus_frame.specs.declared.draw_error.DrawError.TheVariants as DrawError;
+ghost use Rattle.argus_picture.specs.declared.draw_error.DrawError.TheVariants as DrawError;
 ghost use Rattle.argus_picture.specs.Drawn.{RefusesListing};
 ghost use Rattle.argus_picture.specs.declared.limits.TheConstants.{MAX_BYTES};
 ghost use Rattle.argus_streams.specs.FailStop.{has_failed, inner_of};
 ghost use Rattle.argus_streams.specs.Input.{ReadAtMost, ReadUpTo};
 
+use crate::draw_error::DrawError;
 use crate::limits::MAX_BYTES;
-use argus_frame::DrawError;
 use argus_memory::{Heap, Room};
 use argus_streams::{FailStop, InputError, read_up_to};
 use std::io::Read;

@@ -3,8 +3,8 @@
 ghost use Rattle.std.specs.Prelude.{◌≡◌};
 ghost use Rattle.argus_picture.specs.Named.{named_status};
 
+use crate::draw_error::DrawError;
 use crate::names_fault::NamesFault;
-use argus_frame::DrawError;
 use argus_language::ScriptFault;
 use thiserror::Error;
 

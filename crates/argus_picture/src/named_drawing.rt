@@ -1,7 +1,7 @@
 //! `draw_named`: reads a script and a listing, and writes the picture with the script's names.
 
 ghost use Rattle.std.specs.Prelude.{IfErr, IfOk, OnOk, false, true, ◌+◌, ◌↔◌, ◌≡◌, ◌≢◌};
-ghost use Rattle.argus_frame.specs.declared.draw_error.DrawError.TheVariants as DrawError;
+ghost use Rattle.argus_picture.specs.declared.draw_error.DrawError.TheVariants as DrawError;
 ghost use Rattle.argus_language.specs.Script.{plain_script};
 ghost use Rattle.argus_picture.specs.Drawn.{ReadsListing, RefusesListing};
 ghost use Rattle.argus_language.specs.declared.limits.TheConstants.{MAX_SCRIPT_BYTES};
@@ -13,13 +13,13 @@ ghost use Rattle.argus_picture.specs.declared.limits.TheConstants.{MAX_BYTES};
 ghost use Rattle.argus_streams.specs.FailStop.{has_failed, inner_of};
 ghost use Rattle.argus_streams.specs.Input.{ReadAtMost};
 
+use crate::draw_error::DrawError;
 use crate::listing_reading::read_listing;
 use crate::named_draw_error::NamedDrawError;
 use crate::names_error::NamesError;
 use crate::picture_error::PictureError;
 use crate::sketch::Sketch;
 use crate::sketching::sketch_listing;
-use argus_frame::DrawError;
 use argus_language::limits::MAX_SCRIPT_BYTES;
 use argus_language::{ParseError, Script, parse};
 use argus_memory::Heap;

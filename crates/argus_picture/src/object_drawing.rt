@@ -1,7 +1,9 @@
 //! Draws the objects of a picture: their lanes, the locks in them, and commits.
 
 use crate::action_drawing::room_for;
-use crate::escaping::{append_shortened, open_group};
+use crate::canvas::Canvas;
+use crate::escaping::{append_escaped, append_shortened, open_group};
+use crate::frame::{Frame, LANE, entry_left, lane_at, width};
 use crate::held_lock::HeldLock;
 use crate::limits::{
     MAX_CONTENT_LETTERS, MAX_LANES, MAX_SHAPE_LETTERS, MAX_TITLE_LETTERS, NAME_DISTANCE,
@@ -9,7 +11,6 @@ use crate::limits::{
 use crate::object::Object;
 use crate::run::Run;
 use crate::settling::Settling;
-use argus_frame::{Canvas, Frame, LANE, append_escaped, entry_left, lane_at, width};
 use argus_memory::{Heap, OutOfMemory, Room};
 use std::fmt::Write;
 

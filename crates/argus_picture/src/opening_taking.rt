@@ -11,13 +11,13 @@ ghost use Rattle.argus_picture.specs.RunPlace.{place_of};
 ghost use Rattle.argus_picture.specs.declared.line_error.LineError.TheVariants as line_error;
 
 use crate::line_error::LineError;
+use crate::listing_fault_kind::ListingFaultKind;
 use crate::object::Object;
 use crate::run::Run;
 use argus_contents::limits::MAX_OBJECTS;
 use argus_contents::{Content, Shape, fits};
-use argus_frame::ListingFaultKind;
 use argus_memory::{Heap, OutOfMemory};
-use argus_openings::{folded_numbers, object_line};
+use argus_reading::{folded_numbers, object_line};
 use argus_texts::front::Stop;
 
 impl<'a> Run<'a> {

@@ -1,6 +1,6 @@
 //! `PictureError`: why there is no picture.
 
-use argus_frame::ListingFault;
+use crate::listing_fault::ListingFault;
 use argus_memory::OutOfMemory;
 use thiserror::Error;
 

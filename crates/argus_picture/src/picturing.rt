@@ -5,13 +5,15 @@ ghost use Rattle.argus_picture.specs.Faults.{SaysOfListing};
 ghost use Rattle.argus_picture.specs.Listing.{IsListing};
 
 use crate::action_drawing::draw_actions;
+use crate::canvas::Canvas;
+use crate::entry_spacing::EntrySpacing;
+use crate::frame::{Frame, entry_left, height, width};
 use crate::legend::{LEGEND, LOOKS};
 use crate::limits::{MAX_LANES, TALL};
 use crate::object_drawing::draw_objects;
 use crate::picture_error::PictureError;
 use crate::run::Run;
 use crate::sketching::sketch_listing;
-use argus_frame::{Canvas, EntrySpacing, Frame, entry_left, height, width};
 use argus_memory::{Heap, OutOfMemory, Room};
 use std::fmt::Write;
 

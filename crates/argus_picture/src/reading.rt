@@ -10,9 +10,10 @@ ghost use Rattle.argus_picture.specs.RunPlace.{place_of};
 
 use crate::limits::MAX_BYTES;
 use crate::line_error::LineError;
+use crate::listing_fault::ListingFault;
+use crate::listing_fault_kind::ListingFaultKind;
 use crate::picture_error::PictureError;
 use crate::run::Run;
-use argus_frame::{ListingFault, ListingFaultKind};
 use argus_memory::Heap;
 use std::str::from_utf8;
 

@@ -1,15 +1,15 @@
 //! `Sketch`: a journal's picture in which the names of objects are filled in later.
 
 ghost use Rattle.std.specs.Prelude.{IfErr, IfOk, [], string_bytes, ◌≡◌};
-ghost use Rattle.argus_frame.specs.Canvas.{canvas_text};
+ghost use Rattle.argus_picture.specs.Canvas.{canvas_text};
 ghost use Rattle.argus_language.specs.Script.{plain_script};
 ghost use Rattle.argus_picture.specs.Naming.{IsNamed, RefusesNames};
 ghost use Rattle.argus_picture.specs.declared.names_error.NamesError.TheVariants as error;
 
+use crate::canvas::Canvas;
 use crate::names_error::NamesError;
 use crate::naming::{names_fault, texts_of};
 use argus_contents::Shape;
-use argus_frame::Canvas;
 use argus_language::Script;
 use argus_memory::{Heap, OutOfMemory, Room};
 

@@ -4,6 +4,7 @@ ghost use Rattle.std.specs.Prelude.{IfErr, IfOk, OnOk, map, ◌≡◌};
 ghost use Rattle.argus_picture.specs.Faults.{SaysOfListing};
 ghost use Rattle.argus_picture.specs.Listing.{IsListing};
 
+use crate::canvas::Canvas;
 use crate::object::Object;
 use crate::picture_error::PictureError;
 use crate::picturing::draw_run;
@@ -11,7 +12,6 @@ use crate::reading::read_run;
 use crate::run::Run;
 use crate::sketch::Sketch;
 use argus_contents::Shape;
-use argus_frame::Canvas;
 use argus_memory::{Heap, OutOfMemory, Room};
 
 /// The picture of a journal's listing, in which the names of objects are filled in later.

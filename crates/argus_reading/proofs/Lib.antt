@@ -9,3 +9,6 @@ pub mod CallParts
 pub mod Lacks
 pub mod Whole
 pub mod Shaped
+pub mod WholeForms
+pub mod OpeningParts
+pub mod Told

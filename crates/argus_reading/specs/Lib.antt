@@ -5,3 +5,4 @@ pub mod Replies
 pub mod Calls
 pub mod Line
 pub mod Laws
+pub mod OpeningLanguages

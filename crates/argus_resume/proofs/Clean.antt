@@ -39,7 +39,7 @@ use Rattle.argus_entries.specs.Reply.{PlainReply}
 use Rattle.argus_entries.specs.Reply as reply
 use Rattle.argus_entries.specs.declared.refusal.Refusal.{Refusal}
 use Rattle.argus_entries.specs.declared.refusal.Refusal.TheVariants as refusal
-use Rattle.argus_openings.specs.OpeningLanguages.{FoldedLines, IsReadableContent, ObjectLines, content_text}
+use Rattle.argus_reading.specs.OpeningLanguages.{FoldedLines, IsReadableContent, ObjectLines, content_text}
 use Rattle.argus_reading.specs.Line.{IsReadable}
 use Rattle.argus_texts.specs.ContentSpelling.{PartsWithin, content_spelling}
 use Rattle.argus_texts.specs.ShapeSpelling.{AreNamed, HasNames, IsNamed, names_behind, names_inside, shape_spelling}

@@ -19,7 +19,7 @@ use Rattle.argus_contents.specs.declared.query.Query.{Query}
 use Rattle.argus_contents.specs.declared.query.Query.TheVariants as query
 use Rattle.argus_contents.specs.declared.signal.Signal.{Signal}
 use Rattle.argus_contents.specs.declared.signal.Signal.TheVariants.{Absent, Bounds, WrongTag}
-use Rattle.argus_openings.specs.OpeningLanguages.{IsReadableContent}
+use Rattle.argus_reading.specs.OpeningLanguages.{IsReadableContent}
 use Rattle.argus_texts.specs.ContentSpelling.{PartsWithin}
 use Rattle.argus_texts.specs.Spelling.{AllWithin, IsI64, Within}
 use Rattle.argus_entries.specs.Laws.{AnswerWithin, ChangeWithin}

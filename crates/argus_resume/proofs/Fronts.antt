@@ -13,8 +13,8 @@ use Rattle.argus_entries.specs.EntrySpelling.{call_spelling, entry_line, entry_s
 use Rattle.argus_entries.proofs.Lines.{one_line}
 use Rattle.argus_journal.specs.Opening.{Opening}
 use Rattle.argus_listings.specs.Listing.{each_from, opened_line}
-use Rattle.argus_openings.specs.OpeningLanguages.{FoldedLines, IsForm, ObjectLines}
-use Rattle.argus_openings.proofs.Told.{object_told}
+use Rattle.argus_reading.specs.OpeningLanguages.{FoldedLines, IsForm, ObjectLines}
+use Rattle.argus_reading.proofs.Told.{object_told}
 use Rattle.argus_texts.proofs.Digits.{first_digit}
 use Rattle.argus_texts.proofs.Lists.{head_of, tail_of}
 use Rattle.argus_resume.specs.JournalText.{AreReadable, AreReadableObjects, IsReadableObject}

@@ -15,8 +15,8 @@ use Rattle.argus_journal.specs.JournalView.{JournalView, next_entry}
 use Rattle.argus_journal.specs.Legal.{Legal}
 use Rattle.argus_journal.specs.Opening.{Opening, empty, opening_at}
 use Rattle.argus_listings.specs.Listing.{each_from, entries_text, folded_line, opened_line, opening_text}
-use Rattle.argus_openings.specs.OpeningLanguages.{FoldedLines, ObjectLines}
-use Rattle.argus_openings.proofs.OpeningParts.{after_clear, before_clear}
+use Rattle.argus_reading.specs.OpeningLanguages.{FoldedLines, ObjectLines}
+use Rattle.argus_reading.proofs.OpeningParts.{after_clear, before_clear}
 use Rattle.argus_resume.specs.JournalText.{AreReadable, AreReadableObjects, IsReadableJournal, IsReadableObject}
 use Rattle.argus_resume.specs.JournalText.{IsReadableOpening, journal_text}
 use Rattle.argus_resume.specs.Stage.{lines_of}

@@ -12,7 +12,7 @@ use Rattle.argus_entries.specs.EntrySpelling.{entry_line, entry_spelling}
 use Rattle.argus_journal.specs.JournalView.{JournalView, next_entry}
 use Rattle.argus_journal.specs.Opening.{Opening, empty, is_sound}
 use Rattle.argus_listings.specs.Listing.{each_from, entries_text, opening_text}
-use Rattle.argus_openings.specs.OpeningLanguages.{FoldedLines, ObjectLines}
+use Rattle.argus_reading.specs.OpeningLanguages.{FoldedLines, ObjectLines}
 use Rattle.argus_resume.specs.JournalText.{IsReadableJournal, IsReadableOpening, journal_text}
 use Rattle.argus_resume.specs.Laws.{IsListable}
 use Rattle.argus_resume.specs.Resumed.{IsResumed}

@@ -16,7 +16,7 @@ use Rattle.argus_journal.specs.JournalView.{JournalView, next_entry, reply_to}
 use Rattle.argus_journal.specs.Legal.{Legal}
 use Rattle.argus_journal.specs.Opening.{Opening, is_sound}
 use Rattle.argus_listings.specs.Listing.{each_from}
-use Rattle.argus_openings.specs.OpeningLanguages.{FoldedLines, ObjectLines}
+use Rattle.argus_reading.specs.OpeningLanguages.{FoldedLines, ObjectLines}
 use Rattle.argus_reading.specs.Line.{IsEntryLine, IsReadable}
 use Rattle.argus_resume.specs.JournalText.{AreReadable, IsReadableJournal}
 use Rattle.argus_resume.specs.JournalText.{journal_text}

@@ -8,7 +8,7 @@ use Rattle.argus_contents.specs.Shape.{PlainShape}
 use Rattle.argus_contents.specs.declared.limits.TheConstants.{MAX_OBJECTS}
 use Rattle.argus_journal.specs.Opening.{fits_shape, opening_at}
 use Rattle.argus_listings.specs.Listing.{each_from, folded_line, opened_line}
-use Rattle.argus_openings.specs.OpeningLanguages.{IsForm, ObjectLines}
+use Rattle.argus_reading.specs.OpeningLanguages.{IsForm, ObjectLines}
 use Rattle.argus_resume.specs.JournalText.{AreReadableObjects, IsReadableObject, IsReadableOpening}
 use Rattle.argus_resume.specs.Stage.{AreEnds, lines_of, object_read, objects_read, opening_line}
 use Rattle.argus_resume.specs.declared.opened_object.OpenedObject.{OpenedObject}

@@ -12,8 +12,8 @@ use Rattle.argus_contents.specs.declared.limits.TheConstants.{MAX_OBJECTS}
 use Rattle.argus_journal.specs.JournalView.{JournalView, next_entry}
 use Rattle.argus_journal.specs.Opening.{Opening, fits_shape}
 use Rattle.argus_listings.specs.Listing.{folded_line, opened_line}
-use Rattle.argus_openings.specs.OpeningLanguages.{FoldedLines, IsForm, ObjectLines, content_text}
-use Rattle.argus_openings.proofs.Told.{object_told}
+use Rattle.argus_reading.specs.OpeningLanguages.{FoldedLines, IsForm, ObjectLines, content_text}
+use Rattle.argus_reading.proofs.Told.{object_told}
 use Rattle.argus_texts.specs.Language.{FormOf}
 use Rattle.argus_texts.specs.ShapeSpelling.{shape_spelling}
 use Rattle.argus_resume.specs.JournalText.{AreReadableObjects, IsReadableObject}

@@ -17,7 +17,7 @@ use Rattle.argus_model.specs.Status.{live_siblings}
 use Rattle.argus_journal.specs.Entries.{content_after_call, entries, is_write}
 use Rattle.argus_journal.specs.Events.{event_if, event_of, history, is_answered, is_begun_reply, says_yes, with_event}
 use Rattle.argus_journal.specs.Opening.{Opening, content_in}
-use Rattle.argus_openings.specs.OpeningLanguages.{IsReadableContent}
+use Rattle.argus_reading.specs.OpeningLanguages.{IsReadableContent}
 use Rattle.argus_resume.specs.JournalText.{AreReadableObjects}
 use Rattle.argus_resume.proofs.Depths.{ValuesWithin, by_if, change_within, parts_within}
 

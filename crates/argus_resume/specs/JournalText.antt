@@ -7,7 +7,7 @@ use Rattle.argus_entries.specs.Entry.{PlainEntry}
 use Rattle.argus_journal.specs.JournalView.{JournalView}
 use Rattle.argus_journal.specs.Opening.{KeepsNumbers, Opening, empty, fits_shape}
 use Rattle.argus_listings.specs.Listing.{entries_text, opening_text}
-use Rattle.argus_openings.specs.OpeningLanguages.{IsReadableContent}
+use Rattle.argus_reading.specs.OpeningLanguages.{IsReadableContent}
 use Rattle.argus_reading.specs.Line.{IsReadable}
 use Rattle.argus_texts.specs.ShapeSpelling.{IsMakeable}
 

@@ -16,7 +16,7 @@ use crate::opened_object::OpenedObject;
 use crate::opening_lines::OpeningLines;
 use argus_contents::limits::MAX_OBJECTS;
 use argus_memory::Heap;
-use argus_openings::{folded_numbers, object_line};
+use argus_reading::{folded_numbers, object_line};
 use argus_texts::front::Stop;
 
 // How many bytes a line has besides what comes after its first word: that word and a line feed.

@@ -6,7 +6,7 @@ use Rattle.argus_board.specs.BoardView.{BoardView}
 use Rattle.argus_core.specs.ReadyCommit.{added_by_call}
 use Rattle.argus_entries.specs.Call.{plain_call}
 use Rattle.argus_journal.specs.JournalView.{JournalView, after}
-use Rattle.argus_receipts.specs.Receipt.{PlainReceipt}
+use Rattle.argus_sharing.specs.Receipt.{PlainReceipt}
 use Rattle.argus_sharing.proofs.Follow.{goes_on_further}
 use Rattle.argus_sharing.specs.CallEach.{added_by_calls, end_of, is_met, receipt_of, receipts_of}
 use Rattle.argus_sharing.specs.Following.{GoesOn}

@@ -9,7 +9,7 @@ use Rattle.argus_entries.proofs.Crossing as entries
 use Rattle.argus_core.proofs.Crossing.{guardian_sends}
 use Rattle.argus_memory.proofs.Crossing as memory
 use Rattle.argus_memory.proofs.heap.Heap.TheSendSync.{the_field_send as heap_field_sends}
-use Rattle.argus_receipts.specs.contracts.receipt.Receipt.{the_row as receipt_row}
+use Rattle.argus_sharing.specs.contracts.receipt.Receipt.{the_row as receipt_row}
 use Rattle.argus_sharing.specs.contracts.locked.Locked.TheInside.{the_type as inside}
 use Rattle.argus_sharing.specs.contracts.locked.Locked.{the_row as locked_row}
 use Rattle.argus_sharing.specs.contracts.seat.Seat.TheInside.{the_type as seat_inside}

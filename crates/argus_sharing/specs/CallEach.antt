@@ -7,7 +7,7 @@ use Rattle.argus_entries.specs.Call.{PlainCall, plain_call}
 use Rattle.argus_entries.specs.Reply.{PlainReply, answered, begun, object, plain_reply, refused}
 use Rattle.argus_entries.specs.Same.{same_reply}
 use Rattle.argus_journal.specs.JournalView.{JournalView, after, entry_of, next_entry, reply_to}
-use Rattle.argus_receipts.specs.Receipt.{PlainReceipt}
+use Rattle.argus_sharing.specs.Receipt.{PlainReceipt}
 use Rattle.argus_sharing.specs.declared.calls_end.CallsEnd.{CallsEnd}
 use Rattle.argus_sharing.specs.declared.calls_end.CallsEnd.TheVariants.{Unmet, Whole}
 use Rattle.argus_sharing.specs.declared.demand.Demand.{Demand}

@@ -4,3 +4,5 @@ pub mod Following
 pub mod Waking
 pub mod Checkpoint
 pub mod Seat
+pub mod Receipt
+pub mod Checking

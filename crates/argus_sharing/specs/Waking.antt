@@ -4,7 +4,7 @@ use Rattle.argus_entries.specs.Call.{begin_sub, begin_top, commit, declare, plai
 use Rattle.argus_entries.specs.Call.{test_write}
 use Rattle.argus_entries.specs.Reply.{PlainReply, plain_reply}
 use Rattle.argus_journal.specs.Events.{is_answered}
-use Rattle.argus_receipts.specs.declared.receipt.Receipt.{Receipt}
+use Rattle.argus_sharing.specs.declared.receipt.Receipt.{Receipt}
 use Rattle.std.specs.Prelude.{Bool, Err, Ok, Result, false}
 use Rattle.argus_memory.specs.declared.out_of_memory.OutOfMemory.{OutOfMemory}
 

@@ -11,13 +11,13 @@ ghost use Rattle.argus_sharing.specs.Following.{FollowsJournal, GoesOn};
 
 use crate::calling::counted;
 use crate::locked::Locked;
+use crate::receipt::Receipt;
 use crate::seat::Seat;
 use crate::sharing::Sharing;
 use argus_actions::ActionId;
 use argus_contents::{Change, ObjId, Query};
 use argus_entries::Call;
 use argus_memory::OutOfMemory;
-use argus_receipts::Receipt;
 use std::sync::Wait;
 
 impl<N: Sharing, R: Wait + Drop> Locked<N, R> {

@@ -9,13 +9,13 @@ ghost use Rattle.argus_sharing.specs.Following.{FollowsJournal, GoesOn, IsNoComm
 ghost use Rattle.argus_journal.specs.JournalView.{after, next_entry, reply_to};
 
 use crate::locked::Locked;
+use crate::receipt::Receipt;
 use crate::seat::Seat;
 use crate::sharing::Sharing;
 use argus_actions::ActionId;
 use argus_core::Guardian;
 use argus_entries::Call;
 use argus_memory::OutOfMemory;
-use argus_receipts::Receipt;
 use std::sync::Wait;
 use std::sync::ledger::Book;
 

@@ -1,8 +1,8 @@
 //! `CallsMade`: what came of several calls.
 
 use crate::calls_end::CallsEnd;
+use crate::receipt::Receipt;
 use argus_memory::Room;
-use argus_receipts::Receipt;
 
 /// What came of several calls: the receipts of those that were made, in order, and why no more were
 /// made.

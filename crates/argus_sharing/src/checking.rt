@@ -1,52 +1,152 @@
-//! Checks receipts and seats against the journal.
+//! `check`: whether receipts and seats agree with a journal.
 
-ghost use Rattle.std.specs.Prelude.{◌<◌, ◌^◌, ◌≡◌, All, IfErr, OnOk, length, map, sum_by};
-ghost use Rattle.argus_receipts.specs.Checking.{AreApart, IsSettleAnswer, Stands, entries_since};
-ghost use Rattle.argus_receipts.specs.Checking.{settle_fault};
-ghost use Rattle.argus_receipts.specs.Receipt.{plain_receipt};
+ghost use Rattle.std.specs.Prelude.{◌≡◌, ◌≤◌, ◌++◌, ◌∷◌, [], All, None, Some, map};
+ghost use Rattle.std.specs.Prelude.{IfErr, IfOk, OnOk};
+ghost use Rattle.argus_entries.specs.Call.{plain_call};
+ghost use Rattle.argus_entries.specs.Entry.{plain_entry};
+ghost use Rattle.argus_entries.specs.Reply.{plain_reply};
+ghost use Rattle.argus_entries.specs.Same.{same_call, same_entry, same_reply};
+ghost use Rattle.argus_journal.specs.Folding.{next_entry_number};
+ghost use Rattle.argus_journal.specs.Journal.{entries_of, entry_at, opening_of};
+ghost use Rattle.argus_sharing.specs.Checking.{AreApart, IsSettleAnswer, Stands, entries_since};
+ghost use Rattle.argus_sharing.specs.Checking.{first_fault, is_entry, receipt_fault};
+ghost use Rattle.argus_sharing.specs.Checking.{settle_fault};
+ghost use Rattle.argus_sharing.specs.Receipt.{plain_receipt};
 
-use crate::locked::Locked;
-use crate::seat::Seat;
-use crate::sharing::Sharing;
-use argus_receipts::{Receipt, SettleFault, check};
-use std::sync::Wait;
+use crate::receipt::Receipt;
+use crate::settle_fault::SettleFault;
+use argus_entries::Entry;
+use argus_journal::Journal;
+use argus_memory::{Heap, OutOfMemory};
+use indexmap::IndexSet;
+use std::alloc::Global;
+use std::hash::{BuildHasherDefault, FoldHasher};
 
-impl<N: Sharing, R: Wait + Drop> Locked<N, R> {
-    /// Whether receipts and seats agree with the journal: each receipt's entry is in it at its
-    /// number, no two receipts have the same number, and the seats made as many calls as there are
-    /// entries since the sharing began. It returns the first fault, in the order of
-    /// `argus_receipts::check`. `OutOfMemory` may come in place of any result.
-    pub fn check(&self, seats: &[Seat<N>], receipts: &[Receipt]) -> Result<(), SettleFault>
-        ensures stand { OnOk result
-            (All (Stands self.now.journal.opening self.now.journal.entries)
-            (map plain_receipt receipts.now)) }
-        ensures apart { OnOk result (AreApart (map plain_receipt receipts.now)) }
-        ensures count { OnOk result
-            (entries_since N.start self.now.journal.opening self.now.journal.entries
-            ≡ sum_by (λ seat. seat.made) seats.now) }
-        ensures fault { IfErr result (IsSettleAnswer
-            (settle_fault self.now.journal.opening self.now.journal.entries N.start
-            (sum_by (λ seat. seat.made) seats.now) (map plain_receipt receipts.now))) }
-    {
-        let Locked {
-            heap,
-            publishing,
-            start,
-            ..
-        } = self;
-        let journal = publishing.guardian.journal().journal();
-        check(*heap, journal, *start, sum_of(seats), receipts)
+// The numbers of receipts that are in the journal, so nobody can choose them to collide.
+type Numbers = IndexSet<u64, BuildHasherDefault<FoldHasher>, Global>;
+
+/// Whether receipts and seats agree with a journal: each receipt's entry is in it at its number, no
+/// two receipts have the same number, and the seats made as many calls as there are entries after
+/// the first `start`.
+///
+/// It returns the first fault: for each receipt in turn `Folded`, `NotThere` and `Twice` in this
+/// order, then `Count`. `OutOfMemory` may come in place of any result. Its time grows with the size
+/// of the receipts only.
+///
+/// Condition: the journal has had at least `start` entries, folded ones counted.
+///
+/// ```text
+/// check(heap, journal, 0, 3, receipts.as_slice())?;
+/// ```
+pub fn check(
+    heap: Heap,
+    journal: &Journal,
+    start: u64,
+    made: u128,
+    receipts: &[Receipt],
+) -> Result<(), SettleFault>
+    requires { start ≤ next_entry_number (opening_of journal.now) (entries_of journal.now) }
+    ensures stand { OnOk result
+        (All (Stands (opening_of journal.now) (entries_of journal.now))
+        (map plain_receipt receipts.now)) }
+    ensures apart { OnOk result (AreApart (map plain_receipt receipts.now)) }
+    ensures count { OnOk result
+        (entries_since start (opening_of journal.now) (entries_of journal.now) ≡ made) }
+    ensures fault { IfErr result (IsSettleAnswer
+        (settle_fault (opening_of journal.now) (entries_of journal.now) start made
+        (map plain_receipt receipts.now))) }
+{
+    check_receipts(heap, journal, receipts)?;
+    let entries = journal.len() - start;
+    if u128::from(entries) == made {
+        Ok(())
+    } else {
+        Err(SettleFault::Count {
+            journal: entries,
+            seats: made,
+        })
     }
 }
 
-/// How many calls the seats made.
-fn sum_of<N: Sharing>(seats: &[Seat<N>]) -> u128
-    requires { length seats.now < 2 ^ 63 }
-    ensures { result ≡ sum_by (λ seat. seat.made) seats.now }
+// No numbers, and room for this many.
+fn room_for(heap: Heap, count: usize) -> Result<Numbers, OutOfMemory>
+    ensures { IfOk result (λ numbers. numbers.keys ≡ []) }
 {
-    let mut made = 0u128;
-    for seat in seats {
-        made += u128::from(seat.made);
+    let hasher = BuildHasherDefault::default();
+    let numbers = IndexSet::with_capacity_and_hasher(heap.ask()?, count, hasher)?;
+    Ok(numbers)
+}
+
+// Whether each receipt is without a fault.
+fn check_receipts(heap: Heap, journal: &Journal, receipts: &[Receipt]) -> Result<(), SettleFault>
+    ensures ok { OnOk result (first_fault (opening_of journal.now) (entries_of journal.now) []
+        (map plain_receipt receipts.now) ≡ None) }
+    ensures err { IfErr result (IsSettleAnswer (first_fault (opening_of journal.now)
+        (entries_of journal.now) [] (map plain_receipt receipts.now))) }
+{
+    if receipts.is_empty() {
+        return Ok(());
     }
-    made
+    let mut earlier = room_for(heap, receipts.len())?;
+    for receipt in receipts {
+        check_receipt(journal, &mut earlier, receipt)?;
+    }
+    Ok(())
+}
+
+// Whether the receipt is without a fault after those with these numbers; if so, its number is
+// added.
+fn check_receipt(
+    journal: &Journal,
+    earlier: &mut Numbers,
+    receipt: &Receipt,
+) -> Result<(), SettleFault>
+    ensures ok { OnOk result (receipt_fault (opening_of journal.now) (entries_of journal.now)
+        earlier.old.keys (plain_receipt receipt.now) ≡ None) }
+    ensures added { OnOk result
+        (earlier.new.keys ≡ earlier.old.keys ++ (plain_receipt receipt.now).at ∷ []) }
+    ensures err { IfErr result (IsSettleAnswer (receipt_fault (opening_of journal.now)
+        (entries_of journal.now) earlier.old.keys (plain_receipt receipt.now))) }
+{
+    if receipt.at < journal.first_entry() {
+        return Err(SettleFault::Folded(receipt.at));
+    }
+    if !stands(journal, receipt) {
+        return Err(SettleFault::NotThere(receipt.at));
+    }
+    if earlier.insert(receipt.at)? {
+        Ok(())
+    } else {
+        Err(SettleFault::Twice(receipt.at))
+    }
+}
+
+// Whether the receipt's call and reply are in the journal at its number.
+fn stands(journal: &Journal, receipt: &Receipt) -> bool
+    ensures { result ≡ is_entry (plain_receipt receipt.now).entry
+        (entry_at (opening_of journal.now) (entries_of journal.now) receipt.now.at) }
+{
+    match journal.get(receipt.at) {
+        Some(entry) => is_of(entry, receipt),
+        None => false,
+    }
+}
+
+// Whether the entry has the receipt's call and reply.
+fn is_of(entry: &Entry, receipt: &Receipt) -> bool
+    ensures { result ≡ same_entry (plain_entry entry.now) (plain_receipt receipt.now).entry }
+{
+    has_call(entry, receipt) && has_reply(entry, receipt)
+}
+
+fn has_call(entry: &Entry, receipt: &Receipt) -> bool
+    ensures { result ≡ same_call (plain_call entry.now.call) (plain_call receipt.now.call) }
+{
+    entry.call == receipt.call
+}
+
+fn has_reply(entry: &Entry, receipt: &Receipt) -> bool
+    ensures { result ≡ same_reply (plain_reply entry.now.reply) (plain_reply receipt.now.reply) }
+{
+    entry.reply == receipt.reply
 }

@@ -1,10 +1,10 @@
 //! `Unsettled`: a shared guardian that wasn't settled.
 
 use crate::seat::Seat;
+use crate::settle_fault::SettleFault;
 use crate::shared::Shared;
 use crate::sharing::Sharing;
 use argus_memory::Room;
-use argus_receipts::SettleFault;
 use std::sync::Wait;
 
 /// Why a shared guardian wasn't settled, with all that was passed in, unchanged.

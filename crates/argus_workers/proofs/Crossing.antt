@@ -11,7 +11,7 @@ use Rattle.argus_contents.proofs.Crossing as contents
 use Rattle.argus_contents.specs.contracts.obj_id.ObjId.{the_row as object_row}
 use Rattle.argus_memory.proofs.Crossing as memory
 use Rattle.argus_memory.proofs.heap.Heap.TheSendSync.{the_field_sync as heap_field_syncs}
-use Rattle.argus_receipts.specs.contracts.receipt.Receipt.{the_row as receipt_row}
+use Rattle.argus_sharing.specs.contracts.receipt.Receipt.{the_row as receipt_row}
 use Rattle.argus_sharing.proofs.Crossing as sharing
 use Rattle.argus_sharing.specs.declared.sharing.Sharing.{Ghosts as Named}
 use Rattle.argus_workers.specs.contracts.arm_context.ArmContext.{the_row as handed_row, the_type as handed_type}

@@ -8,9 +8,8 @@ use argus_contents::ObjId;
 use argus_entries::Call;
 use argus_language::{BlockKind, Step};
 use argus_memory::{Heap, Room};
-use argus_receipts::Receipt;
 use argus_runs::{Caller, Stopped};
-use argus_sharing::{Seat, Shared, Sharing};
+use argus_sharing::{Receipt, Seat, Shared, Sharing};
 use std::sync::Wait;
 
 /// What all workers of a coenter get: what the team has in common, the arms' steps, the actions

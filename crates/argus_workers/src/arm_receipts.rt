@@ -1,8 +1,8 @@
 //! `ArmReceipts`: the receipts that one worker's arms leave.
 
 use argus_memory::{Heap, Room};
-use argus_receipts::Receipt;
 use argus_runs::Stopped;
+use argus_sharing::Receipt;
 use std::alloc::AllocError;
 
 /// The receipts that one worker's arms leave.

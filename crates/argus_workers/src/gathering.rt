@@ -2,8 +2,8 @@
 
 use crate::arm_receipts::ArmReceipts;
 use argus_memory::{Heap, Room};
-use argus_receipts::Receipt;
 use argus_runs::Stopped;
+use argus_sharing::Receipt;
 use std::alloc::AllocError;
 use std::vec::IntoIter;
 

@@ -3,16 +3,17 @@
 ghost use Rattle.std.specs.Prelude.{IfErr, IfOk, IfSome, length, map, sum_by, ◌+◌, ◌≡◌};
 ghost use Rattle.std.specs.Prelude.{◌≤◌};
 ghost use Rattle.argus_language.specs.Script.{plain_script};
-ghost use Rattle.argus_receipts.specs.Receipt.{plain_receipt};
+ghost use Rattle.argus_sharing.specs.Receipt.{plain_receipt};
 ghost use Rattle.argus_runs.specs.declared.run_fault.RunFault.TheVariants.{Memory};
-ghost use Rattle.argus_run_check.specs.RunCheck.{IsCheckedRun};
+ghost use Rattle.argus_workers.specs.RunCheck.{IsCheckedRun};
 
 use crate::gate::Gate;
+use crate::reporting::{has_risen, report_of};
+use crate::run_report::RunReport;
 use crate::team::Team;
 use crate::walking::walk;
 use argus_language::Script;
 use argus_memory::{Heap, OutOfMemory};
-use argus_run_check::{RunReport, has_risen, report_of};
 use argus_runs::RunFault;
 use argus_sharing::{Seat, Shared, Sharing};
 use std::sync::Wait;

@@ -12,12 +12,11 @@ use argus_actions::ActionId;
 use argus_contents::ObjId;
 use argus_language::{BlockKind, Lock, Script, Step};
 use argus_memory::Room;
-use argus_receipts::Receipt;
 use argus_runs::pieces::{
     begin, begin_arms, call_to_test, declare, finish_block, flow_of, is_yes, object_at,
 };
 use argus_runs::{Caller, Flow, Stopped, run_steps};
-use argus_sharing::{Seat, Sharing};
+use argus_sharing::{Receipt, Seat, Sharing};
 use std::slice;
 use std::sync::Wait;
 use std::thread::Threads;

@@ -5,10 +5,9 @@ use argus_contents::ObjId;
 use argus_entries::{Call, Reply};
 use argus_language::Step;
 use argus_memory::{Heap, OutOfMemory, Room};
-use argus_receipts::Receipt;
 use argus_runs::pieces::flow_of;
 use argus_runs::{Caller, Flow, Stopped};
-use argus_sharing::{Seat, Shared, Sharing};
+use argus_sharing::{Receipt, Seat, Shared, Sharing};
 use std::sync::Wait;
 
 /// Makes calls by one seat, and keeps their receipts. Accesses wait for their locks as long as the

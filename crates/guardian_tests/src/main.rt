@@ -1,7 +1,7 @@
-//! Tests of guardians that only Rattle can run: the rows in data/ of guardians that threads share,
-//! what a journal says of owners and replays, streams that fail, and threads at work. A row that
-//! doesn't get the answer that it says is printed, and the status is then 1, after all parts have
-//! run.
+//! Tests of guardians and scripts that only Rattle can run: the rows in data/ of guardians that threads
+//! share, what a journal says of owners and replays, threads at work, and runs of scripts that no
+//! process can tell. A row that doesn't get the answer that it says is printed, and the status is then
+//! 1, after all parts have run.
 #![tactic(auto)]
 
 mod alone;
@@ -10,6 +10,7 @@ mod crowd;
 mod each_call;
 mod looking;
 mod making;
+mod scripts;
 mod session;
 mod sharing;
 mod streams;
@@ -21,10 +22,16 @@ mod waiting;
 
 use alone::Alone;
 use anyhow::{Result, ensure};
+use argus_guardian::resume_laws::{
+    listings_are_resumed, listings_are_taken_back, longest_listing_is_resumed,
+    no_longer_front_is_a_listing,
+};
+use scripts::test_scripts;
 use std::fs;
 use std::rt::Files;
 use std::sync::Wait;
 use std::thread::Threads;
+use streams::read_at_last;
 use tally::Tally;
 use test_rows::{Setting, Tester};
 use testing::Form;
@@ -48,24 +55,26 @@ const FILES: [(&str, Form); 12] = [
 
 fn main(rt: HostRuntime) -> Result<()> {
     let setting = Setting::new(rt.alloc())?;
-    let is_alone_right = test_alone(&rt, setting)?;
+    call_laws();
+    let is_alone_right = test_alone(&rt)?;
+    read_at_last(setting.texts)?;
+    rt.println("a_reader_fails_after_each_read")?;
     let is_shared_right = test_shared(rt, setting)?;
+    let are_scripts_right = test_scripts(rt, setting)?;
     ensure!(
-        is_alone_right && is_shared_right,
+        is_alone_right && is_shared_right && are_scripts_right,
         "not all rows are answered as they say"
     );
     Ok(())
 }
 
 // Returns whether all rows get the answers that they say, as the next one does.
-fn test_alone(rt: &(impl Files + Print + AllocGlobal), setting: Setting) -> Result<bool> {
+fn test_alone(rt: &(impl Files + Print + AllocGlobal)) -> Result<bool> {
     rt.println("a guardian by itself:")?;
     let mut tester = Tester::<Alone>::new(rt.alloc())?;
     let text = fs::read_to_string(rt, "replays.rows")?;
     tester.run_text(rt, text.as_str())?;
     tester.tell_counts(rt)?;
-    streams::fail_everywhere(setting)?;
-    rt.println("streams_fail_everywhere")?;
     Ok(tester.is_content())
 }
 
@@ -83,4 +92,12 @@ fn test_shared<R: Threads + Wait + Files + Print + AllocGlobal + Copy + Drop + S
     rt.println("eight_seats_and_four_lookers")?;
     tally.tell(&rt)?;
     Ok(tally.is_content())
+}
+
+// They do nothing when they are called.
+fn call_laws() {
+    no_longer_front_is_a_listing();
+    listings_are_taken_back();
+    listings_are_resumed();
+    longest_listing_is_resumed();
 }

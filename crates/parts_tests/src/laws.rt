@@ -1,6 +1,6 @@
 //! Each law can be called: it does nothing. Those of a tree are called by rows.
 
-use crate::journal_laws;
+use crate::{journal_laws, model_laws};
 use argus_entries::laws::{entry_lines_are_unambiguous, suiting_changes_keep_the_depth};
 use argus_objects::laws::{ancestors_stay, discards_in_turn, lawful_stays, members_after_inherit};
 use argus_reading::laws::{entries_are_read_back, texts_have_one_error};
@@ -30,4 +30,8 @@ pub(crate) fn call_laws() {
     journal_laws::of_legal_journals();
     journal_laws::of_worked_journals();
     journal_laws::of_orders();
+    model_laws::of_locks();
+    model_laws::of_the_serial_order();
+    model_laws::of_trees();
+    model_laws::of_worked_histories();
 }

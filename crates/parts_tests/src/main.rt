@@ -1,16 +1,18 @@
 //! Tests of a guardian's parts, by the rows in data/: contents, texts, trees of actions, locks,
-//! lines and receipts. A row that doesn't get the answer that it says is printed, and the status is
-//! then 1, after all rows have run.
+//! lines and receipts; and of the heaps that they are in. A row that doesn't get the answer that it
+//! says is printed, and the status is then 1, after all rows have run.
 #![tactic(auto)]
 
 mod cells;
 mod changing;
 mod contents;
+mod heap;
 mod journal_laws;
 mod kept;
 mod laws;
 mod lines;
 mod lists;
+mod model_laws;
 mod parts;
 mod receipts;
 mod texts;
@@ -44,6 +46,8 @@ fn main(rt: HostRuntime) -> Result<()> {
         tester.run_text(&rt, text.as_str())?;
     }
     tester.tell_counts(&rt)?;
+    heap::use_up(&rt, rt.alloc())?;
+    rt.println("used_up_budgets_refuse")?;
     ensure!(tester.is_content(), "not all rows are answered as they say");
     Ok(())
 }

@@ -4,7 +4,7 @@ use argus_actions::ActionId;
 use argus_entries::{Call, Entry, Reply, write_reply};
 use argus_journal::Journal;
 use argus_memory::{Heap, OutOfMemory, Room};
-use argus_receipts::{Receipt, SettleFault, check};
+use argus_sharing::{Receipt, SettleFault, check};
 use std::fmt::Write;
 use test_rows::{RowFault, Setting, action, first_word};
 

@@ -1,21 +1,30 @@
 //! `Full`: a writer that is full after this many bytes.
 
-use argus_memory::Room;
+use argus_memory::{Heap, Room};
 use std::io;
 use std::io::{ErrorKind, Write};
 
-/// Accepts this many bytes, at most two a write, and then fails or accepts nothing. It counts the
-/// writes that come when it is full.
+/// Accepts this many bytes, at most two a write, and then fails. It counts the writes that come when
+/// it is full.
 ///
 /// ```text
-/// let mut writer = Full { taken: Vec::new(heap.room()), room: 3, fails: true, writes_behind: 0 };
+/// let mut writer = Full::new(heap, 3);
 /// ```
 #[derive(Drop)]
 pub struct Full {
     pub taken: Vec<u8, Room>,
     pub room: usize,
-    pub fails: bool,
     pub writes_behind: u64,
+}
+
+impl Full {
+    pub fn new(heap: Heap, room: usize) -> Full {
+        Full {
+            taken: Vec::new(heap.room()),
+            room,
+            writes_behind: 0,
+        }
+    }
 }
 
 impl Write for Full {
@@ -23,10 +32,7 @@ impl Write for Full {
         let left = self.room.saturating_sub(self.taken.len());
         if left == 0 {
             self.writes_behind = self.writes_behind.saturating_add(1);
-            if self.fails {
-                return Err(io::Error::from(ErrorKind::Interrupted));
-            }
-            return Ok(0);
+            return Err(io::Error::from(ErrorKind::Interrupted));
         }
         let size = buf.len().min(left).min(2);
         self.taken.extend_from_slice(&buf[..size])?;

@@ -12,7 +12,12 @@
 An action commits at the end of its `with` block, and aborts if an exception leaves it. The library is
 proved: each reply follows from the journal before the call. This package isn't: it calls the library,
 writes and reads its texts, and waits.
+
+`Log` keeps a guardian's journal in a SQLite database, so that it outlives its process; its exceptions are in
+`argus_guardian.log`.
 """
+
+from typing import TYPE_CHECKING, Any
 
 from .action import Action
 from .errors import (
@@ -58,6 +63,19 @@ from .ready_commit import ReadyCommit
 from .resuming import resume
 from .shapes import Shape
 from .values import Array, Choice, Ref, read_content, read_value, write_content, write_value
+
+if TYPE_CHECKING:
+    from .log import Log as Log
+else:
+
+    def __getattr__(name: str) -> Any:
+        """`Log`, which is loaded when it is asked for: guardians don't need sqlite3, and a Python may have none."""
+        if name == "Log":
+            from .log import Log
+
+            return Log
+        raise AttributeError(f"module {__name__!r} has no attribute {name!r}")
+
 
 __version__ = "0.1.0"
 

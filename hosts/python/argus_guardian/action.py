@@ -8,6 +8,7 @@ from typing import TYPE_CHECKING, Any, NoReturn
 from .errors import ArgusError
 from .ids import ActionId, number_of
 from .library import Kind
+from .lineage import Lineage
 from .ranges import U32, i64
 from .ready_commit import ReadyCommit
 from .values import Content, Object, Value, write_content, written
@@ -28,8 +29,9 @@ class Action:
 
     Each access takes its lock, and the action keeps it to its end: to read, a read lock, which others
     may have too; to change, the write lock. It waits for the lock until the guardian's patience ends,
-    and then raises Conflict. Two that have both read an object and both want to write it wait for each
-    other: the second raises Conflict at once. So if you read and then write, take the write lock first:
+    and then raises Conflict. If it would wait in a circle, the youngest there raises Conflict at once. Two that have
+    both read an object and both want to write it wait for each other. So if you read and then write, take the
+    write lock first:
 
         with guardian.topaction() as top:
             top.lock(seat)
@@ -61,13 +63,19 @@ class Action:
         """Its number, which knows its guardian."""
         return self.guardian._ids.actions(self._number)
 
-    def _lineage(self) -> set[int]:
-        """The numbers of itself and its ancestors, whose locks don't conflict with its own."""
-        numbers, action = {self._number}, self
-        while action.parent and not action._is_nested:
-            action = action.parent
-            numbers.add(action._number)
-        return numbers
+    def _lineage(self) -> Lineage:
+        """Itself with those that can't end before it. Of one that has a number alone the ancestors aren't known."""
+        line = [self]
+        while line[-1].parent:
+            line.append(line[-1].parent)
+        numbers = tuple(it._number for it in line)
+        own = next((place for place, it in enumerate(line, 1) if it._is_nested), len(line))
+        top = line[own - 1]
+        return Lineage(frozenset(numbers[:own]), numbers, top._is_nested or top._renewals is not None)
+
+    def _heir(self) -> int | None:
+        """Whose locks keep others out once it has ended: a subaction's parent's."""
+        return None if self.parent is None or self._is_nested else self.parent._number
 
     def __repr__(self) -> str:
         return f"<Action a{self._number}>"

@@ -11,8 +11,9 @@ from .library import Handle, Question, Ready, Status, address, bare, load, openi
 from .telling import Call, error_of, error_of_call, error_of_question
 from .values import read_content, read_value
 
-# The two most frequent ones.
-NUMBER, DONE = Status.NUMBER, Status.DONE
+# The most frequent ones, as globals, which are looked up faster than attributes.
+NUMBER, DONE, FLAG = Status.NUMBER, Status.DONE, Status.FLAG
+VALUE, TOO_SMALL = Status.VALUE, Status.TOO_SMALL
 # The most bytes that the line of a commit has: two numbers of 20 and 10 digits, and the longest refusal.
 LINE = 61
 
@@ -112,6 +113,10 @@ class Archive:
 
     def lines(self, entry: int, size: int) -> list[str]:
         """The journal's lines from an entry on, as many as fit into `size` bytes; at least one, if there is one."""
+        return self.text_of(entry, size)[0].decode().split("\n")[:-1]
+
+    def text_of(self, entry: int, size: int) -> tuple[bytes, int]:
+        """The same as they are, with their line feeds; and how many there are."""
         while True:
             room = ctypes.create_string_buffer(size)
             status = self._lines(self._handle_at, entry, room, size, self._size_at, ctypes.byref(self._count))
@@ -120,7 +125,7 @@ class Archive:
             size = self._size.value
         if status != Status.DONE:
             raise error_of_question(status, 0, Question.ENTRY, entry)
-        return room.raw[: self._size.value].decode().split("\n")[:-1]
+        return ctypes.string_at(room, self._size.value), self._count.value
 
     def take(self, text: bytes) -> tuple[int, int, int]:
         """Takes lines of a journal: the status, its number, and how many lines were taken."""
@@ -144,9 +149,9 @@ class Archive:
             return number
         if status == DONE:
             return None
-        if status == Status.FLAG:
+        if status == FLAG:
             return number != 0
-        if status == Status.VALUE:
+        if status == VALUE:
             return _value(self._text())
         if status == Status.CONTENT:
             return read_content(self._text().decode())
@@ -188,7 +193,7 @@ class Archive:
     def _text(self) -> bytes:
         """The text that the library keeps. OutOfMemory here is raised after a call that was made."""
         status = self._reply(self._handle_at, self._room, self._room_size, self._size_at)
-        if status == Status.TOO_SMALL:
+        if status == TOO_SMALL:
             self._make_room(self._size.value)
             status = self._reply(self._handle_at, self._room, self._room_size, self._size_at)
         if status != DONE:

@@ -6,7 +6,7 @@ from typing import Any
 
 from . import errors
 from .ids import Ids, number_of
-from .library import Question
+from .library import ActionStatus, Question
 from .ranges import U64, within
 from .shapes import Shape, read_shape
 from .values import Object, object_number, read_content
@@ -17,7 +17,6 @@ _LISTINGS = {
     "journal": Question.LIST_JOURNAL,
     "audit": Question.LIST_AUDIT,
 }
-_STATUSES = "live", "committed", "aborted", "folded"
 
 
 class Asked:
@@ -57,7 +56,7 @@ class Asked:
         """
         try:
             number = number_of(action, self._ids, "action")
-            return _STATUSES[self._tell(Question.ACTION_STATUS, action=number) - 1]
+            return ActionStatus(self._tell(Question.ACTION_STATUS, action=number)).name.lower()
         except errors.NotThere:
             return None
 

@@ -16,20 +16,22 @@ from weakref import ref
 from . import errors
 from .action import Action
 from .archive import Archive
-from .asked import Asked, actions_of
+from .asked import Asked
+from .circles import Search, Wait, Waits, holders_of
 from .entering import LOOK_AFTER, Entering
 from .ids import number_of
 from .library import ActionStatus, Kind, Question, Status
+from .lineage import Lineage
 from .owners import Owners
 from .ranges import i64, u32
-from .telling import Call, deed, error_of_call
+from .telling import Call, circle, deed, error_of_call
 from .values import Object, object_number
 
 _DONE = Status.DONE, 0
 _TRUE = Status.FLAG, 1
 _LIVE = Status.NUMBER, ActionStatus.LIVE
 _OVER = Status.REFUSED, errors.REFUSALS.index(errors.Over) + 1
-_CONFLICT = Status.REFUSED, errors.REFUSALS.index(errors.Conflict) + 1
+_CONFLICT: tuple[int, int] = Status.REFUSED, errors.REFUSALS.index(errors.Conflict) + 1
 # The most frequent ones, as globals, which are looked up faster than attributes.
 _IS_ACTION, _BEGIN_NESTED = Status.ACTION, Kind.BEGIN_NESTED
 
@@ -56,8 +58,9 @@ class Calling(Entering, Asked):
         super()._make_lock()
         # The checkpoints and renewals that are under way, each with its thread: they hold topactions back.
         self._folds: dict[object, int] = {}
-        # For each object the lineages of the actions that wait to write it.
-        self._writing: dict[int, list[set[int]]] = {}
+        self._waits = Waits()
+        # What each access looks at while others wait, by the shortest way.
+        self._within = self._waits.within
 
     def _begin(self, kind: int, parent: Action | None = None) -> Action:
         """Begins an action. If an interrupt comes before the caller has it, it is aborted. Takes the lock itself."""
@@ -129,6 +132,8 @@ class Calling(Entering, Asked):
             if type(answer) is tuple:
                 call = kind, action._number, obj, first, second, text
                 answer = self._answered(answer, call, action._lineage, action._renewals)
+            elif self._awaited and action._number in self._within:
+                self._break_circles_within(action._number)
             self._busy = self._awaited
             return answer
 
@@ -149,7 +154,7 @@ class Calling(Entering, Asked):
                 raise error_of_call(*answer, (kind, number))
             self._owners.live.pop(number, None)
             if self._awaited:
-                self._ended.notify_all()
+                self._wake_after(action._heir())
             self._busy = self._awaited
 
     def _make_of(self, action: Action, kind: int, obj: Object = 0) -> Any:
@@ -163,30 +168,51 @@ class Calling(Entering, Asked):
             answer = self._make(*call)
             if kind == Kind.ABORT_OTHERS:
                 self._note_end(kind, action._number, answer)
-            result = self._archive.answer(*answer, call)
+            result = self._result(answer, call)
             self._busy = self._awaited
             return result
 
     def _note_end(self, kind: int, action: int, answer: tuple[int, int]) -> None:
         if answer == _DONE:
+            heir = self._heir_of(action) if self._awaited else None
             if kind != Kind.ABORT_OTHERS:
                 self._owners.live.pop(action, None)
             if self._awaited:
-                self._ended.notify_all()
+                self._wake_after(heir)
         elif answer == _OVER and kind != Kind.ABORT_OTHERS:
             self._owners.live.pop(action, None)
+
+    def _wake_after(self, heir: int | None) -> None:
+        """Wakes who waits for the end of an action. If this is its parent, that has its locks now, or its own alone."""
+        self._ended.notify_all()
+        if heir is not None:
+            self._break_circles_within(heir)
+
+    def _action_of(self, number: int) -> Action | None:
+        """The live action of this number, if the program has it."""
+        owner = self._owners.live.get(number)
+        return None if owner is None else owner()
+
+    def _heir_of(self, number: int) -> int | None:
+        action = self._action_of(number)
+        return None if action is None else action._heir()
 
     def _abort_dropped(self) -> None:
         """Aborts the actions to which no reference is left, and cancels a commit whose block has ended."""
         self._readying = None
         # If none is ready, this does nothing.
         self._archive.cancel_ready()
+        waits: set[Wait] = set()
         for number in self._owners.take_dropped():
+            # Nobody knows its parent, which may have its locks alone then.
+            waits = self._waits.all() if self._awaited else waits
             answer = self._archive.make(Kind.ABORT, number)
             self._note_end(Kind.ABORT, number, answer)
             if answer[0] == Status.NO_MEMORY:
                 # The next call tries again.
                 break
+        for wait in waits:
+            self._break_circles(wait)
 
     def access(
         self,
@@ -216,81 +242,99 @@ class Calling(Entering, Asked):
             if renewals is None:
                 renewals = self._renewals
             answer = self._make_since(renewals, *call)
-            result = self._answered(answer, call, lineage or (lambda: {action}), renewals)
+            result = self._answered(answer, call, lambda: self._lineage_of(action, lineage), renewals)
             self._busy = self._awaited
             return result
 
+    def _lineage_of(self, number: int, numbers: Callable[[], set[int]] | None) -> Lineage:
+        """That of an action that is named by its number, and maybe by the numbers of its ancestors."""
+        if numbers is not None:
+            # An ancestor has a lower number.
+            line = sorted(numbers() | {number}, reverse=True)
+            return Lineage(frozenset(line), tuple(line))
+        action = self._action_of(number)
+        return action._lineage() if action else Lineage(frozenset({number}), (number,), is_known=False)
+
     def _answered(
-        self, answer: tuple[int, int], call: Call, lineage: Callable[[], set[int]], renewals: int | None
+        self, answer: tuple[int, int], call: Call, lineage: Callable[[], Lineage], renewals: int | None
     ) -> Any:
         """The result of an access. If it is refused with Conflict, it waits and is made again."""
         if answer == _CONFLICT:
             return self._access_refused(call, lineage(), self._renewals if renewals is None else renewals)
-        return self._archive.answer(*answer, call)
+        return self._result(answer, call)
 
-    def _access_refused(self, call: Call, lineage: set[int], renewals: int) -> Any:
-        """Waits for the object of a refused access, and makes it again."""
-        answer, is_reading = _CONFLICT, call[0] < Kind.CREATE
-        is_in_vain = not is_reading and self._is_in_vain(call[2], lineage)
-        if is_reading:
-            answer = self._make_once_had(call, Question.CAN_READ, renewals)
-        elif not is_in_vain:
-            answer = self._make_waiting_to_write(call, lineage, renewals)
-        if answer == _CONFLICT:
-            raise errors.Conflict(self._conflict(call, lineage, is_in_vain))
-        return self._archive.answer(*answer, call)
-
-    def _make_waiting_to_write(self, call: Call, lineage: set[int], renewals: int) -> tuple[int, int]:
-        waiting = self._writing.setdefault(call[2], [])
-        waiting.append(lineage)
+    def _result(self, answer: tuple[int, int], call: Call) -> Any:
+        """The result of a call. If it has got a lock for an action that also waits, that may close a circle."""
         try:
-            return self._make_once_had(call, Question.CAN_WRITE, renewals)
+            return self._archive.answer(*answer, call)
         finally:
-            waiting.remove(lineage)
-            if not waiting:
-                del self._writing[call[2]]
+            if self._awaited:
+                self._break_circles_within(call[1])
 
-    def _make_once_had(self, call: Call, question: int, renewals: int) -> tuple[int, int]:
-        """Makes a refused access again each time that it may go on, until the patience is over."""
-        limit, answer = time.monotonic() + self.patience, _CONFLICT
-        while answer == _CONFLICT and time.monotonic() < limit:
-            while time.monotonic() < limit and not self._may_go_on(call, question, renewals):
-                self._wait_until(limit)
-            answer = self._make_since(renewals, *call)
-        return answer
+    def _access_refused(self, call: Call, lineage: Lineage, renewals: int) -> Any:
+        """Waits for the object of a refused access, and makes it again."""
+        wait, limit = Wait(call, lineage, renewals), time.monotonic() + self.patience
+        answer = _CONFLICT
+        if self.patience > 0:
+            with wait.lasts:
+                answer = self._make_once_had(call, wait, limit)
+        if answer == _CONFLICT:
+            raise self._conflict(call, wait)
+        return self._result(answer, call)
 
-    def _may_go_on(self, call: Call, question: int, renewals: int) -> bool:
-        """Whether the lock of a refused access is free, or its action over."""
-        action, obj = call[1:3]
+    def _make_once_had(self, call: Call, wait: Wait, limit: float) -> tuple[int, int]:
+        """Makes a refused access again each time that it may go on, until it is refused or the patience is over."""
+        answer = _CONFLICT
+        try:
+            self._waits.join(wait)
+            if self._awaited or wait.lineage.is_inside:
+                self._break_circles(wait)
+            while answer == _CONFLICT:
+                while time.monotonic() < limit and not self._may_go_on(call, wait):
+                    self._wait_until(limit)
+                answer = self._make_since(wait.renewals, *call)
+                if wait.waits_for or time.monotonic() >= limit:
+                    break
+            return answer
+        finally:
+            self._waits.leave(wait)
+
+    def _may_go_on(self, call: Call, wait: Wait) -> bool:
+        """Whether a refused access is made again: its lock is free, its action over, or it would wait in a circle."""
+        question = Question.CAN_READ if wait.is_reading else Question.CAN_WRITE
         return (
-            self._ask(question, action, obj) == _TRUE
-            or renewals != self._renewals
-            or self._ask(Question.ACTION_STATUS, action, 0) != _LIVE
+            wait.waits_for != ()
+            or self._ask(question, wait.action, wait.obj) == _TRUE
+            or wait.renewals != self._renewals
+            or self._ask(Question.ACTION_STATUS, wait.action, 0) != _LIVE
         )
 
-    def _is_in_vain(self, obj: int, lineage: set[int]) -> bool:
-        """Whether another one that waits to write the object waits for this one's read lock, and this one for its."""
-        if obj not in self._writing:
-            return False
-        readers = self._holders(obj, Question.READERS)
-        mine = readers & lineage
-        others = self._writing[obj]
-        return any(mine - other and readers & other - lineage for other in others)
+    def _break_circles_within(self, action: int) -> None:
+        """The action has got locks, or keeps its own alone. If it waits, or one inside it, others may wait for that."""
+        for wait in list(self._within.get(action, ())):
+            self._break_circles(wait)
 
-    def _holders(self, obj: int, *questions: int) -> set[int]:
-        """The numbers of the actions that hold the object, by these questions. Empty if there is no memory for them."""
-        try:
-            texts = [self._archive.told(question, obj=obj) for question in questions]
-        except errors.OutOfMemory:
-            return set()
-        return {number for text in texts for number in actions_of(text)}
+    def _break_circles(self, wait: Wait) -> None:
+        """Refuses the youngest of each circle that this one is in."""
+        while True:
+            search = Search(self._waits, self._archive, self._renewals)
+            found = search.circle_with(wait)
+            if not found:
+                break
+            found[0].waits_for = tuple(map(self._ids.actions, search.names(found)))
+            if found[0] is not wait:
+                self._wake()
 
-    def _conflict(self, call: Call, lineage: set[int], is_in_vain: bool) -> str:
+    def _conflict(self, call: Call, wait: Wait) -> errors.Conflict:
         """Which actions hold the object that an access wants, as in `a7 wants to write o3, held by a5`."""
-        holders = self._holders(call[2], Question.READERS, Question.VERSIONS) - lineage
-        named = ", ".join(f"a{number}" for number in sorted(holders))
-        too = ", and one of them has read it and waits to write it, too" if is_in_vain else ""
-        return f"{deed(*call)}, held by {named or 'another one'}{too}"
+        readers, writers = (holders_of(self._archive, it, wait.obj) for it in (Question.READERS, Question.VERSIONS))
+        named = ", ".join(f"a{number}" for number in sorted((readers | writers) - wait.lineage.own))
+        text = f"{deed(*call)}, held by {named or 'another one'}"
+        if not wait.waits_for:
+            return errors.Conflict(text)
+        conflict = errors.Conflict(f"{text}: {circle(wait.action, wait.waits_for)}")
+        conflict.waits_for = wait.waits_for
+        return conflict
 
     def _make(self, *call: Any) -> tuple[int, int]:
         """The status and the number of a call."""

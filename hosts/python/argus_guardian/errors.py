@@ -150,9 +150,14 @@ class IllTyped(Refused):
 
 
 class Conflict(Refused):
-    """An action that isn't an ancestor holds a lock that conflicts with this one's."""
+    """An action that isn't an ancestor holds a lock that conflicts with this one's.
+
+    If this one would have waited in a circle, `waits_for` has the actions for which: each waits for the next one, or
+    for an action around that, and the last one waits for this one. Else it is empty: the patience was over.
+    """
 
     why = "another action holds the object"
+    waits_for: tuple[int, ...] = ()
 
 
 class TooDeep(Refused):

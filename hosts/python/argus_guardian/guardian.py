@@ -17,7 +17,7 @@ from .ids import ObjectId, number_of
 from .library import Kind, Question, Status
 from .lists import CallsMade, Listed, array_of, calls_of
 from .ranges import MOST, U64, i64, u32, within
-from .telling import error_of
+from .telling import Call, error_of
 from .values import Object, object_number
 
 _Done = TypeVar("_Done")
@@ -36,12 +36,14 @@ class Guardian(Calling):
     thread, have nothing to catch.
 
     An access waits for its object at most `patience` seconds, and then raises Conflict: abort the
-    topaction, and begin it again, as `run` does. Two topactions wait for each other in one of two ways.
+    topaction, and begin it again, as `run` does. If actions wait for one another in a circle, of whatever length, the
+    youngest of them is refused with Conflict when the circle closes, and `waits_for` of that says for whom it would
+    have waited. The youngest is the one whose topaction has the highest number. Circles come in two ways.
 
-    - Both have read an object, and both want to write it. The second is refused with Conflict at once.
-      If you will write what you read, call `lock` before you read; then they take turns.
-    - Each has locked what the other wants. Take locks in one order, such as by the number of the
-      object. If that isn't possible, both wait until their patience ends.
+    - Both of two have read an object, and both want to write it. If you will write what you read, call `lock` before
+      you read; then they take turns.
+    - Each has locked what the next one wants. If all take locks in one order, such as by the number of the object,
+      that doesn't happen.
 
     It isn't promised that a wait ends.
 
@@ -215,7 +217,7 @@ class Guardian(Calling):
                 self._note_end(kind, action, answer)
             if kind in _BEGINS and answer[0] == Status.ACTION:
                 self._begun = answer[1] + 1
-            result = self._archive.answer(*answer, call)
+            result = self._result(answer, call)
             self._busy = self._awaited
             return result
 
@@ -248,11 +250,21 @@ class Guardian(Calling):
         status, count = self._archive.make_each(array)
         made = array[:count]
         calls, outcomes = calls_of(made), [(it.status, it.number) for it in made]
+        try:
+            answers = self._archive.answers(outcomes, calls)
+        finally:
+            self._note_each(calls, outcomes)
+        return CallsMade(answers, _end_of(status, answers, array))
+
+    def _note_each(self, calls: list[Call], outcomes: list[tuple[int, int]]) -> None:
+        """Notes what a list has ended, and the circles that it may have closed. The library's reply is gone then."""
         for call, outcome in zip(calls, outcomes):
             if call[0] in _ENDS:
                 self._note_end(call[0], call[1], outcome)
-        answers = self._archive.answers(outcomes, calls)
-        return CallsMade(answers, _end_of(status, answers, array))
+        if self._awaited:
+            # That of a begun subaction is its parent.
+            for action in {call[1] for call in calls}:
+                self._break_circles_within(action)
 
     @one_call
     def lines(self, entry: int, size: int = 65536) -> list[str]:

@@ -5,6 +5,7 @@ from __future__ import annotations
 import ctypes
 import os
 from collections.abc import Callable
+from enum import IntEnum
 from pathlib import Path
 from typing import TYPE_CHECKING, Any
 
@@ -67,44 +68,113 @@ class ListedCall(ctypes.Structure):
     ]
 
 
-class Status:
+class Status(IntEnum):
     """The outcome of a call."""
 
-    DONE, OBJECT, ACTION, NUMBER, FLAG, VALUE, CONTENT, TEXT, SIGNAL, REFUSED = range(10)
-    NO_MEMORY, NOT_OPEN, NOT_UTF8, BAD_TEXT, BAD_SHAPE, BAD_NUMBER, BAD_KIND = range(10, 17)
-    TOO_SMALL, NOT_THERE, BUSY, FULL = range(17, 21)
-    UNMET, NOT_BEGUN, BAD_DEMAND = range(22, 25)
-    NOT_AN_OPENING, NO_LINE, NOT_NEXT, NOT_SOUND, NOT_THE_REPLY = range(25, 30)
+    DONE = 0
+    OBJECT = 1
+    ACTION = 2
+    NUMBER = 3
+    FLAG = 4
+    VALUE = 5
+    CONTENT = 6
+    TEXT = 7
+    SIGNAL = 8
+    REFUSED = 9
+    NO_MEMORY = 10
+    NOT_OPEN = 11
+    NOT_UTF8 = 12
+    BAD_TEXT = 13
+    BAD_SHAPE = 14
+    BAD_NUMBER = 15
+    BAD_KIND = 16
+    TOO_SMALL = 17
+    NOT_THERE = 18
+    BUSY = 19
+    FULL = 20
+    UNMET = 22
+    NOT_BEGUN = 23
+    BAD_DEMAND = 24
+    NOT_AN_OPENING = 25
+    NO_LINE = 26
+    NOT_NEXT = 27
+    NOT_SOUND = 28
+    NOT_THE_REPLY = 29
     OCCUPIED = 30
 
 
-class Demand:
+class Demand(IntEnum):
     """What the reply to a call of a list must be for the list to go on."""
 
-    NO_REFUSAL, NOTHING, NO_SIGNAL = range(3)
+    NO_REFUSAL = 0
+    NOTHING = 1
+    NO_SIGNAL = 2
 
 
-class Kind:
+class Kind(IntEnum):
     """The journalled calls."""
 
-    DECLARE, BEGIN_TOP, BEGIN_SUB, BEGIN_NESTED, COMMIT, ABORT, ABORT_OTHERS = range(7)
-    TEST_READ, TEST_WRITE = range(7, 9)
-    WHOLE, FIELD, LOW, HIGH, SIZE, FETCH, BOTTOM, TOP, IS_TAG, TAG_VALUE = range(9, 19)
-    CREATE, SET_FIELD, STORE, ADDH, ADDL, REMH, REML, SET_LOW, TRIM, CHANGE_TAG, TOUCH = range(19, 30)
+    DECLARE = 0
+    BEGIN_TOP = 1
+    BEGIN_SUB = 2
+    BEGIN_NESTED = 3
+    COMMIT = 4
+    ABORT = 5
+    ABORT_OTHERS = 6
+    TEST_READ = 7
+    TEST_WRITE = 8
+    WHOLE = 9
+    FIELD = 10
+    LOW = 11
+    HIGH = 12
+    SIZE = 13
+    FETCH = 14
+    BOTTOM = 15
+    TOP = 16
+    IS_TAG = 17
+    TAG_VALUE = 18
+    CREATE = 19
+    SET_FIELD = 20
+    STORE = 21
+    ADDH = 22
+    ADDL = 23
+    REMH = 24
+    REML = 25
+    SET_LOW = 26
+    TRIM = 27
+    CHANGE_TAG = 28
+    TOUCH = 29
 
 
-class Question:
+class Question(IntEnum):
     """The questions, which aren't journalled."""
 
-    CAN_READ, CAN_WRITE, OBJECTS, ACTIONS, ENTRIES, BASE, READERS, VERSIONS, ENTRY = range(9)
-    LIST_BASES, LIST_STACKS, LIST_JOURNAL, LIST_AUDIT = range(9, 13)
-    SHAPE, ACTION_STATUS, FIRST_LIVE, FIRST_ENTRY = range(13, 17)
+    CAN_READ = 0
+    CAN_WRITE = 1
+    OBJECTS = 2
+    ACTIONS = 3
+    ENTRIES = 4
+    BASE = 5
+    READERS = 6
+    VERSIONS = 7
+    ENTRY = 8
+    LIST_BASES = 9
+    LIST_STACKS = 10
+    LIST_JOURNAL = 11
+    LIST_AUDIT = 12
+    SHAPE = 13
+    ACTION_STATUS = 14
+    FIRST_LIVE = 15
+    FIRST_ENTRY = 16
 
 
-class ActionStatus:
+class ActionStatus(IntEnum):
     """The state of an action."""
 
-    LIVE, COMMITTED, ABORTED, FOLDED = range(1, 5)
+    LIVE = 1
+    COMMITTED = 2
+    ABORTED = 3
+    FOLDED = 4
 
 
 def where() -> str:

@@ -1,7 +1,7 @@
-"""`Log`: a guardian whose journal is in files, so that it outlives its process.
+"""`Log`: a guardian whose journal is in a SQLite database, so that it outlives its process.
 
-The files are those of the Rust crate's log, by `libargus_log.so`, which `cargo build --release` makes in
-hosts/rust/log_c. None of this is proved; docs/OUTLIVING.md says what a log promises.
+It stands on the standard library's sqlite3 alone. None of this is proved; docs/OUTLIVING.md says what a log promises,
+and what its tables are.
 """
 
 from __future__ import annotations
@@ -10,47 +10,50 @@ import os
 import threading
 import time
 from collections.abc import Callable
+from pathlib import Path
 from types import TracebackType
-from typing import NoReturn, TypeVar
+from typing import Any, NoReturn, TypeVar
 from weakref import ref
 
 from .action import Action
-from .errors import ArgusError, Busy, Closed
-from .guardian import Guardian
+from .errors import Busy, Closed, Full, OutOfMemory
 from .library import Status
-from .log_callbacks import Folding, Giving, Taking
-from .log_files import LogFiles
-from .log_library import FOLD, GIVE, TAKE, LogStatus
+from .log_errors import (
+    InDoubt,
+    LogBroken,
+    LogCut,
+    LogDamaged,
+    LogError,
+    LogLocked,
+    LogOld,
+    NoLog,
+    NotALog,
+    OtherFormat,
+    OtherLog,
+    OtherReply,
+    PagesDamaged,
+    RowChanged,
+    RowDoubled,
+    RowMissing,
+    RowSwapped,
+    WalDamaged,
+    WalMissing,
+)
+from .log_making import make_log
+from .log_writer import JournalOfLog, LogCounts, LogWriter, Wanted
 from .telling import error_of
 
 _Done = TypeVar("_Done")
+_Log = TypeVar("_Log", bound="Log")
+
+# The kinds of journal that SQLite keeps for a log, and whether that is a WAL.
+_JOURNALS = {"wal": True, "persist": False}
+# How long a checkpoint that a log makes by itself holds back topactions; and after how many entries it tries again.
+_PATIENCE, _AGAIN = 0.1, 10_000
 
 
-class LogError(ArgusError):
-    """The log isn't open, or has failed; `str` says why."""
-
-
-class LogLocked(LogError):
-    """Another process has the log, or another part of this one."""
-
-
-class LogDamaged(LogError):
-    """The log isn't as it was written, or this guardian gives another reply. Its files are unchanged."""
-
-
-class LogBroken(LogError):
-    """A write or a sync failed earlier, and nothing is tried again: end the process, and open the log again."""
-
-
-class InDoubt(LogError):
-    """The log failed or was closed during a wait: what was waited for is in the log, or it isn't."""
-
-
-_ERRORS = {LogStatus.LOCKED: LogLocked, LogStatus.DAMAGED: LogDamaged, LogStatus.BROKEN: LogBroken}
-
-
-class LoggedGuardian(Guardian):
-    """The guardian of a log, which alone folds its journal: when all entries are in the files."""
+class LoggedGuardian(JournalOfLog):
+    """The guardian of a log, which alone folds its journal."""
 
     def checkpoint(self, patience: float = 0.0) -> NoReturn:
         """Raises TypeError: call the log's `checkpoint`."""
@@ -62,16 +65,16 @@ class LoggedGuardian(Guardian):
 
 
 class Log:
-    """A guardian whose journal is in the files of a folder.
+    """A guardian whose journal is in a database.
 
-        with Log("/var/lib/bank") as log:
+        with Log.open_or_create("bank.db") as log:
             if log.guardian.objects == 0:
                 log.guardian.declare("atomic_record[balance:int]")
             with log.topaction() as top:
                 top.create(0, (5,))
             # here it is on disk
 
-    It makes each call in the files again and compares its reply; actions that were live are aborted.
+    It makes each call in the log again and compares its reply; actions that were live are aborted.
     `found` says what was there. A topaction of the log is acknowledged when its `with` block has ended
     without an exception: its commit, and all before it, are on disk. Threads may share the log; their
     commits wait together.
@@ -80,52 +83,84 @@ class Log:
     if a signal handler, a `__del__` or a callback makes it, which has interrupted that one.
 
     Other calls are the guardian's. Their results may come from commits that aren't on disk yet: `barrier`
-    returns when all earlier ones are. `checkpoint` and `renew` of the guardian raise TypeError, since they could
-    fold entries that the files haven't got: call `checkpoint` of the log. Raises LogError, and OSError if there
-    is no library. A log to which no reference is left is closed, with a ResourceWarning.
+    returns when all earlier ones are. `checkpoint` and `renew` of the guardian raise TypeError: call `checkpoint`
+    of the log, which also makes one by itself after so many entries as `checkpoint_after` says, or when half of the
+    numbers for actions are used; None: never. A log to which no reference is left is closed, with a ResourceWarning.
+
+    `Log(path)` is `Log.open(path)`. What is wrong with a log is a LogError of its own class, and then the database is
+    as it was. `journal="persist"` keeps SQLite's journal without a WAL: all is in one file, and a commit takes some
+    three times as long. `name` and `at_least` say which log it has to be (`log.name`), and how many entries it has to
+    have.
     """
 
-    def __init__(self, folder: str | os.PathLike[str], patience: float = 1.0) -> None:
-        self._files = LogFiles()
+    def __init__(
+        self,
+        path: str | os.PathLike[str],
+        patience: float = 1.0,
+        *,
+        journal: str = "wal",
+        checkpoint_after: int | None = 100_000,
+        name: str | None = None,
+        at_least: int = 0,
+    ) -> None:
+        wanted = Wanted(name, at_least, _JOURNALS[journal])
+        self.checkpoint_after = checkpoint_after
+        # Before this entry no checkpoint is tried again.
+        self._again_at = 0
         self.guardian = LoggedGuardian(patience)
-        # The library may call it as long as this object lives, to which it has no reference.
-        self._giving = Giving(self.guardian)
-        self._give = GIVE(self._giving.give)
         try:
-            self.found = self._open(os.fsencode(folder))
+            self._writer = LogWriter(self.guardian, _resolved(path), wanted, _version())
+        except BaseException:
+            self.guardian.close()
+            raise
+        try:
+            self._begin()
         except BaseException:
             self.close()
             raise
 
-    def _open(self, folder: bytes) -> str:
-        taking = Taking(self.guardian)
-        try:
-            status, said = self._files.open(folder, TAKE(taking.take))
-        except BaseException as error:
-            # An interrupted call goes on until it wants to hand over more lines.
-            taking.raised = error
-            raise
-        if taking.raised is not None:
-            raise taking.raised
-        if status != LogStatus.DONE:
-            raise _ERRORS.get(status, LogError)(said)
-        self._make_guardian()
-        self.guardian.abort_live()
-        # Nobody has these; a begin that fails aborts what comes after them.
-        self.guardian._begun = self.guardian.actions
-        self.barrier()
-        return said
+    @classmethod
+    def open(cls: type[_Log], path: str | os.PathLike[str], patience: float = 1.0, **options: Any) -> _Log:
+        """Opens the log that is there; NoLog if there is none."""
+        return cls(path, patience, **options)
 
-    def _make_guardian(self) -> None:
-        """Makes the guardian of the lines that were taken."""
-        status, dropped = self.guardian._archive.resumed()
-        if status != Status.DONE:
-            raise error_of(status)
-        if dropped:
-            raise LogDamaged("the guardian can't be made of the log's lines")
-        # An exception that comes before `take` can catch it leaves the library with any result.
-        if self.guardian.entries != self._files.next_entry:
-            raise LogError("not all lines were taken: open the log again")
+    @classmethod
+    def create(cls: type[_Log], path: str | os.PathLike[str], patience: float = 1.0, **options: Any) -> _Log:
+        """Makes a log, and opens it. FileExistsError if a file is there."""
+        make_log(_resolved(path), _version())
+        return cls(path, patience, **options)
+
+    @classmethod
+    def open_or_create(cls: type[_Log], path: str | os.PathLike[str], patience: float = 1.0, **options: Any) -> _Log:
+        """Opens the log that is there; if there is none, makes one.
+
+        Where there has to be one, `open` is safer: a disk that isn't mounted looks like a log that isn't there.
+        """
+        try:
+            return cls.open(path, patience, **options)
+        except NoLog:
+            pass
+        try:
+            make_log(_resolved(path), _version())
+        except FileExistsError:
+            # Another process was quicker.
+            pass
+        return cls.open(path, patience, **options)
+
+    def _begin(self) -> None:
+        """Aborts what was live."""
+        guardian, found = self.guardian, self._writer.found
+        entries, next_entry = found.head.next_entry - found.first_entry, found.head.next_entry
+        self.found = f"{entries} entries in {found.batches} batches, the next one is {next_entry}"
+        guardian.abort_live()
+        # Nobody has these; a begin that fails aborts what comes after them.
+        guardian._begun = guardian.actions
+        self.barrier()
+
+    @property
+    def name(self) -> str:
+        """The log's name, which was drawn when it was made: its copies have the same."""
+        return self._writer.name
 
     def close(self) -> None:
         """Closes the log and the guardian, when the log's calls of other threads have ended.
@@ -134,11 +169,11 @@ class Log:
         """
         self._refuse_reentered()
         try:
-            self._files.close()
+            self._writer.close()
         finally:
             self.guardian.close()
 
-    def __enter__(self) -> Log:
+    def __enter__(self: _Log) -> _Log:
         return self
 
     def __exit__(self, *_: object) -> None:
@@ -147,31 +182,43 @@ class Log:
     def _refuse_reentered(self) -> None:
         """Raises Reentered if this thread is inside a call of the log or of its guardian."""
         self.guardian._refuse_reentered()
-        self._files.refuse_reentered()
+        self._writer.refuse_reentered()
 
     def broken(self) -> str | None:
         """Why the log is broken; None if it isn't."""
         self._refuse_reentered()
-        return self._files.broken()
+        return self._writer.broken()
 
     def _refuse_broken(self) -> None:
         why = self.broken()
         if why is not None:
             raise LogBroken(why)
 
+    def counts(self) -> LogCounts:
+        """What the log has done since it was opened: batches, entries, bytes, checkpoints, seconds, doubts."""
+        self._refuse_reentered()
+        return self._writer.counts()
+
+    def backup(self, path: str | os.PathLike[str]) -> None:
+        """Makes a copy of the log as it is at one moment, whole and compared, while others go on.
+
+        It is a log, too. FileExistsError if a file is there.
+        """
+        self._refuse_reentered()
+        self._writer.backup(_resolved(path))
+
     def barrier(self) -> None:
         """Returns when all entries that the journal has now are on disk. InDoubt if that isn't known."""
         self._refuse_reentered()
-        status, why = self._files.wait(self.guardian.entries, self._give)
-        if status != LogStatus.DONE:
-            raise InDoubt(why) from self._giving.raised
+        self._writer.wait(self.guardian.entries)
 
     def _acknowledge(self) -> None:
         """`barrier` after a commit: if the log is closed meanwhile, the commit is in doubt."""
         try:
             self.barrier()
         except Closed as error:
-            raise InDoubt("the log was closed before the commit was known to be on disk") from error
+            raise self._writer.doubt("the log was closed before the commit was known to be on disk") from error
+        self._checkpoint_if_due()
 
     def topaction(self) -> LoggedTopaction:
         """A topaction for a `with` block, which ends when the commit is on disk.
@@ -190,38 +237,46 @@ class Log:
         return done
 
     def checkpoint(self, patience: float = 1.0) -> None:
-        """Folds the journal when no action is live, and starts the files again; Busy when patience is over.
+        """Folds the journal when no action is live, and puts what the objects hold in place of the log's batches.
 
-        Meanwhile it holds back each topaction, so don't wait here in a thread that has a live action. When half
-        of the numbers for actions are used, it also renews the guardian. OutOfMemory and Full are raised at once,
-        and nothing is folded.
+        Meanwhile it holds back each topaction, so don't wait here in a thread that has a live action; Busy when
+        patience is over. When half of the numbers for actions are used, it also renews the guardian. OutOfMemory and
+        Full are raised at once, and nothing is folded.
         """
         limit, guardian, this = time.monotonic() + patience, self.guardian, object()
         self._refuse_reentered()
         try:
             guardian._folds[this] = threading.get_ident()
-            is_folded = self._fold()
-            while not is_folded and time.monotonic() < limit:
+            status = self._writer.checkpoint()
+            while status == Status.BUSY and time.monotonic() < limit:
                 guardian._wait_alone(limit)
-                is_folded = self._fold()
+                status = self._writer.checkpoint()
         finally:
             # If an interrupt comes in between, a topaction that waits finds out by itself.
             guardian._folds.pop(this, None)
             guardian._wake_alone()
-        if not is_folded:
+        if status == Status.BUSY:
             raise Busy("an action is live")
+        if status != Status.DONE:
+            raise error_of(status)
 
-    def _fold(self) -> bool:
-        """Folds the journal, and starts the files again; False if an action is live."""
-        folding = Folding(self.guardian)
-        status, why = self._files.checkpoint(self._give, FOLD(folding.fold))
-        if status == LogStatus.BROKEN:
-            raise LogBroken(why) from folding.raised or self._giving.raised
-        if folding.raised is not None:
-            raise folding.raised
-        if folding.status not in (Status.DONE, Status.BUSY):
-            raise error_of(folding.status)
-        return folding.status == Status.DONE
+    def _checkpoint_if_due(self) -> None:
+        """After a commit that is on disk: so what comes of the checkpoint isn't raised. A later one tries again."""
+        if self.checkpoint_after is None:
+            return
+        guardian = self.guardian
+        try:
+            entries = guardian.entries
+            if entries < self._again_at or not self._is_due(entries, self.checkpoint_after):
+                return
+            self._again_at = entries + min(self.checkpoint_after, _AGAIN)
+            self.checkpoint(_PATIENCE)
+        except (Busy, Closed, Full, LogBroken, OutOfMemory):
+            pass
+
+    def _is_due(self, entries: int, after: int) -> bool:
+        guardian = self.guardian
+        return entries - guardian.first_entry >= after or guardian.actions >= guardian.MAX_ACTIONS // 2
 
 
 class LoggedTopaction:
@@ -252,3 +307,41 @@ class LoggedTopaction:
         self._dropped = None
         if kind is None:
             self._log._acknowledge()
+
+
+def _resolved(path: str | os.PathLike[str]) -> Path:
+    """The file itself: SQLite puts the WAL beside that, where the path is a link to it."""
+    return Path(path).resolve()
+
+
+def _version() -> str:
+    from . import __version__
+
+    return __version__
+
+
+__all__ = [
+    "InDoubt",
+    "Log",
+    "LogBroken",
+    "LogCounts",
+    "LogCut",
+    "LogDamaged",
+    "LogError",
+    "LogLocked",
+    "LogOld",
+    "LoggedGuardian",
+    "LoggedTopaction",
+    "NoLog",
+    "NotALog",
+    "OtherFormat",
+    "OtherLog",
+    "OtherReply",
+    "PagesDamaged",
+    "RowChanged",
+    "RowDoubled",
+    "RowMissing",
+    "RowSwapped",
+    "WalDamaged",
+    "WalMissing",
+]

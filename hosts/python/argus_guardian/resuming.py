@@ -12,7 +12,7 @@ from .telling import error_of
 
 # A piece ends with the line that reaches so many bytes.
 _PIECE = 65536
-_WHYS = {
+_WHYS: dict[int, str] = {
     Status.NOT_UTF8: "not UTF-8 from byte {} on",
     Status.NOT_AN_OPENING: "not a line of the opening",
     Status.NO_LINE: "no entry from byte {} on",

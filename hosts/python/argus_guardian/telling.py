@@ -2,6 +2,7 @@
 
 from __future__ import annotations
 
+from collections.abc import Iterable
 from typing import TYPE_CHECKING, Any
 
 from . import errors
@@ -14,8 +15,8 @@ if TYPE_CHECKING:
 # A kind, and after it, in this order, as many as are needed of an action, an object, two numbers and a text.
 Call: TypeAlias = "tuple[Any, ...]"
 
-_NAMES: dict[int, str] = {number: name.lower() for name, number in vars(Kind).items() if name.isupper()}
-_DEEDS = {
+_NAMES: dict[int, str] = {kind: kind.name.lower() for kind in Kind}
+_DEEDS: dict[int, str] = {
     Kind.DECLARE: "a declaration",
     Kind.BEGIN_TOP: "a topaction wants to begin",
     Kind.BEGIN_SUB: "a{} wants to begin a subaction",
@@ -47,6 +48,11 @@ def deed(kind: int, action: int = 0, obj: int = 0, *_: object) -> str:
     if kind > Kind.TEST_WRITE:
         kind = Kind.TEST_READ if kind < Kind.CREATE else Kind.TEST_WRITE
     return _DEEDS[kind].format(action, obj)
+
+
+def circle(action: int, waits_for: Iterable[int]) -> str:
+    """Who waits for whom in a circle, as in `a3 waits for a1, which waits for a3`."""
+    return f"a{action} waits for " + ", which waits for ".join(f"a{it}" for it in (*waits_for, action))
 
 
 def _operation(kind: int, action: int, obj: int, first: int = 0, second: int = 0, *_: object) -> str:

@@ -4,7 +4,7 @@
 
 KIND says which calls are interrupted: a function of `OUTER`, or `mixed` for all. INTERRUPTER says by what: `signal`, a
 handler each half millisecond; `del`, a `__del__`; `weakref`, a weak reference's callback. The last two are run by the
-garbage collector, whose threshold is 3. The kind `logged` needs a folder, LOG. A line says how many rounds were made, how many
+garbage collector, whose threshold is 3. The kind `logged` needs a path, LOG. A line says how many rounds were made, how many
 calls inside, how many of those were refused with Reentered, and what was wrong.
 """
 
@@ -344,12 +344,12 @@ def interrupt_by(interrupter: str, inside: Inside) -> None:
         watch(inside)
 
 
-def main(kind: str, interrupter: str, seconds: str, folder: str = "", *_: str) -> int:
+def main(kind: str, interrupter: str, seconds: str, path: str = "", *_: str) -> int:
     log: Any = None
-    if folder:
+    if path:
         from argus_guardian.log import Log
 
-        log = Log(folder, patience=60)
+        log = Log.open_or_create(path, patience=60)
     guardian = log.guardian if log else Guardian(patience=60)
     outer, inside, is_over = Outer(guardian, log), Inside(guardian, log), threading.Event()
     others = [Owned(guardian, "c", 2000), Owned(guardian, "d", 3000)]

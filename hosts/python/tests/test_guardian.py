@@ -322,9 +322,10 @@ class Waits(unittest.TestCase):
             second.field(seat, 0)
             thread = threading.Thread(target=lambda: first.set_field(seat, 0, 6))
             thread.start()
-            wait_for(lambda: guardian._writing)
+            wait_for(lambda: guardian._waiting)
             begin, sub = time.monotonic(), second.subaction()
-            with self.assertRaisesRegex(argus.Conflict, "a3 wants to write o0, held by a1, and one of them"):
+            text = "a3 wants to write o0, held by a1: a3 waits for a1, which waits for a3"
+            with self.assertRaisesRegex(argus.Conflict, text):
                 sub.set_field(seat, 0, 7)
             self.assertLess(time.monotonic() - begin, 30)
             second.abort()
@@ -340,13 +341,13 @@ class Waits(unittest.TestCase):
             first.field(seat, 0)
             with ThreadPoolExecutor(2) as pool:
                 one = pool.submit(lambda: (first.set_field(seat, 0, 6), first.commit()))
-                wait_for(lambda: guardian._writing)
+                wait_for(lambda: guardian._waiting)
                 two = pool.submit(lambda: (second.set_field(seat, 0, 7), second.commit()))
-                wait_for(lambda: len(guardian._writing.get(seat, ())) == 2)
+                wait_for(lambda: len(guardian._waiting) == 2)
                 reader.commit()
                 one.result(), two.result()
             self.assertEqual(guardian.base(seat), (7,))
-            self.assertEqual(guardian._writing, {})
+            self.assertEqual(guardian._waits.within, {})
 
     def test_siblings_dont_wait_for_what_their_parent_reads(self):
         with argus.Guardian(patience=60) as guardian:
@@ -357,7 +358,7 @@ class Waits(unittest.TestCase):
             arms = top.subaction(), top.subaction()
             with ThreadPoolExecutor(2) as pool:
                 work = [pool.submit(lambda arm=arm: (arm.set_field(seat, 0, 6), arm.commit())) for arm in arms]
-                wait_for(lambda: len(guardian._writing.get(seat, ())) == 2)
+                wait_for(lambda: len(guardian._waiting) == 2)
                 reader.commit()
                 for it in work:
                     it.result()

@@ -1,15 +1,12 @@
-"""A guardian that outlives its process, by libargus_log.so, which ARGUS_LOG_LIBRARY names."""
+"""A guardian that outlives its process: what a log does, with its calls interrupted, closed, forgotten and forked."""
 
 from __future__ import annotations
 
 import gc
 import os
-import random
-import resource
 import signal
 import subprocess
 import sys
-import tempfile
 import threading
 import time
 import unittest
@@ -20,133 +17,68 @@ from pathlib import Path
 from typing import Any
 from unittest import mock
 
-sys.path.insert(0, str(Path(__file__).resolve().parents[1]))
+sys.path.insert(0, str(Path(__file__).resolve().parent))
+
+from log_bank import LogCase, carry_out, number_in, open_bank  # noqa: E402
+from test_processes import in_child  # noqa: E402
 
 from argus_guardian import Action, Busy, Closed, Full, NoAction, OutOfMemory, Reentered  # noqa: E402
 from argus_guardian.archive import Archive  # noqa: E402
 from argus_guardian.library import Question, Status  # noqa: E402
-from argus_guardian.log import InDoubt, Log, LogBroken, LogDamaged, LogError, LogLocked  # noqa: E402
-from test_processes import in_child  # noqa: E402
+from argus_guardian.log import InDoubt, Log, LogBroken, LogError, LogLocked, NoLog  # noqa: E402
 
-CLIENTS = 3
-LEFT_OPEN: list[Log] = []
+HOST = Path(__file__).resolve().parents[1]
 
 
-def open_bank(folder: str) -> Log:
-    """Accounts 0 to 2, which have 100 at first, and for each client the number of its last order."""
-    log = Log(folder)
-    for _ in range(log.guardian.objects, 3 + CLIENTS):
-        log.guardian.declare("atomic_record[n:int]")
-    if log.guardian.base(0) is None:
-        with log.topaction() as top:
-            for number in range(3 + CLIENTS):
-                top.create(number, (100 if number < 3 else 0,))
-    return log
-
-
-def number_in(log: Log, obj: int) -> int:
-    return int(log.guardian.base(obj)[0])
-
-
-def carry_out(log: Log, client: int, number: int) -> None:
-    """An order pays 1 from one account to the next; `number` says which."""
-
-    def work(top: Action) -> None:
-        top.lock(3 + client)
-        for obj in sorted((number % 3, (number + 1) % 3)):
-            top.lock(obj)
-        with top.subaction() as sub:
-            sub.set_field(number % 3, 0, sub.field(number % 3, 0) - 1)
-            sub.set_field((number + 1) % 3, 0, sub.field((number + 1) % 3, 0) + 1)
-        top.set_field(3 + client, 0, number)
-
-    log.run(work)
-
-
-def serve(folder: str) -> None:
-    """The process that is killed: it says which orders are acknowledged."""
-    log, said = open_bank(folder), threading.Lock()
-
-    def serve_client(client: int) -> None:
-        number = number_in(log, 3 + client)
-        while True:
-            number += 1
-            carry_out(log, client, number)
-            with said:
-                print(client, number, flush=True)
-
-    for client in range(CLIENTS):
-        threading.Thread(target=serve_client, args=(client,), daemon=True).start()
-    while True:
-        time.sleep(0.05)
-        log.checkpoint(patience=5)
-
-
-def break_log(folder: str) -> None:
-    """A process whose files may have 64 KiB from now on, as if the disk were full."""
-    log = open_bank(folder)
-    signal.signal(signal.SIGXFSZ, signal.SIG_IGN)
-    resource.setrlimit(resource.RLIMIT_FSIZE, (65536, 65536))
-    acknowledged = 0
-    try:
-        while True:
-            carry_out(log, 0, acknowledged + 1)
-            acknowledged += 1
-    except InDoubt as error:
-        print(error)
-    assert log.broken() is not None
-    try:
-        carry_out(log, 0, acknowledged + 2)
-    except LogBroken:
-        print(acknowledged, flush=True)
-
-
-def leave_open(folder: str) -> None:
-    """A process that ends without closing its log, to which a module has a reference."""
-    LEFT_OPEN.append(open_bank(folder))
-    carry_out(LEFT_OPEN[0], 0, 1)
-    print("open", flush=True)
-
-
-@unittest.skipUnless(os.environ.get("ARGUS_LOG_LIBRARY"), "ARGUS_LOG_LIBRARY names no library")
-class LogTest(unittest.TestCase):
-    def setUp(self) -> None:
-        room = tempfile.TemporaryDirectory()
-        self.addCleanup(room.cleanup)
-        self.folder = str(Path(room.name) / "log")
-
-    def run_child(self, what: str, errors: int | None = None) -> subprocess.Popen[str]:
-        words = [sys.executable, __file__, what, self.folder]
-        return subprocess.Popen(words, stdout=subprocess.PIPE, stderr=errors, text=True)
-
+class LogTest(LogCase):
     def test_opened_again(self) -> None:
-        with open_bank(self.folder) as log:
+        with open_bank(self.path) as log:
             carry_out(log, 1, 1)
             top = log.guardian.topaction()
             top.set_field(0, 0, 7)
             log.barrier()
-        with open_bank(self.folder) as log:
+        with open_bank(self.path) as log:
             # What was live is aborted.
             self.assertEqual([number_in(log, obj) for obj in range(6)], [100, 99, 101, 0, 1, 0])
             self.assertTrue(log.found.endswith(f"the next one is {log.guardian.entries - 1}"), log.found)
 
     def test_a_begin_that_is_refused_makes_one_entry(self) -> None:
-        with open_bank(self.folder) as log:
+        with open_bank(self.path) as log:
             carry_out(log, 0, 1)
-        with open_bank(self.folder) as log:
+        with open_bank(self.path) as log:
             entries = log.guardian.entries
             with self.assertRaises(NoAction):
                 Action(log.guardian, 99).subaction()
             self.assertEqual(log.guardian.entries, entries + 1)
 
-    def test_new(self) -> None:
-        with Log(self.folder) as log:
+    def test_made_and_opened(self) -> None:
+        with self.assertRaises(NoLog):
+            Log.open(self.path)
+        with Log.create(self.path) as log:
             self.assertEqual(log.found, "0 entries in 0 batches, the next one is 0")
             with self.assertRaises(LogLocked):
-                Log(self.folder)
+                Log(self.path)
+        with self.assertRaises(FileExistsError):
+            Log.create(self.path)
+        for make in Log.open_or_create, Log.open, Log:
+            with make(self.path) as again:
+                self.assertEqual(again.name, log.name)
+        with self.assertRaisesRegex(LogError, "nowhere/bank.db can't be made"):
+            Log.create(self.room / "nowhere" / "bank.db")
+        with Log.open_or_create(f"{self.path}?mode=memory#%20") as other:
+            self.assertNotEqual(other.name, log.name)
+        wanted = ["bank.db", "bank.db-owner", "bank.db?mode=memory#%20", "bank.db?mode=memory#%20-owner"]
+        self.assertEqual(sorted(it.name for it in self.room.iterdir()), wanted)
+
+    def test_a_link_to_a_log_is_the_log(self) -> None:
+        link = self.room / "link"
+        link.symlink_to(self.path)
+        with open_bank(str(link)):
+            with self.assertRaises(LogLocked):
+                Log.open(self.path)
 
     def test_closed(self) -> None:
-        log = open_bank(self.folder)
+        log = open_bank(self.path)
         log.close()
         log.close()
         calls = [log.broken, log.barrier, log.checkpoint, log.topaction().__enter__, lambda: log.run(lambda _: None)]
@@ -157,33 +89,38 @@ class LogTest(unittest.TestCase):
     def test_a_forgotten_close_is_told(self) -> None:
         with warnings.catch_warnings(record=True) as told:
             warnings.simplefilter("always")
-            Log(self.folder)
+            Log.create(self.path)
             gc.collect()
-        self.assertEqual([it.category for it in told], [ResourceWarning, ResourceWarning])
+            # A warning has the log as its source.
+            said = [it.category for it in told]
+            told.clear()
+            gc.collect()
+            said += [it.category for it in told]
+        self.assertEqual(said, [ResourceWarning, ResourceWarning])
         # It isn't locked any more.
-        with open_bank(self.folder) as log:
+        with open_bank(self.path) as log:
             carry_out(log, 0, 1)
 
     def test_a_forgotten_close_at_the_end_of_the_process(self) -> None:
-        child = self.run_child("leave", errors=subprocess.STDOUT)
+        child = self.run_child("leave", stderr=subprocess.STDOUT)
         said, _ = child.communicate(timeout=60)
         self.assertEqual((said, child.returncode), ("open\n", 0))
-        with open_bank(self.folder) as log:
+        with open_bank(self.path) as log:
             self.assertEqual(number_in(log, 3), 1)
 
     @contextmanager
     def order_under_way(self, log: Log) -> Iterator[None]:
         """An order of another thread is in the library until the block ends, and is acknowledged then."""
-        lines, begun, go_on = log.guardian.lines, threading.Event(), threading.Event()
+        lines, begun, go_on = log.guardian._text_of, threading.Event(), threading.Event()
         done: list[None] = []
 
-        def lines_later(entry: int, size: int) -> list[str]:
+        def lines_later(entry: int, size: int) -> tuple[bytes, int]:
             begun.set()
             go_on.wait()
             return lines(entry, size)
 
         thread = threading.Thread(target=lambda: done.append(carry_out(log, 0, 1)))
-        with mock.patch.object(log.guardian, "lines", lines_later):
+        with mock.patch.object(log.guardian, "_text_of", lines_later):
             thread.start()
             begun.wait()
             try:
@@ -194,33 +131,33 @@ class LogTest(unittest.TestCase):
         self.assertEqual(done, [None])
 
     def test_a_close_waits_for_other_threads(self) -> None:
-        log = open_bank(self.folder)
+        log = open_bank(self.path)
         closing = threading.Thread(target=log.close)
         with self.order_under_way(log):
             closing.start()
             closing.join(0.1)
             self.assertTrue(closing.is_alive())
         closing.join()
-        with open_bank(self.folder) as log:
+        with open_bank(self.path) as log:
             self.assertEqual(number_in(log, 3), 1)
 
     def test_a_close_within_a_call(self) -> None:
-        with open_bank(self.folder) as log:
-            lines = log.guardian.lines
+        with open_bank(self.path) as log:
+            lines = log.guardian._text_of
 
-            def lines_once_refused(entry: int, size: int) -> list[str]:
+            def lines_once_refused(entry: int, size: int) -> tuple[bytes, int]:
                 for call in log.close, log.barrier, log.checkpoint, log.broken:
                     with self.assertRaises(Reentered):
                         call()
                 return lines(entry, size)
 
-            with mock.patch.object(log.guardian, "lines", lines_once_refused):
+            with mock.patch.object(log.guardian, "_text_of", lines_once_refused):
                 carry_out(log, 0, 1)
-        with open_bank(self.folder) as log:
+        with open_bank(self.path) as log:
             self.assertEqual(number_in(log, 3), 1)
 
     def test_a_close_after_the_commit(self) -> None:
-        log = open_bank(self.folder)
+        log = open_bank(self.path)
         with self.assertRaises(InDoubt) as caught, log.topaction() as top:
             top.commit()
             log.close()
@@ -233,30 +170,30 @@ class LogTest(unittest.TestCase):
                     call()
             log.close()
 
-        with open_bank(self.folder) as log:
+        with open_bank(self.path) as log:
             with self.order_under_way(log):
                 self.assertEqual(in_child(work), 0)
             self.assertEqual(in_child(work), 0)
             with self.assertRaises(LogLocked):
-                Log(self.folder)
+                Log(self.path)
             carry_out(log, 0, 2)
-        with open_bank(self.folder) as log:
+        with open_bank(self.path) as log:
             self.assertEqual(number_in(log, 3), 2)
 
     def test_checkpoint(self) -> None:
-        with open_bank(self.folder) as log:
+        with open_bank(self.path) as log:
             carry_out(log, 0, 1)
             entries = log.guardian.entries
             log.checkpoint()
             with log.guardian.topaction(), self.assertRaises(Busy):
                 log.checkpoint(patience=0)
             log.barrier()
-        with open_bank(self.folder) as log:
+        with open_bank(self.path) as log:
             self.assertEqual([number_in(log, obj) for obj in range(3)], [100, 99, 101])
-            self.assertEqual(log.found, f"2 entries in 3 batches, the next one is {entries + 2}")
+            self.assertEqual(log.found, f"2 entries in 1 batches, the next one is {entries + 2}")
 
     def test_a_checkpoint_aborts_what_nobody_has(self) -> None:
-        with open_bank(self.folder) as log:
+        with open_bank(self.path) as log:
             top = log.guardian.topaction()
             log.barrier()
             del top
@@ -264,12 +201,12 @@ class LogTest(unittest.TestCase):
             log.checkpoint()
             entries = log.guardian.entries
             carry_out(log, 0, 1)
-        with open_bank(self.folder) as log:
+        with open_bank(self.path) as log:
             self.assertEqual([number_in(log, obj) for obj in range(6)], [100, 99, 101, 1, 0, 0])
             self.assertEqual(log.guardian.first_entry, entries)
 
     def test_a_checkpoint_that_fails_at_once(self) -> None:
-        with open_bank(self.folder) as log:
+        with open_bank(self.path) as log:
             carry_out(log, 0, 1)
             for status, error in (Status.NO_MEMORY, OutOfMemory), (Status.FULL, Full):
                 with mock.patch.object(Archive, "fold", return_value=status), self.assertRaises(error):
@@ -280,12 +217,12 @@ class LogTest(unittest.TestCase):
             self.assertIsNone(log.broken())
             log.checkpoint()
             entries = log.guardian.entries
-        with open_bank(self.folder) as log:
+        with open_bank(self.path) as log:
             self.assertEqual((log.guardian.first_entry, number_in(log, 3)), (entries, 1))
 
     def test_topactions_go_on_where_the_end_of_a_checkpoint_is_interrupted(self) -> None:
         interrupt = self.interrupts()
-        with open_bank(self.folder) as log:
+        with open_bank(self.path) as log:
             has_mutex = threading.Event()
 
             def hold() -> None:
@@ -298,11 +235,12 @@ class LogTest(unittest.TestCase):
 
             thread = threading.Thread(target=hold)
 
-            def fold() -> bool:
+            def fold() -> int:
                 thread.start()
-                return has_mutex.wait()
+                has_mutex.wait()
+                return Status.DONE
 
-            with mock.patch.object(log, "_fold", fold), self.assertRaises(KeyboardInterrupt):
+            with mock.patch.object(log._writer, "checkpoint", fold), self.assertRaises(KeyboardInterrupt):
                 log.checkpoint()
             thread.join()
             self.assertEqual(log.guardian._folds, {})
@@ -316,29 +254,29 @@ class LogTest(unittest.TestCase):
                 raise MemoryError
             return told(archive, question, *given, **named)
 
-        with open_bank(self.folder) as log:
+        with open_bank(self.path) as log:
             carry_out(log, 0, 1)
             with mock.patch.object(Archive, "told", without_listing), self.assertRaises(LogBroken) as caught:
                 log.checkpoint()
             self.assertIsInstance(caught.exception.__cause__, MemoryError)
             with self.assertRaises(LogBroken):
                 carry_out(log, 0, 2)
-        with open_bank(self.folder) as log:
+        with open_bank(self.path) as log:
             self.assertEqual(number_in(log, 3), 1)
 
     def test_lines_that_cant_be_given(self) -> None:
-        with open_bank(self.folder) as log:
-            with mock.patch.object(log.guardian, "lines", side_effect=MemoryError):
+        with open_bank(self.path) as log:
+            with mock.patch.object(log.guardian, "_text_of", side_effect=MemoryError):
                 with self.assertRaises(InDoubt) as caught:
                     carry_out(log, 0, 1)
             self.assertIsInstance(caught.exception.__cause__, MemoryError)
             with self.assertRaises(LogBroken):
                 carry_out(log, 0, 2)
-        with open_bank(self.folder) as log:
+        with open_bank(self.path) as log:
             self.assertEqual(number_in(log, 3), 0)
 
     def test_the_guardian_is_folded_by_the_log_alone(self) -> None:
-        with open_bank(self.folder) as log:
+        with open_bank(self.path) as log:
             for fold in log.guardian.checkpoint, log.guardian.renew:
                 with self.assertRaisesRegex(TypeError, "call the log's checkpoint"):
                     fold()
@@ -346,11 +284,11 @@ class LogTest(unittest.TestCase):
             log.guardian.MAX_ACTIONS = 2
             log.checkpoint()
             self.assertEqual(log.guardian.actions, 0)
-        with open_bank(self.folder) as log:
+        with open_bank(self.path) as log:
             self.assertEqual(number_in(log, 3), 1)
 
     def test_nothing_is_left_of_what_nobody_has(self) -> None:
-        with open_bank(self.folder) as log:
+        with open_bank(self.path) as log:
             block = log.topaction()
             top = block.__enter__()
             top.lock(0)
@@ -362,41 +300,20 @@ class LogTest(unittest.TestCase):
             self.assertIsNone(log.guardian.live())
 
     def test_nothing_is_left_of_what_raises(self) -> None:
-        with open_bank(self.folder) as log, self.assertRaises(KeyError):
+        with open_bank(self.path) as log, self.assertRaises(KeyError):
             with log.topaction() as top:
                 top.set_field(0, 0, 7)
                 raise KeyError
-        with open_bank(self.folder) as log:
+        with open_bank(self.path) as log:
             self.assertEqual(number_in(log, 0), 100)
-
-    def test_damaged(self) -> None:
-        with open_bank(self.folder) as log:
-            carry_out(log, 0, 1)
-            carry_out(log, 0, 2)
-        (segment,) = Path(self.folder).glob("segment-*.log")
-        text = segment.read_bytes()
-        at = text.index(b"{100}")
-        segment.write_bytes(text[:at] + b"{900}" + text[at + 5 :])
-        with self.assertRaises(LogDamaged) as caught:
-            Log(self.folder)
-        self.assertIn("checksum", str(caught.exception))
-
-    def test_another_reply(self) -> None:
-        with Log(self.folder) as log, log.guardian.topaction():
-            # In place of the line that the journal has.
-            log.guardian.lines = lambda *_: ["0 begin_top -> a1"]  # type: ignore[method-assign]
-            log.barrier()
-        with self.assertRaises(LogDamaged) as caught:
-            Log(self.folder)
-        self.assertIn("`0 begin_top -> a1`", str(caught.exception))
 
     def open_while(self, name: str, outcome: Any) -> None:
         """Opens the log while a call of the archive does this, and closes it."""
         with mock.patch.object(Archive, name, side_effect=outcome):
-            Log(self.folder).close()
+            Log(self.path).close()
 
     def test_an_opening_that_ends_early(self) -> None:
-        with open_bank(self.folder) as log:
+        with open_bank(self.path) as log:
             carry_out(log, 0, 1)
         no_memory = Status.NO_MEMORY
         faults: list[tuple[str, Any, type[BaseException]]] = [
@@ -408,15 +325,15 @@ class LogTest(unittest.TestCase):
         for name, outcome, error in faults:
             with self.subTest(name, error=error), self.assertRaises(error):
                 self.open_while(name, outcome)
-        with open_bank(self.folder) as log:
+        with open_bank(self.path) as log:
             self.assertEqual(number_in(log, 3), 1)
 
     def test_lines_that_werent_taken(self) -> None:
-        with open_bank(self.folder):
+        with open_bank(self.path):
             pass
         with self.assertRaisesRegex(LogError, "not all lines were taken"):
             self.open_while("take", lambda _: (Status.DONE, 0, 0))
-        with open_bank(self.folder) as log:
+        with open_bank(self.path) as log:
             self.assertEqual(number_in(log, 0), 100)
 
     def interrupts(self) -> Callable[[], None]:
@@ -435,24 +352,24 @@ class LogTest(unittest.TestCase):
 
     def test_an_interrupt_during_a_wait(self) -> None:
         interrupt = self.interrupts()
-        with open_bank(self.folder) as log:
-            lines = log.guardian.lines
+        with open_bank(self.path) as log:
+            lines = log.guardian._text_of
 
-            def lines_interrupted(entry: int, size: int) -> list[str]:
+            def lines_interrupted(entry: int, size: int) -> tuple[bytes, int]:
                 interrupt()
                 return lines(entry, size)
 
-            with mock.patch.object(log.guardian, "lines", lines_interrupted), self.assertRaises(KeyboardInterrupt):
+            with mock.patch.object(log.guardian, "_text_of", lines_interrupted), self.assertRaises(KeyboardInterrupt):
                 carry_out(log, 0, 1)
             # It ended the wait alone.
             log.barrier()
             carry_out(log, 0, 2)
-        with open_bank(self.folder) as log:
+        with open_bank(self.path) as log:
             self.assertEqual([number_in(log, obj) for obj in range(6)], [101, 99, 100, 2, 0, 0])
 
     def test_an_interrupt_during_an_opening(self) -> None:
         interrupt = self.interrupts()
-        with open_bank(self.folder) as log:
+        with open_bank(self.path) as log:
             carry_out(log, 0, 1)
         take = Archive.take
 
@@ -461,51 +378,23 @@ class LogTest(unittest.TestCase):
             return take(archive, text)
 
         with mock.patch.object(Archive, "take", take_interrupted), self.assertRaises(KeyboardInterrupt):
-            Log(self.folder)
-        with open_bank(self.folder) as log:
+            Log(self.path)
+        with open_bank(self.path) as log:
             self.assertEqual(number_in(log, 3), 1)
 
-    def test_killed(self) -> None:
-        last = [0] * CLIENTS
-        for _ in range(6):
-            child = self.run_child("serve")
-            assert child.stdout is not None
-            lines = [child.stdout.readline()]
-            time.sleep(random.uniform(0, 0.3))
-            child.kill()
-            lines += child.stdout.readlines()
-            child.wait()
-            child.stdout.close()
-            for client, number in (map(int, line.split()) for line in lines if line.endswith("\n") and line.strip()):
-                last[client] = number
-            with open_bank(self.folder) as log:
-                last = self.check(log, last)
-        self.assertTrue(any(last))
-
-    def check(self, log: Log, last: list[int]) -> list[int]:
-        """No acknowledged order is lost, and none is there in part. What stands."""
-        standing = [number_in(log, 3 + client) for client in range(CLIENTS)]
-        wanted = [100] * 3
-        for client, number in enumerate(standing):
-            self.assertIn(number, (last[client], last[client] + 1))
-            for order in range(1, number + 1):
-                wanted[order % 3] -= 1
-                wanted[(order + 1) % 3] += 1
-        self.assertEqual([number_in(log, obj) for obj in range(3)], wanted)
-        return standing
-
-    def test_broken(self) -> None:
-        child = self.run_child("break")
-        said, _ = child.communicate(timeout=60)
-        why, acknowledged = said.splitlines()
-        self.assertIn("the log couldn't", why)
-        with open_bank(self.folder) as log:
-            self.assertIn(number_in(log, 3) - int(acknowledged), (0, 1))
+    @unittest.skipUnless((HOST / "durable_shop.py").is_file(), "the tests alone are here")
+    def test_the_shop_of_the_readme(self) -> None:
+        shop = HOST / "durable_shop.py"
+        # Without the line that says what it is, and the blank one after that.
+        shown = shop.read_text().split("\n", 2)[2]
+        self.assertIn(f"```python\n{shown}```\n", (HOST / "README.md").read_text())
+        self.assertLessEqual(shown.count("\n"), 25)
+        for order, said in ("ann 3 4", "sold\n"), ("bob 5 4", "taken\n"), ("bob 5", "sold\n"):
+            words = [sys.executable, str(shop), self.path, *order.split(" ")]
+            self.assertEqual(subprocess.run(words, capture_output=True, text=True, check=True).stdout, said)
+        with Log.open(self.path) as log:
+            self.assertEqual([log.guardian.get(seat).holder for seat in range(3, 7)], ["ann", "ann", "bob", ""])
 
 
 if __name__ == "__main__":
-    works = {"serve": serve, "break": break_log, "leave": leave_open}
-    if sys.argv[1:] and sys.argv[1] in works:
-        works[sys.argv[1]](sys.argv[2])
-    else:
-        unittest.main()
+    unittest.main()

@@ -241,8 +241,7 @@ def interrupts():
     """What interrupts which calls; of a package with `_call.c` too, if it can be built here."""
     yield from ((kind, "signal", "") for kind in KINDS)
     yield from (("mixed", interrupter, "") for interrupter in ("signal", "del", "weakref"))
-    if os.environ.get("ARGUS_LOG_LIBRARY"):
-        yield from (("logged", interrupter, "") for interrupter in ("signal", "del"))
+    yield from (("logged", interrupter, "") for interrupter in ("signal", "del"))
 
 
 class CallsInside(unittest.TestCase):

@@ -22,7 +22,7 @@ fn last_of(client: u32) -> ObjId {
 }
 
 /// What became of an order.
-enum Carried {
+enum PaymentOutcome {
     Out,
     Before,
 }
@@ -63,20 +63,20 @@ fn once(
     last: ObjId,
     number: i64,
     work: impl Fn(&LoggedAction<'_>) -> Result<(), LoggedError>,
-) -> Result<Carried, LoggedError> {
+) -> Result<PaymentOutcome, LoggedError> {
     bank.run(|top| {
         top.lock(last)?;
         if int(top, last)? >= number {
             // By the commit of this topaction that is on disk, too.
-            return Ok(Carried::Before);
+            return Ok(PaymentOutcome::Before);
         }
         work(top)?;
         top.set(last, 0, number)?;
-        Ok(Carried::Out)
+        Ok(PaymentOutcome::Out)
     })
 }
 
-fn pay(bank: &Logged, payment: &Payment) -> Result<Carried, LoggedError> {
+fn pay(bank: &Logged, payment: &Payment) -> Result<PaymentOutcome, LoggedError> {
     once(bank, last_of(payment.client), payment.number, |top| {
         top.lock(BALANCE)?;
         top.set(BALANCE, 0, int(top, BALANCE)? + payment.amount)
@@ -108,8 +108,8 @@ fn main() -> Result<(), Box<dyn Error>> {
     for line in io::stdin().lock().lines() {
         let payment: Payment = line?.parse()?;
         let words = match pay(&bank, &payment)? {
-            Carried::Out => "carried out",
-            Carried::Before => "carried out before",
+            PaymentOutcome::Out => "carried out",
+            PaymentOutcome::Before => "carried out before",
         };
         println!("{} {} {words}", payment.client, payment.number);
     }

@@ -1,12 +1,10 @@
 //! Several calls of a guardian at once.
 
 use crate::answer::Answer;
-use crate::calls_made::CallsMade;
+use crate::call_list::{CallsMade, ListEnd, ListedCall};
 use crate::decoding::{error_of, read_as, reply_of};
 use crate::error::Error;
 use crate::guardian::Guardian;
-use crate::list_end::ListEnd;
-use crate::listed_call::ListedCall;
 use crate::owner::Owner;
 use crate::reader::Reader;
 use crate::reply::Reply;

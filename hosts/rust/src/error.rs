@@ -1,6 +1,7 @@
 //! `Error`: why a call of this crate failed.
 
 use crate::checkpoint_error::CheckpointError;
+use crate::deadlock::Deadlock;
 use crate::line_fault::LineFault;
 use crate::refusal::Refusal;
 use crate::signal::Signal;
@@ -48,6 +49,9 @@ pub enum Error {
     /// The guardian has refused the call. The journal has the refusal, unless it is `Over` of an
     /// action from before a [renewal](crate::Guardian::renew).
     Refused(Refusal),
+    /// The guardian has refused the call with `Conflict`, and the call doesn't wait: the action and others would wait for
+    /// one another in a circle. The journal has the refusal.
+    Deadlock(Deadlock),
     /// The operation returned a signal; the action keeps the lock that it got.
     Signal(Signal),
     /// The journal wasn't folded. Nothing has changed.
@@ -63,7 +67,7 @@ pub enum Error {
 }
 
 impl Error {
-    /// Whether it is a refusal with `Conflict`: abort the topaction, and begin it again.
+    /// Whether it is a refusal with `Conflict`, also for a deadlock: abort the topaction, and begin it again.
     ///
     /// ```
     /// use argus_guardian::{Error, Refusal};
@@ -72,7 +76,7 @@ impl Error {
     /// ```
     #[must_use]
     pub fn is_conflict(&self) -> bool {
-        *self == Error::Refused(Refusal::Conflict)
+        matches!(self, Error::Refused(Refusal::Conflict) | Error::Deadlock(_))
     }
 }
 
@@ -88,6 +92,7 @@ impl fmt::Display for Error {
             Error::NoRoom => f.write_str("called, but no memory for the answer"),
             Error::OtherGuardian => f.write_str("an id of another guardian"),
             Error::Refused(refusal) => write!(f, "refused: {refusal}"),
+            Error::Deadlock(deadlock) => write!(f, "refused: {}: {deadlock}", Refusal::Conflict),
             Error::Signal(signal) => write!(f, "signal: {signal}"),
             Error::Checkpoint(error) => write!(f, "no checkpoint: {error}"),
             Error::Line(fault) => write!(f, "not the next line of a journal: {fault}"),
@@ -106,6 +111,12 @@ impl From<CheckpointError> for Error {
             CheckpointError::OutOfMemory => Error::OutOfMemory,
             CheckpointError::Busy | CheckpointError::Full => Error::Checkpoint(error),
         }
+    }
+}
+
+impl From<Deadlock> for Error {
+    fn from(deadlock: Deadlock) -> Error {
+        Error::Deadlock(deadlock)
     }
 }
 

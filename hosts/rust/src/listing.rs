@@ -1,4 +1,4 @@
-//! `Listing`: what is listed of a guardian.
+//! `Listing`: what is listed of a guardian; `Lines`: how many lines of its journal were put into a room.
 
 /// What is listed of a guardian, one line each. Objects come in the order of their numbers.
 ///
@@ -19,4 +19,16 @@ pub enum Listing {
     Journal,
     /// Bases and versions, computed again from the journal's writes.
     Audit,
+}
+
+/// How many whole lines of the journal were put into a room:
+/// [`Guardian::lines`](crate::Guardian::lines).
+#[derive(Debug, Clone, Copy, PartialEq, Eq)]
+pub struct Lines {
+    /// How many entries' lines they are; 0 if there is none from that number on, or if the room is
+    /// too small for the first line.
+    pub count: u64,
+    /// How many bytes they have, at the beginning of the room. If `count` is 0, how many bytes the
+    /// first line has, or 0 if there is none.
+    pub size: usize,
 }

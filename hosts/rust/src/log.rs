@@ -54,21 +54,17 @@ mod batch;
 mod batch_log;
 mod checksum;
 mod damage;
-mod defect;
-mod entry_lines;
 mod failure;
 mod file_log;
-mod file_log_options;
 mod folder;
 mod found;
 mod found_log;
 mod frame;
 #[cfg(feature = "logged")]
-mod goal;
-#[cfg(feature = "logged")]
 mod group;
 mod head;
-mod line_error;
+#[cfg(feature = "logged")]
+mod journal_queue;
 #[cfg(feature = "logged")]
 mod line_source;
 #[cfg(feature = "logged")]
@@ -79,20 +75,10 @@ mod logged_action;
 mod logged_error;
 #[cfg(feature = "logged")]
 mod logged_opening;
-#[cfg(feature = "logged")]
-mod logged_options;
 mod memory_storage;
 mod open_error;
-mod opening;
-#[cfg(feature = "logged")]
-mod outgoing;
-#[cfg(feature = "logged")]
-mod piece;
-mod position;
 #[cfg(feature = "logged")]
 mod progress;
-#[cfg(feature = "logged")]
-mod recovered;
 #[cfg(feature = "logged")]
 mod recovery;
 mod seal;
@@ -101,21 +87,15 @@ mod segment_list;
 mod segment_reader;
 mod step;
 mod storage;
-mod tail;
-mod torn;
 
 pub use batch::Batch;
-pub use batch_log::BatchLog;
-pub use damage::Damage;
-pub use defect::Defect;
-pub use entry_lines::EntryLines;
+pub use batch_log::{BatchLog, EntryLines, Opening};
+pub use damage::{Damage, Defect, LineError};
 pub use failure::Failure;
-pub use file_log::FileLog;
-pub use file_log_options::FileLogOptions;
+pub use file_log::{FileLog, FileLogOptions};
 pub use folder::Folder;
-pub use found::Found;
+pub use found::{Found, Torn};
 pub use found_log::FoundLog;
-pub use line_error::LineError;
 #[cfg(feature = "logged")]
 pub use logged::Logged;
 #[cfg(feature = "logged")]
@@ -123,14 +103,10 @@ pub use logged_action::LoggedAction;
 #[cfg(feature = "logged")]
 pub use logged_error::LoggedError;
 #[cfg(feature = "logged")]
-pub use logged_options::LoggedOptions;
+pub use logged_opening::{LoggedOptions, Recovered};
 pub use memory_storage::MemoryStorage;
 pub use open_error::OpenError;
-pub use opening::Opening;
-#[cfg(feature = "logged")]
-pub use recovered::Recovered;
 #[cfg(feature = "logged")]
 pub use recovery::Recovery;
 pub use step::Step;
 pub use storage::Storage;
-pub use torn::Torn;

@@ -4,8 +4,7 @@ use crate::content::Content;
 use crate::decoding::{error_of, one_of};
 use crate::error::Error;
 use crate::guardian::Guardian;
-use crate::lines::Lines;
-use crate::listing::Listing;
+use crate::listing::{Lines, Listing};
 use crate::object::Object;
 use crate::reader::Reader;
 use crate::status::Status;
@@ -261,6 +260,21 @@ impl Guardian {
         self.told_of(question::VERSIONS, object, |text| {
             let version = |line| Reader::whole_of(owner, line, Reader::version);
             text.lines().map(version).collect()
+        })
+    }
+
+    // The actions that hold the object for writing, from ancestor to descendant. The library writes what each sees, too.
+    pub(crate) fn writers(&self, object: ObjId) -> Result<Vec<ActionId>, Error> {
+        let owner = self.owner.get();
+        let writer = |line: &str| {
+            Reader::whole_of(owner, line, |reader| {
+                let writer = reader.action();
+                reader.skip_rest();
+                writer
+            })
+        };
+        self.told_of(question::VERSIONS, object, |text| {
+            text.lines().map(writer).collect()
         })
     }
 

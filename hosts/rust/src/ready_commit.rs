@@ -15,7 +15,7 @@ use std::fmt;
 const LINE: usize = 61;
 
 // The handle of the commit, which is closed when it is dropped.
-struct Readied(Ready);
+struct ReadyHandle(Ready);
 
 /// A guardian with a prepared commit, which can't fail any more. Make it or cancel it, and the
 /// guardian is returned. If it is dropped, so is the guardian, without the commit.
@@ -37,7 +37,7 @@ struct Readied(Ready);
 /// ```
 #[must_use = "a commit that is ready and dropped takes its guardian with it"]
 pub struct ReadyCommit {
-    ready: Readied,
+    ready: ReadyHandle,
     // Its handle is closed meanwhile.
     guardian: Guardian,
 }
@@ -75,9 +75,9 @@ impl Guardian {
     }
 
     // The commit, which takes the content of the handle.
-    fn readied(&self, action: ActionId) -> Result<Readied, Error> {
+    fn readied(&self, action: ActionId) -> Result<ReadyHandle, Error> {
         let action = action.number_for(self.owner.get())?;
-        let mut ready = Readied(Ready::NOTHING);
+        let mut ready = ReadyHandle(Ready::NOTHING);
         // SAFETY: no other guardian has its handle; both are there for the call, and they are different
         // ones.
         let status = unsafe { sys::argus_c_ready_commit(self.handle(), &raw mut ready.0, action) };
@@ -166,7 +166,7 @@ impl ReadyCommit {
     }
 }
 
-impl Drop for Readied {
+impl Drop for ReadyHandle {
     fn drop(&mut self) {
         let mut handle = Handle::CLOSED;
         // SAFETY: this handle isn't used again, and the other one is closed before it ends. If

@@ -1,12 +1,60 @@
-//! `Resuming`: a guardian that is being restored from the lines of its journal.
+//! `Resuming`: a guardian that is being restored from the lines of a journal; `Taken`, `Opened`: what it gives.
 
 use crate::error::Error;
 use crate::guardian::Guardian;
 use crate::line_fault::LineFault;
-use crate::opened::Opened;
 use crate::sys::{self, status};
-use crate::taken::Taken;
-use crate::taken_end::TakenEnd;
+
+/// How much of a text [`Resuming::take`](crate::Resuming::take) took, and why no more.
+///
+/// ```
+/// use argus_guardian::{Resuming, Taken, TakenEnd};
+/// let taken = Resuming::new()?.take("0 begin_top -> a0\n1 commit");
+/// assert_eq!(taken, Taken { bytes: 18, lines: 1, end: TakenEnd::Torn });
+/// # Ok::<(), argus_guardian::Error>(())
+/// ```
+#[derive(Debug, Clone, PartialEq, Eq)]
+pub struct Taken {
+    /// How many bytes, from the first one on.
+    pub bytes: usize,
+    /// How many lines these are.
+    pub lines: usize,
+    /// Why no more.
+    pub end: TakenEnd,
+}
+
+/// Why no more lines of a text were taken.
+///
+/// ```
+/// use argus_guardian::{Resuming, TakenEnd};
+/// let mut resuming = Resuming::new()?;
+/// assert_eq!(resuming.take("0 begin_top -> a0\n").end, TakenEnd::Whole);
+/// assert_eq!(resuming.take("1 commit a0").end, TakenEnd::Torn);
+/// # Ok::<(), argus_guardian::Error>(())
+/// ```
+#[derive(Debug, Clone, PartialEq, Eq)]
+pub enum TakenEnd {
+    /// All of the text was taken.
+    Whole,
+    /// Bytes are left, without a line feed among them.
+    Torn,
+    /// The next line has a fault.
+    Fault(LineFault),
+    /// There is no memory for the next line. Pass the same text again from there.
+    OutOfMemory,
+}
+
+/// The guardian of the lines that were taken, and how much of these was dropped:
+/// [`Resuming::into_guardian`](crate::Resuming::into_guardian).
+#[derive(Debug)]
+pub struct Opened {
+    /// The guardian.
+    pub guardian: Guardian,
+    /// How many bytes were taken that aren't in its listing: those of an opening that refers to
+    /// objects that didn't come, behind its first objects that refer to none but one another. It is
+    /// 0 if an entry came.
+    pub dropped: u64,
+}
 
 /// A guardian that is being restored from the lines of its journal's listing, a piece of text at a
 /// time. Each entry's call is made again, and its reply compared with the line's: so the guardian's

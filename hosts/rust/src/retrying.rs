@@ -1,11 +1,68 @@
-//! How long `Shared::run` waits before it tries again.
+//! `MayConflict`: an error by which `Shared::run` knows whether to try again; how long it waits before.
 
+use crate::error::Error;
+#[cfg(all(feature = "logged", unix))]
+use crate::log::LoggedError;
+use std::error;
 use std::hash::{BuildHasher, Hasher, RandomState};
 use std::iter;
 use std::time::Duration;
 
 const FIRST: Duration = Duration::from_millis(1);
 const LONGEST: Duration = Duration::from_millis(100);
+
+/// An error by which [`Shared::run`](crate::Shared::run) and `Logged::run` know whether to try
+/// again. A box is asked if it has an [`Error`] or a `LoggedError`. A program's own error asks the
+/// [`Error`] that it carries:
+///
+/// ```
+/// use argus_guardian::{Error, MayConflict, Refusal};
+///
+/// enum Failure {
+///     SoldOut,
+///     Guardian(Error),
+/// }
+///
+/// impl MayConflict for Failure {
+///     fn is_conflict(&self) -> bool {
+///         matches!(self, Failure::Guardian(error) if error.is_conflict())
+///     }
+/// }
+///
+/// assert!(Failure::Guardian(Refusal::Conflict.into()).is_conflict());
+/// assert!(!Failure::SoldOut.is_conflict());
+/// ```
+pub trait MayConflict {
+    /// Whether it is a refusal with `Conflict`.
+    fn is_conflict(&self) -> bool;
+}
+
+impl MayConflict for Error {
+    fn is_conflict(&self) -> bool {
+        Error::is_conflict(self)
+    }
+}
+
+impl MayConflict for Box<dyn error::Error> {
+    fn is_conflict(&self) -> bool {
+        is_conflict(self.as_ref())
+    }
+}
+
+impl MayConflict for Box<dyn error::Error + Send + Sync> {
+    fn is_conflict(&self) -> bool {
+        is_conflict(self.as_ref())
+    }
+}
+
+// Whether it is one of the crate's errors, and a refusal with `Conflict`.
+fn is_conflict(error: &(dyn error::Error + 'static)) -> bool {
+    #[cfg(all(feature = "logged", unix))]
+    if let Some(error) = error.downcast_ref::<LoggedError>() {
+        return error.is_conflict();
+    }
+    error.downcast_ref().is_some_and(Error::is_conflict)
+}
 
 /// A wait before each of so many more tries. Each is random, so that actions that met don't meet
 /// again: up to a millisecond at first, then up to twice as much each time, and no more than 100.

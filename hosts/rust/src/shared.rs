@@ -1,18 +1,19 @@
 //! `Shared`: a guardian that threads share.
 
 use crate::ActionId;
+use crate::borrower::Borrower;
 use crate::call::Call;
+use crate::deadlock::Deadlock;
 use crate::error::Error;
 use crate::guardian::Guardian;
-use crate::kept::Kept;
-use crate::lending::Lending;
-use crate::may_conflict::MayConflict;
+use crate::lineage::Lineage;
 use crate::refusal::Refusal;
 use crate::reply::Reply;
-use crate::retrying::waits;
+use crate::retrying::{MayConflict, waits};
 use crate::shared_action::SharedAction;
+use crate::shared_state::SharedState;
+use crate::waiter::WaitGoal;
 use crate::waiting_access::WaitingAccess;
-use crate::wanted::Wanted;
 use std::sync::{Mutex, MutexGuard, PoisonError};
 use std::thread;
 use std::time::{Duration, Instant};
@@ -26,14 +27,22 @@ const CONFLICT: Reply = Reply::Refused(Refusal::Conflict);
 /// ends, which thread is woken first, or what a call finds after a wait.
 ///
 /// An access waits for its lock until its patience ends, and is then refused with `Conflict`: abort
-/// the topaction, and begin it again, as [`run`](Self::run) does. Two topactions wait for each
-/// other in one of two ways.
+/// the topaction, and begin it again, as [`run`](Self::run) does.
 ///
-/// - Both have read an object, and both want to write it. The second is refused with `Conflict` at
-///   once. If an action will write what it reads, call [`lock`](SharedAction::lock) before it
-///   reads; then they take turns.
-/// - Each has locked what the other wants. Take locks in one order, such as by the number of the
-///   object. If that isn't possible, both wait until their patience ends.
+/// Topactions may wait for one another in a circle. It is found when it closes, and the youngest in
+/// it, whose topaction has the highest number, is refused with `Conflict` at once: its error is a
+/// [`Deadlock`], which names the others. These go on when its topaction is aborted.
+/// This costs a topaction, so avoid circles:
+///
+/// - Two have read an object, and both want to write it. If an action will write what it reads, call
+///   [`lock`](SharedAction::lock) before it reads; then they take turns.
+/// - Each has locked what the next one wants. Take locks in one order, such as by the number of the
+///   object.
+///
+/// An action that waits is taken to keep its locks, and so are those around it, though another thread
+/// could abort them. Of an action that is named by its number ([`call_waiting`](Self::call_waiting))
+/// those around it aren't known, and nobody looks at an end by a number, or at calls inside
+/// [`with`](Self::with): a circle that these close may last until patience ends.
 ///
 /// ```
 /// use argus_guardian::{Change, Guardian, Shared};
@@ -62,8 +71,8 @@ const CONFLICT: Reply = Reply::Refused(Refusal::Conflict);
 /// ```
 #[derive(Debug)]
 pub struct Shared {
-    kept: Mutex<Kept>,
-    lending: Lending,
+    state: Mutex<SharedState>,
+    borrower: Borrower,
     patience: Duration,
 }
 
@@ -95,43 +104,47 @@ impl Shared {
     #[must_use]
     pub fn new(guardian: Guardian, patience: Duration) -> Shared {
         Shared {
-            kept: Mutex::new(Kept::new(guardian)),
-            lending: Lending::default(),
+            state: Mutex::new(SharedState::new(guardian)),
+            borrower: Borrower::default(),
             patience,
         }
     }
 
     // A thread that panics leaves the guardian between two calls, so a poisoned lock is as good as any.
     #[track_caller]
-    pub(crate) fn lock(&self) -> MutexGuard<'_, Kept> {
+    pub(crate) fn lock(&self) -> MutexGuard<'_, SharedState> {
         assert!(
-            !self.lending.is_here(),
+            !self.borrower.is_here(),
             "this thread is inside `Shared::with` of the same guardian, and would wait for itself"
         );
-        self.kept.lock().unwrap_or_else(PoisonError::into_inner)
+        self.state.lock().unwrap_or_else(PoisonError::into_inner)
     }
 
-    // Waits for that. Each time that it is woken, and when the patience is over, it asks whether to wait on.
+    // Waits for that. Each time that it is woken, and when the patience is over, it asks whether to wait on. Also returns
+    // the circle for which it waits no longer.
     pub(crate) fn wait_while(
-        mut kept: MutexGuard<'_, Kept>,
-        wanted: Wanted,
+        mut state: MutexGuard<'_, SharedState>,
+        goal: WaitGoal,
         patience: Duration,
-        mut still: impl FnMut(&mut Kept) -> bool,
-    ) -> MutexGuard<'_, Kept> {
+        mut still: impl FnMut(&mut SharedState) -> bool,
+    ) -> (MutexGuard<'_, SharedState>, Option<Deadlock>) {
         let start = Instant::now();
-        let (number, condition) = kept.join(wanted);
-        loop {
+        let (number, condition) = state.join(goal);
+        state.break_circles(number);
+        while !state.is_refused(number) {
             let left = patience.saturating_sub(start.elapsed());
-            let sleeps = |kept: &mut Kept| !kept.is_woken(number);
-            let result = condition.wait_timeout_while(kept, left, sleeps);
-            kept = result.unwrap_or_else(PoisonError::into_inner).0;
-            kept.look(number);
-            if !still(&mut kept) || start.elapsed() >= patience {
-                kept.leave(number);
-                return kept;
+            let sleeps = |state: &mut SharedState| !state.is_woken(number);
+            let result = condition.wait_timeout_while(state, left, sleeps);
+            state = result.unwrap_or_else(PoisonError::into_inner).0;
+            state.look(number);
+            if !still(&mut state) || start.elapsed() >= patience {
+                break;
             }
-            kept.pass_on();
+            state.pass_on();
+            state.break_circles(number);
         }
+        let deadlock = state.leave(number);
+        (state, deadlock)
     }
 
     /// Makes one call, and waits only for the mutex. After a commit, an abort or an abort of
@@ -152,12 +165,22 @@ impl Shared {
         self.lock().call(call)
     }
 
+    // The same, for an end of an action. If that is a subaction, its topaction is named.
+    pub(crate) fn end(&self, call: &Call, topaction: Option<ActionId>) -> Result<Reply, Error> {
+        let mut state = self.lock();
+        let reply = state.call(call)?;
+        if let Some(topaction) = topaction {
+            state.break_circles_within(topaction);
+        }
+        Ok(reply)
+    }
+
     // The same, with how many entries the journal has had up to this call.
     #[cfg(all(feature = "logged", unix))]
     pub(crate) fn call_counted(&self, call: &Call) -> Result<(Reply, u64), Error> {
-        let mut kept = self.lock();
-        let reply = kept.call(call)?;
-        Ok((reply, kept.guardian.entries()))
+        let mut state = self.lock();
+        let reply = state.call(call)?;
+        Ok((reply, state.guardian.entries()))
     }
 
     /// Makes a call that may wait: while it is refused with `Conflict`, it waits until its lock is
@@ -165,8 +188,8 @@ impl Shared {
     /// that the call is made. These are few: it is made again when the lock is free, when its action
     /// is over, and when the patience is over.
     ///
-    /// If the call's action has read the object and wants to write it, and so does an action that
-    /// waits, the call is refused at once. Locks of its ancestors count as its own if a
+    /// If its action is the youngest of a circle of actions that wait for one another, it is refused at once:
+    /// when the call closes the circle, or later, when another one does. Locks of its ancestors count as its own if a
     /// [`SharedAction`] makes the call.
     ///
     /// # Errors
@@ -187,33 +210,32 @@ impl Shared {
     /// # Ok::<(), argus_guardian::Error>(())
     /// ```
     pub fn call_waiting(&self, call: &Call, patience: Duration) -> Result<Reply, Error> {
-        self.access(call, patience, |action| vec![action])
+        let (reply, _) = self.access(call, patience, Lineage::unknown)?;
+        Ok(reply)
     }
 
-    // The same; the last argument returns an action with its ancestors.
+    // The same; the last argument returns an action's lineage. Also returns the circle for which the call is refused.
     pub(crate) fn access(
         &self,
         call: &Call,
         patience: Duration,
-        lineage_of: impl FnOnce(ActionId) -> Vec<ActionId>,
-    ) -> Result<Reply, Error> {
-        let mut kept = self.lock();
-        let mut reply = kept.call(call);
+        lineage_of: impl FnOnce(ActionId) -> Lineage,
+    ) -> Result<(Reply, Option<Deadlock>), Error> {
+        let mut state = self.lock();
+        let mut reply = state.call(call);
         if reply != Ok(CONFLICT) || patience.is_zero() {
-            return reply;
+            return Ok((reply?, None));
         }
         let Some(access) = WaitingAccess::by(call, lineage_of) else {
-            return reply;
+            return Ok((reply?, None));
         };
-        if kept.is_in_vain(&access) {
-            return reply;
-        }
-        let wanted = Wanted::Access(access);
-        let _kept = Shared::wait_while(kept, wanted, patience, |kept| {
-            reply = kept.call(call);
+        let goal = WaitGoal::Access(access);
+        let (_state, deadlock) = Shared::wait_while(state, goal, patience, |state| {
+            reply = state.call(call);
             reply == Ok(CONFLICT)
         });
-        reply
+        let deadlock = deadlock.filter(|_| reply == Ok(CONFLICT));
+        Ok((reply?, deadlock))
     }
 
     /// Begins a topaction. It aborts when it is dropped, unless it has committed. While a thread is in
@@ -231,12 +253,12 @@ impl Shared {
     /// # Ok::<(), argus_guardian::Error>(())
     /// ```
     pub fn topaction(&self) -> Result<SharedAction<'_>, Error> {
-        let mut kept = self.lock();
-        if kept.folding > 0 {
-            let still = |kept: &mut Kept| kept.folding > 0;
-            kept = Shared::wait_while(kept, Wanted::NoFolding, Duration::MAX, still);
+        let mut state = self.lock();
+        if state.folding > 0 {
+            let still = |state: &mut SharedState| state.folding > 0;
+            (state, _) = Shared::wait_while(state, WaitGoal::NoFolding, Duration::MAX, still);
         }
-        let id = kept.call(&Call::BeginTop)?.action()?;
+        let id = state.call(&Call::BeginTop)?.action()?;
         Ok(SharedAction::of(self, id))
     }
 
@@ -330,19 +352,22 @@ impl Shared {
     /// ```
     #[track_caller]
     pub fn with<T>(&self, what: impl FnOnce(&Guardian) -> T) -> T {
-        let kept = self.lock();
-        self.lending.begin();
-        let lent = Lent { shared: self, kept };
-        what(&lent.kept.guardian)
+        let state = self.lock();
+        self.borrower.begin();
+        let loan = Loan {
+            shared: self,
+            state,
+        };
+        what(&loan.state.guardian)
     }
 
     // The action is dropped: it is aborted now, or when this thread's `with` ends.
-    pub(crate) fn abort_dropped(&self, action: ActionId) {
-        if self.lending.is_here() {
-            self.lending.drop_later(action);
+    pub(crate) fn abort_dropped(&self, action: ActionId, topaction: Option<ActionId>) {
+        if self.borrower.is_here() {
+            self.borrower.drop_later(action);
         } else {
             // A drop can't report an error.
-            let _ = self.call(&Call::Abort(action));
+            let _ = self.end(&Call::Abort(action), topaction);
         }
     }
 
@@ -371,24 +396,24 @@ impl Shared {
     /// ```
     #[must_use]
     pub fn into_inner(self) -> Guardian {
-        let kept = self.kept.into_inner();
-        kept.unwrap_or_else(PoisonError::into_inner).guardian
+        let state = self.state.into_inner();
+        state.unwrap_or_else(PoisonError::into_inner).guardian
     }
 }
 
 // The guardian, while it is lent to `with`.
-struct Lent<'s> {
+struct Loan<'s> {
     shared: &'s Shared,
-    kept: MutexGuard<'s, Kept>,
+    state: MutexGuard<'s, SharedState>,
 }
 
-impl Drop for Lent<'_> {
+impl Drop for Loan<'_> {
     fn drop(&mut self) {
-        for action in self.shared.lending.end() {
+        for action in self.shared.borrower.end() {
             // A drop can't report an error.
-            let _ = self.kept.guardian.call(&Call::Abort(action));
+            let _ = self.state.guardian.call(&Call::Abort(action));
         }
         // It may have ended other actions, too.
-        self.kept.wake();
+        self.state.wake();
     }
 }

@@ -4,6 +4,7 @@ use crate::answer::Answer;
 use crate::call::Call;
 use crate::change::Change;
 use crate::error::Error;
+use crate::lineage::Lineage;
 use crate::object::Object;
 use crate::query::Query;
 use crate::reply::Reply;
@@ -17,9 +18,10 @@ use std::{iter, mem};
 ///
 /// Each access takes its lock, and the action keeps it to its end: a query takes a read lock, which
 /// others may have too, a change takes the write lock. It waits for the lock until the patience of
-/// the [`Shared`] ends, and is then refused with `Conflict`. Two that have both read an object and
-/// both want to write it wait for each other: the second is refused with `Conflict` at once. So if
-/// you read and then write, take the write lock first, by [`lock`](Self::lock).
+/// the [`Shared`] ends, and is then refused with `Conflict`. Of those that wait for one another in a
+/// circle the youngest is refused at once, with [`Error::Deadlock`]. Two that have both read an object
+/// and both want to write it are such a circle. So if you read and then write, take the write lock
+/// first, by [`lock`](Self::lock).
 ///
 /// Several threads may begin subactions of one action, and run them at the same time. The action
 /// can't commit or abort while one of these exists.
@@ -53,28 +55,31 @@ use std::{iter, mem};
 pub struct SharedAction<'s> {
     shared: &'s Shared,
     id: ActionId,
-    // The action whose subaction it is.
-    parent: Option<&'s SharedAction<'s>>,
+    // The action that has begun it.
+    creator: Option<&'s SharedAction<'s>>,
+    // Whether it is a nested topaction of that one, and no subaction.
+    is_nested: bool,
 }
 
 impl<'s> SharedAction<'s> {
     // A child of this action.
-    fn begun(
-        &self,
-        call: &Call,
-        parent: Option<&'s SharedAction<'s>>,
-    ) -> Result<SharedAction<'s>, Error> {
+    fn begun(&'s self, call: &Call, is_nested: bool) -> Result<SharedAction<'s>, Error> {
         let id = self.call(call)?.action()?;
         Ok(SharedAction {
             shared: self.shared,
             id,
-            parent,
+            creator: Some(self),
+            is_nested,
         })
     }
 
     pub(crate) fn of(shared: &'s Shared, id: ActionId) -> SharedAction<'s> {
-        let parent = None;
-        SharedAction { shared, id, parent }
+        SharedAction {
+            shared,
+            id,
+            creator: None,
+            is_nested: false,
+        }
     }
 
     fn call(&self, call: &Call) -> Result<Reply, Error> {
@@ -82,16 +87,27 @@ impl<'s> SharedAction<'s> {
     }
 
     // The action itself and its ancestors.
-    fn lineage(&self) -> Vec<ActionId> {
-        iter::successors(Some(self), |it| it.parent)
-            .map(SharedAction::id)
-            .collect()
+    fn own(&self) -> impl Iterator<Item = &SharedAction<'s>> {
+        iter::successors(Some(self), |it| it.creator.filter(|_| !it.is_nested))
+    }
+
+    fn lineage(&self) -> Lineage {
+        let all = iter::successors(Some(self), |it| it.creator);
+        Lineage::of(all.map(SharedAction::id).collect(), self.own().count())
+    }
+
+    // Its topaction, if it is a subaction.
+    fn topaction(&self) -> Option<ActionId> {
+        self.own().skip(1).last().map(SharedAction::id)
     }
 
     fn access(&self, call: &Call) -> Result<Answer, Error> {
         let patience = self.shared.patience();
         let lineage_of = |_| self.lineage();
-        self.shared.access(call, patience, lineage_of)?.answer()
+        match self.shared.access(call, patience, lineage_of)? {
+            (_, Some(deadlock)) => Err(Error::Deadlock(deadlock)),
+            (reply, None) => reply.answer(),
+        }
     }
 
     /// Its number.
@@ -113,8 +129,8 @@ impl<'s> SharedAction<'s> {
     /// # Errors
     ///
     /// [`Error::Refused`] with `Over` (a sibling or an ancestor was faster), `Suspended`, `NoObject`,
-    /// `IllTyped` or `Conflict`; [`Error::OtherGuardian`] if the id is another guardian's;
-    /// [`Error::OutOfMemory`]; [`Error::NoRoom`].
+    /// `IllTyped` or `Conflict`; [`Error::Deadlock`]; [`Error::OtherGuardian`] if the id is another
+    /// guardian's; [`Error::OutOfMemory`]; [`Error::NoRoom`].
     ///
     /// ```
     /// # use argus_guardian::{Answer, Error, Guardian, Query, Shared, Signal};
@@ -328,7 +344,7 @@ impl<'s> SharedAction<'s> {
     /// # Ok::<(), Error>(())
     /// ```
     pub fn subaction(&self) -> Result<SharedAction<'_>, Error> {
-        self.begun(&Call::BeginSub(self.id), Some(self))
+        self.begun(&Call::BeginSub(self.id), false)
     }
 
     /// Begins a nested topaction: what it leaves stays, even if this action aborts.
@@ -347,7 +363,7 @@ impl<'s> SharedAction<'s> {
     /// # Ok::<(), Error>(())
     /// ```
     pub fn nested(&self) -> Result<SharedAction<'_>, Error> {
-        self.begun(&Call::BeginNested(self.id), None)
+        self.begun(&Call::BeginNested(self.id), true)
     }
 
     /// Aborts all live siblings: the first that is done ends the others.
@@ -406,7 +422,8 @@ impl<'s> SharedAction<'s> {
     }
 
     fn end(self, how: impl FnOnce(ActionId) -> Call) -> Result<(), Error> {
-        self.call(&how(self.id))?.answer()?.done()?;
+        let reply = self.shared.end(&how(self.id), self.topaction())?;
+        reply.answer()?.done()?;
         // It is over: there is nothing to abort, and nothing in it to drop.
         mem::forget(self);
         Ok(())
@@ -425,6 +442,6 @@ impl<'s> SharedAction<'s> {
 
 impl Drop for SharedAction<'_> {
     fn drop(&mut self) {
-        self.shared.abort_dropped(self.id);
+        self.shared.abort_dropped(self.id, self.topaction());
     }
 }

@@ -3,7 +3,7 @@
 use crate::checkpoint_error::CheckpointError;
 use crate::guardian::Guardian;
 use crate::shared::Shared;
-use crate::wanted::Wanted;
+use crate::waiter::WaitGoal;
 use std::time::Duration;
 
 impl Shared {
@@ -78,18 +78,18 @@ impl Shared {
         patience: Duration,
         mut fold: impl FnMut(&Guardian) -> Result<T, CheckpointError>,
     ) -> Result<T, CheckpointError> {
-        let mut kept = self.lock();
-        let mut result = fold(&kept.guardian);
+        let mut state = self.lock();
+        let mut result = fold(&state.guardian);
         if !is_busy(&result) || patience.is_zero() {
             return result;
         }
-        kept.folding += 1;
-        kept = Shared::wait_while(kept, Wanted::NoLiveAction, patience, |kept| {
-            result = fold(&kept.guardian);
+        state.folding += 1;
+        (state, _) = Shared::wait_while(state, WaitGoal::NoLiveAction, patience, |state| {
+            result = fold(&state.guardian);
             is_busy(&result)
         });
-        kept.folding -= 1;
-        kept.wake();
+        state.folding -= 1;
+        state.wake();
         result
     }
 }

@@ -1,7 +1,8 @@
 //! `Waiter`: a thread that waits for something of a shared guardian.
 
+use crate::circles::Stuck;
+use crate::deadlock::Deadlock;
 use crate::waiting_access::WaitingAccess;
-use crate::wanted::Wanted;
 use std::sync::{Arc, Condvar};
 
 /// A thread that waits for something of a shared guardian.
@@ -9,9 +10,11 @@ use std::sync::{Arc, Condvar};
 pub(crate) struct Waiter {
     /// No other waiter of the guardian has it.
     pub(crate) number: u64,
-    pub(crate) wanted: Wanted,
+    pub(crate) goal: WaitGoal,
     /// Whether it was woken, and hasn't looked yet.
     pub(crate) is_woken: bool,
+    /// Why it waits no longer than until it looks.
+    pub(crate) deadlock: Option<Deadlock>,
     /// On which it alone waits.
     pub(crate) condition: Arc<Condvar>,
 }
@@ -22,11 +25,36 @@ impl Waiter {
         self.condition.notify_one();
     }
 
+    /// It is woken, and waits no more.
+    pub(crate) fn refuse(&mut self, deadlock: Deadlock) {
+        self.deadlock = Some(deadlock);
+        self.wake();
+    }
+
     /// Its access, if it waits for one.
     pub(crate) fn access(&self) -> Option<&WaitingAccess> {
-        match &self.wanted {
-            Wanted::Access(access) => Some(access),
-            Wanted::NoLiveAction | Wanted::NoFolding => None,
+        match &self.goal {
+            WaitGoal::Access(access) => Some(access),
+            WaitGoal::NoLiveAction | WaitGoal::NoFolding => None,
         }
     }
+
+    /// Its access, if it waits for one, was not woken, and isn't refused.
+    pub(crate) fn stuck(&self) -> Option<Stuck<'_>> {
+        let number = self.number;
+        let waits = |_: &&WaitingAccess| !self.is_woken && self.deadlock.is_none();
+        let access = self.access().filter(waits)?;
+        Some(Stuck { number, access })
+    }
+}
+
+/// What a thread waits for.
+#[derive(Debug)]
+pub(crate) enum WaitGoal {
+    /// That an access may be made.
+    Access(WaitingAccess),
+    /// That no action is live.
+    NoLiveAction,
+    /// That no thread waits to fold the journal.
+    NoFolding,
 }

@@ -2,6 +2,7 @@
 
 use crate::call::Call;
 use crate::guardian::Guardian;
+use crate::lineage::Lineage;
 use crate::status::Status;
 use crate::{ActionId, ObjId};
 
@@ -9,17 +10,16 @@ use crate::{ActionId, ObjId};
 #[derive(Debug)]
 pub(crate) struct WaitingAccess {
     pub(crate) object: ObjId,
-    writes: bool,
-    action: ActionId,
-    // The action itself and its ancestors, whose locks don't conflict with its own.
-    lineage: Vec<ActionId>,
+    pub(crate) writes: bool,
+    pub(crate) action: ActionId,
+    pub(crate) lineage: Lineage,
 }
 
 impl WaitingAccess {
-    /// The call as an access; the last argument returns an action with its ancestors. `None`: the call is no access.
+    /// The call as an access; the last argument returns an action's lineage. `None`: the call is no access.
     pub(crate) fn by(
         call: &Call,
-        lineage_of: impl FnOnce(ActionId) -> Vec<ActionId>,
+        lineage_of: impl FnOnce(ActionId) -> Lineage,
     ) -> Option<WaitingAccess> {
         let (action, object, writes) = match *call {
             Call::Ask(action, object, _) => (action, object, false),
@@ -53,26 +53,8 @@ impl WaitingAccess {
         self.object == other.object && (self.writes || other.writes)
     }
 
-    /// Whether both want to write one object.
-    pub(crate) fn writes_with(&self, other: &WaitingAccess) -> bool {
-        self.object == other.object && self.writes && other.writes
-    }
-
-    /// Whether both want to write one object, and each would wait for the other: each has a read lock that the other
-    /// waits for.
-    pub(crate) fn waits_with(&self, other: &WaitingAccess, readers: &[ActionId]) -> bool {
-        self.writes_with(other)
-            && self.is_held_back(other, readers)
-            && other.is_held_back(self, readers)
-    }
-
-    // Whether one of the readers is the other action or an ancestor of it, but not an ancestor of
-    // this one.
-    fn is_held_back(&self, other: &WaitingAccess, readers: &[ActionId]) -> bool {
-        let is_against = |it: &&ActionId| !self.lineage.contains(it);
-        readers
-            .iter()
-            .filter(is_against)
-            .any(|it| other.lineage.contains(it))
+    /// By which the youngest is found: its topaction, and then the action itself.
+    pub(crate) fn age(&self) -> (Option<ActionId>, ActionId) {
+        (self.lineage.outermost(), self.action)
     }
 }

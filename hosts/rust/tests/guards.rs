@@ -10,7 +10,6 @@ use std::thread;
 use std::time::{Duration, Instant};
 
 const LONG: Duration = Duration::from_secs(60);
-const CONFLICT: Result<(), Error> = Err(Error::Refused(Refusal::Conflict));
 
 fn content(text: &str) -> Content {
     text.parse().expect("a content")
@@ -289,8 +288,9 @@ fn two_read_and_set(by_subactions: bool) -> Result<(usize, Duration), Error> {
         let threads = [scope.spawn(read_and_set), scope.spawn(read_and_set)];
         threads.map(|it| it.join().expect("no panic")).into()
     });
-    let refused = results.iter().filter(|it| **it == CONFLICT).count();
-    assert!(results.iter().all(|it| it.is_ok() || *it == CONFLICT));
+    let is_refused = |it: &&Result<(), Error>| matches!(it, Err(Error::Deadlock(_)));
+    let refused = results.iter().filter(is_refused).count();
+    assert!(results.iter().all(|it| it.is_ok() || is_refused(&it)));
     Ok((refused, start.elapsed()))
 }
 

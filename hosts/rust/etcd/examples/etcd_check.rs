@@ -17,26 +17,26 @@ const USAGE: &str = "usage: etcd_check [--prefix NAME] [--lines] ENDPOINT..";
 // What the lines of an opening begin with, and no later part of one.
 const OPENING: &str = "opening entries ";
 
-struct Asked {
+struct Arguments {
     options: EtcdOptions,
     prints_lines: bool,
 }
 
-fn asked(words: impl Iterator<Item = String>) -> Option<Asked> {
-    let mut asked = Asked {
+fn arguments(words: impl Iterator<Item = String>) -> Option<Arguments> {
+    let mut arguments = Arguments {
         options: EtcdOptions::at::<String>([]),
         prints_lines: false,
     };
     let mut words = words;
     while let Some(word) = words.next() {
         match word.as_str() {
-            "--prefix" => asked.options.prefix = words.next()?,
-            "--lines" => asked.prints_lines = true,
-            _ if word.starts_with("http") => asked.options.endpoints.push(word),
+            "--prefix" => arguments.options.prefix = words.next()?,
+            "--lines" => arguments.prints_lines = true,
+            _ if word.starts_with("http") => arguments.options.endpoints.push(word),
             _ => return None,
         }
     }
-    Some(asked).filter(|it| !it.options.endpoints.is_empty())
+    Some(arguments).filter(|it| !it.options.endpoints.is_empty())
 }
 
 // Prints all lines of the log, as they are there.
@@ -65,9 +65,9 @@ fn check(options: &EtcdOptions) -> Result<Position, Box<dyn Error>> {
     Ok(position)
 }
 
-fn read(asked: &Asked) -> Result<Position, Box<dyn Error>> {
-    let options = &asked.options;
-    let position = if asked.prints_lines {
+fn read(arguments: &Arguments) -> Result<Position, Box<dyn Error>> {
+    let options = &arguments.options;
+    let position = if arguments.prints_lines {
         print_lines(options)?
     } else {
         check(options)?
@@ -79,12 +79,12 @@ fn read(asked: &Asked) -> Result<Position, Box<dyn Error>> {
 }
 
 fn main() -> ExitCode {
-    let Some(asked) = asked(env::args().skip(1)) else {
+    let Some(arguments) = arguments(env::args().skip(1)) else {
         eprintln!("{USAGE}");
         return ExitCode::from(2);
     };
-    match read(&asked) {
-        Ok(position) if asked.prints_lines => {
+    match read(&arguments) {
+        Ok(position) if arguments.prints_lines => {
             eprintln!("all lines are printed {position}");
             ExitCode::SUCCESS
         }

@@ -28,7 +28,7 @@ pub(crate) struct KeyValue {
 
 /// The answer to a range.
 #[derive(Debug, Default, Deserialize)]
-pub(crate) struct Ranged {
+pub(crate) struct RangeAnswer {
     #[serde(default)]
     pub(crate) header: Header,
     #[serde(default)]
@@ -37,7 +37,7 @@ pub(crate) struct Ranged {
 
 /// The answer to a transaction.
 #[derive(Debug, Deserialize)]
-pub(crate) struct Transacted {
+pub(crate) struct TransactionAnswer {
     #[serde(default)]
     pub(crate) header: Header,
     #[serde(default)]
@@ -50,33 +50,33 @@ pub(crate) struct Transacted {
 #[derive(Debug, Deserialize)]
 pub(crate) struct Response {
     #[serde(default)]
-    pub(crate) response_range: Option<Ranged>,
+    pub(crate) response_range: Option<RangeAnswer>,
 }
 
 /// A lease that was granted.
 #[derive(Debug, Deserialize)]
-pub(crate) struct Granted {
+pub(crate) struct LeaseGrant {
     #[serde(rename = "ID", deserialize_with = "int")]
     pub(crate) id: i64,
 }
 
 /// The answer to a keep-alive, which comes as one of a stream.
 #[derive(Debug, Deserialize)]
-pub(crate) struct KeptAlive {
+pub(crate) struct KeepAlive {
     #[serde(default)]
-    pub(crate) result: Remaining,
+    pub(crate) result: LeaseTime,
 }
 
 /// How many seconds a lease has: none, where it is over.
 #[derive(Debug, Default, Deserialize)]
-pub(crate) struct Remaining {
+pub(crate) struct LeaseTime {
     #[serde(rename = "TTL", default, deserialize_with = "int")]
     pub(crate) seconds: i64,
 }
 
 /// A token, by which a user is known.
 #[derive(Debug, Deserialize)]
-pub(crate) struct Authenticated {
+pub(crate) struct UserToken {
     pub(crate) token: String,
 }
 
@@ -94,7 +94,7 @@ pub(crate) struct Refusal {
 
 /// One message of a watch.
 #[derive(Debug, Deserialize)]
-pub(crate) struct Watched {
+pub(crate) struct WatchMessage {
     #[serde(default)]
     pub(crate) result: Option<Events>,
 }
@@ -117,7 +117,7 @@ pub(crate) struct Event {
 
 /// An answer without content.
 #[derive(Debug, Deserialize)]
-pub(crate) struct Done {}
+pub(crate) struct NoContent {}
 
 /// The alarms that are set.
 #[derive(Debug, Deserialize)]
@@ -165,29 +165,29 @@ fn bytes<'d, D: Deserializer<'d>>(from: D) -> Result<Vec<u8>, D::Error> {
 
 #[cfg(test)]
 mod tests {
-    use super::{KeptAlive, Ranged, Refusal, Transacted};
+    use super::{KeepAlive, RangeAnswer, Refusal, TransactionAnswer};
 
     #[test]
     fn what_is_left_out_is_zero() {
         let text =
             r#"{"header":{"cluster_id":"1","revision":"17"},"responses":[{"response_put":{}}]}"#;
-        let answer: Transacted = serde_json::from_str(text).expect("an answer");
+        let answer: TransactionAnswer = serde_json::from_str(text).expect("an answer");
         assert_eq!((answer.header.revision, answer.succeeded), (17, false));
         assert!(answer.responses[0].response_range.is_none());
-        let over: KeptAlive = serde_json::from_str(r#"{"result":{"ID":"5"}}"#).expect("an answer");
+        let over: KeepAlive = serde_json::from_str(r#"{"result":{"ID":"5"}}"#).expect("an answer");
         assert_eq!(over.result.seconds, 0);
     }
 
     #[test]
     fn bytes_are_base64() {
         let text = r#"{"kvs":[{"key":"YQ==","value":"Ygo=","create_revision":"3"}],"count":"1"}"#;
-        let answer: Ranged = serde_json::from_str(text).expect("an answer");
+        let answer: RangeAnswer = serde_json::from_str(text).expect("an answer");
         let found = &answer.kvs[0];
         assert_eq!(
             (&found.key[..], &found.value[..], found.create_revision),
             (&b"a"[..], &b"b\n"[..], 3)
         );
-        assert!(serde_json::from_str::<Ranged>(r#"{"kvs":[{"key":"*"}]}"#).is_err());
+        assert!(serde_json::from_str::<RangeAnswer>(r#"{"kvs":[{"key":"*"}]}"#).is_err());
     }
 
     #[test]

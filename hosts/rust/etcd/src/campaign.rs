@@ -1,6 +1,6 @@
 //! `Campaign`: a host's candidacy for leadership.
 
-use crate::answers::{Ranged, Transacted};
+use crate::answers::{RangeAnswer, TransactionAnswer};
 use crate::client::Client;
 use crate::etcd_error::EtcdError;
 use crate::etcd_options::EtcdOptions;
@@ -59,7 +59,7 @@ impl Campaign {
             .if_holds(&key, None)
             .put_leased(&key, name, lease.id())
             .else_read(&key);
-        let entered: Transacted = client.ask("kv/txn", &enter.question())?;
+        let entered: TransactionAnswer = client.ask("kv/txn", &enter.question())?;
         let epoch = made_at(entered).ok_or(EtcdError::Deposed)?;
         let leadership = Leadership::new(lease, key, epoch, &options)?;
         Ok(Campaign {
@@ -86,7 +86,7 @@ impl Campaign {
     /// # Ok::<(), EtcdError>(())
     /// ```
     pub fn poll(&mut self) -> Result<Option<Leadership>, EtcdError> {
-        let found: Ranged = self.client.ask("kv/range", &self.keys.oldest_leader())?;
+        let found: RangeAnswer = self.client.ask("kv/range", &self.keys.oldest_leader())?;
         let first = found.kvs.first().ok_or(EtcdError::Deposed)?;
         if first.key == self.leadership.key().as_bytes() {
             return Ok(Some(self.leadership.clone()));
@@ -123,7 +123,7 @@ impl Campaign {
 }
 
 // At which revision the key was made: by this transaction, or by an earlier try whose answer was lost.
-fn made_at(entered: Transacted) -> Option<u64> {
+fn made_at(entered: TransactionAnswer) -> Option<u64> {
     let revision = if entered.succeeded {
         entered.header.revision
     } else {

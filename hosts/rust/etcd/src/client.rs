@@ -1,10 +1,9 @@
 //! `Client`: asks etcd's nodes, one after another, until one answers.
 
-use crate::answers::{Authenticated, Refusal};
-use crate::collected::Collected;
+use crate::answers::{Refusal, UserToken};
 use crate::etcd_error::EtcdError;
 use crate::etcd_options::EtcdOptions;
-use crate::request::Request;
+use crate::request::{Body, Request};
 use serde::de::DeserializeOwned;
 use serde_json::{Value, json};
 use std::fmt;
@@ -31,14 +30,14 @@ const UNAUTHENTICATED: u32 = 16;
 /// only such requests as have the same effect then.
 pub(crate) struct Client {
     options: Arc<EtcdOptions>,
-    request: Request<Collected>,
+    request: Request<Body>,
     // Which node is asked next.
     at: usize,
     token: Option<String>,
 }
 
 // What came of one try.
-enum Tried<A> {
+enum Attempt<A> {
     Answered(A),
     // It isn't known whether it was carried out: another node is asked.
     Unknown(String),
@@ -52,7 +51,7 @@ impl Client {
         if options.endpoints.is_empty() {
             return Err(EtcdError::Option("no endpoint is named".to_owned()));
         }
-        let request = Request::new(Collected::default(), options);
+        let request = Request::new(Body::default(), options);
         Ok(Client {
             options: Arc::clone(options),
             request: request.map_err(|error| EtcdError::Option(error.to_string()))?,
@@ -102,16 +101,16 @@ impl Client {
         let body = question.to_string();
         let mut is_renewed = false;
         self.ask_in_turn(patience, |client| {
-            let tried = client.try_once(path, &body, timeout);
-            if is_renewed || !matches!(tried, Tried::Unauthenticated(_)) {
-                return tried;
+            let attempt = client.try_once(path, &body, timeout);
+            if is_renewed || !matches!(attempt, Attempt::Unauthenticated(_)) {
+                return attempt;
             }
             // A token is forgotten after some minutes, and at each change of users.
             is_renewed = true;
             client.token = None;
             match client.log_in(patience) {
                 Ok(()) => client.try_once(path, &body, timeout),
-                Err(error) => Tried::Failed(error),
+                Err(error) => Attempt::Failed(error),
             }
         })
     }
@@ -127,9 +126,9 @@ impl Client {
         self.log_in(self.options.patience)?;
         self.at = node % self.options.endpoints.len();
         match self.try_once(path, &question.to_string(), timeout) {
-            Tried::Answered(answer) => Ok(answer),
-            Tried::Failed(error) => Err(error),
-            Tried::Unauthenticated(why) | Tried::Unknown(why) => Err(EtcdError::Unreached(why)),
+            Attempt::Answered(answer) => Ok(answer),
+            Attempt::Failed(error) => Err(error),
+            Attempt::Unauthenticated(why) | Attempt::Unknown(why) => Err(EtcdError::Unreached(why)),
         }
     }
 
@@ -140,7 +139,7 @@ impl Client {
             return Ok(());
         };
         let body = json!({ "name": login.user, "password": login.password }).to_string();
-        let answer: Authenticated = self.ask_in_turn(patience, |client| {
+        let answer: UserToken = self.ask_in_turn(patience, |client| {
             client.try_once("auth/authenticate", &body, options.timeout)
         })?;
         self.token = Some(answer.token);
@@ -150,14 +149,14 @@ impl Client {
     fn ask_in_turn<A>(
         &mut self,
         patience: Duration,
-        mut ask: impl FnMut(&mut Client) -> Tried<A>,
+        mut ask: impl FnMut(&mut Client) -> Attempt<A>,
     ) -> Result<A, EtcdError> {
         let limit = Instant::now() + patience;
         loop {
             let why = match ask(self) {
-                Tried::Answered(answer) => return Ok(answer),
-                Tried::Failed(error) => return Err(error),
-                Tried::Unauthenticated(why) | Tried::Unknown(why) => why,
+                Attempt::Answered(answer) => return Ok(answer),
+                Attempt::Failed(error) => return Err(error),
+                Attempt::Unauthenticated(why) | Attempt::Unknown(why) => why,
             };
             self.turn();
             if Instant::now() + PAUSE >= limit {
@@ -173,7 +172,7 @@ impl Client {
         path: &str,
         body: &str,
         timeout: Duration,
-    ) -> Tried<A> {
+    ) -> Attempt<A> {
         let url = format!("{}/v3/{path}", self.endpoint());
         let body = body.as_bytes();
         self.request.handler().clear();
@@ -182,10 +181,10 @@ impl Client {
             .post(&url, self.token.as_deref(), body, timeout);
         let answer = self.request.handler().bytes();
         match posted {
-            Err(error) => Tried::Unknown(format!("{url}: {error}")),
+            Err(error) => Attempt::Unknown(format!("{url}: {error}")),
             Ok(200) => match serde_json::from_slice(answer) {
-                Ok(answer) => Tried::Answered(answer),
-                Err(error) => Tried::Unknown(format!("{url}: {error}")),
+                Ok(answer) => Attempt::Answered(answer),
+                Err(error) => Attempt::Unknown(format!("{url}: {error}")),
             },
             Ok(status) => refused(&url, status, answer),
         }
@@ -202,14 +201,14 @@ impl fmt::Debug for Client {
 }
 
 // The meaning of an answer whose status isn't 200.
-fn refused<A>(url: &str, status: u32, answer: &[u8]) -> Tried<A> {
+fn refused<A>(url: &str, status: u32, answer: &[u8]) -> Attempt<A> {
     let Ok(Refusal {
         code,
         message,
         error,
     }) = serde_json::from_slice(answer)
     else {
-        return Tried::Unknown(format!("{url}: status {status}"));
+        return Attempt::Unknown(format!("{url}: status {status}"));
     };
     let message = if message.is_empty() {
         error.as_str().unwrap_or_default().to_owned()
@@ -217,18 +216,18 @@ fn refused<A>(url: &str, status: u32, answer: &[u8]) -> Tried<A> {
         message
     };
     match code {
-        EXHAUSTED if message.contains("space exceeded") => Tried::Failed(EtcdError::NoSpace),
-        INVALID if message.contains("too large") => Tried::Failed(EtcdError::TooLarge),
+        EXHAUSTED if message.contains("space exceeded") => Attempt::Failed(EtcdError::NoSpace),
+        INVALID if message.contains("too large") => Attempt::Failed(EtcdError::TooLarge),
         // What the gateway says before it asks etcd.
-        EXHAUSTED if message.contains("larger than max") => Tried::Failed(EtcdError::TooLarge),
-        OUT_OF_RANGE if message.contains("compacted") => Tried::Failed(EtcdError::Compacted),
-        UNAUTHENTICATED => Tried::Unauthenticated(format!("{url}: {message}")),
+        EXHAUSTED if message.contains("larger than max") => Attempt::Failed(EtcdError::TooLarge),
+        OUT_OF_RANGE if message.contains("compacted") => Attempt::Failed(EtcdError::Compacted),
+        UNAUTHENTICATED => Attempt::Unauthenticated(format!("{url}: {message}")),
         INVALID if message.contains("revision of auth store is old") => {
-            Tried::Unauthenticated(format!("{url}: {message}"))
+            Attempt::Unauthenticated(format!("{url}: {message}"))
         }
         CANCELLED | UNKNOWN | DEADLINE | EXHAUSTED | ABORTED | INTERNAL | UNAVAILABLE => {
-            Tried::Unknown(format!("{url}: {message}"))
+            Attempt::Unknown(format!("{url}: {message}"))
         }
-        _ => Tried::Failed(EtcdError::Refused { code, message }),
+        _ => Attempt::Failed(EtcdError::Refused { code, message }),
     }
 }

@@ -1,6 +1,6 @@
 //! `EtcdLog`: a log in etcd, which only the leader writes.
 
-use crate::answers::{Done, Transacted};
+use crate::answers::{NoContent, TransactionAnswer};
 use crate::client::Client;
 use crate::etcd_error::EtcdError;
 use crate::etcd_options::EtcdOptions;
@@ -271,7 +271,7 @@ impl EtcdLog {
         );
         let patience = patience.min(self.leadership.remaining());
         let question = fenced.question();
-        let answer: Transacted = self
+        let answer: TransactionAnswer = self
             .client
             .ask_within("kv/txn", &question, timeout, patience)?;
         self.revision = answer.header.revision;
@@ -282,7 +282,7 @@ impl EtcdLog {
     }
 
     // Why it wasn't carried out; or that an earlier try was, whose answer was lost.
-    fn refused(&self, answer: Transacted, put: Option<&Put>) -> Result<(), EtcdError> {
+    fn refused(&self, answer: TransactionAnswer, put: Option<&Put>) -> Result<(), EtcdError> {
         let mut read = answer
             .responses
             .into_iter()
@@ -342,7 +342,7 @@ impl EtcdLog {
             // If it fails, the next checkpoint compacts: nothing that counts is at stake.
             let question = json!({ "revision": self.revision.to_string() });
             let timeout = self.client.options().timeout;
-            let _: Result<Done, EtcdError> =
+            let _: Result<NoContent, EtcdError> =
                 self.client
                     .ask_within("kv/compaction", &question, timeout, timeout);
         }

@@ -1,7 +1,7 @@
-//! `EtcdOptions`: where etcd is, and how a log is kept there.
+//! `EtcdOptions`: where etcd is, and how a log is kept there; `Login`, `Tls`: what connections to it need.
 
-use crate::login::Login;
-use crate::tls::Tls;
+use std::fmt;
+use std::path::PathBuf;
 use std::time::Duration;
 
 /// Where etcd is, and how a log is kept there. All hosts of a log use the same [`prefix`](Self::prefix) and the
@@ -71,4 +71,45 @@ impl EtcdOptions {
             compaction: true,
         }
     }
+}
+
+/// A user of etcd, and the password, if etcd asks for them (`etcdctl auth enable`). The user needs a role that may
+/// read and write the keys under the prefix. Without TLS the password crosses the network as it is.
+///
+/// ```
+/// use argus_guardian_etcd::Login;
+/// let login = Login { user: "bank".into(), password: "secret".into() };
+/// assert_eq!(format!("{login:?}"), "Login { user: \"bank\", .. }");
+/// ```
+#[derive(Clone, PartialEq, Eq)]
+pub struct Login {
+    /// The name.
+    pub user: String,
+    /// The password, which no `Debug` prints.
+    pub password: String,
+}
+
+impl fmt::Debug for Login {
+    fn fmt(&self, f: &mut fmt::Formatter<'_>) -> fmt::Result {
+        f.debug_struct("Login")
+            .field("user", &self.user)
+            .finish_non_exhaustive()
+    }
+}
+
+/// Certificates for connections to etcd, in PEM files.
+///
+/// ```
+/// use argus_guardian_etcd::Tls;
+/// let tls = Tls { authority: "/etc/argus/ca.pem".into(), certificate: None };
+/// assert!(tls.certificate.is_none());
+/// ```
+#[derive(Debug, Clone, PartialEq, Eq)]
+pub struct Tls {
+    /// The authorities that may have signed the nodes' certificates. A node's certificate has to name the host of
+    /// its endpoint.
+    pub authority: PathBuf,
+    /// This host's certificate and its key, if the nodes ask for one (`etcd --client-cert-auth`). etcd's gateway
+    /// doesn't take its name for a user: if etcd asks for users, give a [`Login`](crate::Login), too.
+    pub certificate: Option<(PathBuf, PathBuf)>,
 }

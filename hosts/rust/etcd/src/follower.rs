@@ -3,12 +3,11 @@
 use crate::client::Client;
 use crate::etcd_log::EtcdLog;
 use crate::etcd_options::EtcdOptions;
-use crate::leadership::Leadership;
-use crate::led::Led;
+use crate::leadership::{Leadership, Led};
 use crate::log_error::LogError;
 use crate::log_reader::LogReader;
 use crate::position::Position;
-use crate::recovered::Recovered;
+use crate::replica::Replica;
 use crate::watch::Watch;
 use argus_guardian::log::Logged;
 use argus_guardian::{Error, Guardian};
@@ -42,7 +41,7 @@ use std::time::Duration;
 /// ```
 #[derive(Debug)]
 pub struct Follower {
-    reader: LogReader<Recovered>,
+    reader: LogReader<Replica>,
     watch: Watch,
     // Why it has stopped for good.
     stopped: Option<LogError>,
@@ -64,7 +63,7 @@ impl Follower {
         let options = Arc::new(options.clone());
         let client = Client::new(&options)?;
         Ok(Follower {
-            reader: LogReader::new(client, Recovered::new()?),
+            reader: LogReader::new(client, Replica::new()?),
             watch: Watch::begin(&options)?,
             stopped: None,
         })

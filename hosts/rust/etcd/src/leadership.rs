@@ -1,6 +1,6 @@
-//! `Leadership`: the right to append to a log, while a lease lasts.
+//! `Leadership`: the right to append to a log, while a lease lasts; `Led`: what a new leader found.
 
-use crate::answers::Transacted;
+use crate::answers::TransactionAnswer;
 use crate::client::Client;
 use crate::etcd_error::EtcdError;
 use crate::etcd_options::EtcdOptions;
@@ -8,6 +8,17 @@ use crate::lease::Lease;
 use crate::transaction::Transaction;
 use std::sync::{Arc, Mutex, PoisonError};
 use std::time::Duration;
+
+/// What a new leader found in the log.
+#[derive(Debug, Clone, Copy, PartialEq, Eq, Default)]
+pub struct Led {
+    /// The number of its next entry: all entries before it were in the log.
+    pub entry: u64,
+    /// How many entries it took to abort the actions that were live at the log's end.
+    pub aborted: u64,
+    /// The number of the leadership.
+    pub epoch: u64,
+}
 
 /// The right to append to a log, while a lease lasts. Clones are the same leadership; it ends by
 /// [`resign`](Self::resign), or when the last clone is dropped.
@@ -23,10 +34,10 @@ use std::time::Duration;
 /// # Ok::<(), EtcdError>(())
 /// ```
 #[derive(Debug, Clone)]
-pub struct Leadership(Arc<Held>);
+pub struct Leadership(Arc<Term>);
 
 #[derive(Debug)]
-struct Held {
+struct Term {
     lease: Lease,
     key: String,
     epoch: u64,
@@ -41,7 +52,7 @@ impl Leadership {
         epoch: u64,
         options: &Arc<EtcdOptions>,
     ) -> Result<Leadership, EtcdError> {
-        Ok(Leadership(Arc::new(Held {
+        Ok(Leadership(Arc::new(Term {
             lease,
             key,
             epoch,
@@ -116,7 +127,7 @@ impl Leadership {
         // A node answers a transaction without any read out of its own store, though it may be cut off. With one it
         // asks a majority first.
         let asked = self.fenced(Transaction::default()).else_read(&self.0.key);
-        let answer: Transacted = client.ask("kv/txn", &asked.question())?;
+        let answer: TransactionAnswer = client.ask("kv/txn", &asked.question())?;
         if answer.succeeded {
             Ok(())
         } else {

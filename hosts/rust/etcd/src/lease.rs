@@ -1,6 +1,6 @@
 //! `Lease`: a lease of etcd, kept alive by a thread.
 
-use crate::answers::{Done, Granted, KeptAlive};
+use crate::answers::{KeepAlive, LeaseGrant, NoContent};
 use crate::client::Client;
 use crate::etcd_error::EtcdError;
 use crate::etcd_options::EtcdOptions;
@@ -16,11 +16,11 @@ use std::time::{Duration, Instant};
 #[derive(Debug)]
 pub(crate) struct Lease {
     id: i64,
-    shared: Arc<Shared>,
+    shared: Arc<StateCell>,
 }
 
 #[derive(Debug)]
-struct Shared {
+struct StateCell {
     state: Mutex<State>,
     changed: Condvar,
 }
@@ -35,7 +35,7 @@ struct State {
     is_revoked: bool,
 }
 
-impl Shared {
+impl StateCell {
     fn locked(&self) -> MutexGuard<'_, State> {
         self.state.lock().unwrap_or_else(PoisonError::into_inner)
     }
@@ -52,13 +52,14 @@ impl Lease {
         let options = Arc::clone(client.options());
         let seconds = whole_seconds(&options)?;
         let until = Instant::now() + options.lease;
-        let granted: Granted = client.ask("lease/grant", &json!({ "TTL": seconds.to_string() }))?;
+        let granted: LeaseGrant =
+            client.ask("lease/grant", &json!({ "TTL": seconds.to_string() }))?;
         let state = State {
             until,
             is_over: false,
             is_revoked: false,
         };
-        let shared = Arc::new(Shared {
+        let shared = Arc::new(StateCell {
             state: Mutex::new(state),
             changed: Condvar::new(),
         });
@@ -128,7 +129,7 @@ fn whole_seconds(options: &EtcdOptions) -> Result<u64, EtcdError> {
 struct Keeper {
     id: i64,
     client: Client,
-    shared: Arc<Shared>,
+    shared: Arc<StateCell>,
 }
 
 impl Keeper {
@@ -140,7 +141,7 @@ impl Keeper {
         // So another host may lead at once. If no node answers, the lease ends by itself.
         let question = json!({ "ID": self.id.to_string() });
         let timeout = self.client.options().timeout;
-        let _: Result<Done, EtcdError> =
+        let _: Result<NoContent, EtcdError> =
             self.client
                 .ask_within("lease/revoke", &question, timeout, timeout);
         self.shared.locked().is_revoked = true;
@@ -169,7 +170,7 @@ impl Keeper {
             .client
             .ask_within("lease/keepalive", &question, timeout, left);
         match answer {
-            Ok(KeptAlive { result }) if result.seconds > 0 => {
+            Ok(KeepAlive { result }) if result.seconds > 0 => {
                 self.shared.locked().until = asked + options.lease;
             }
             // No node answered, and its time runs on.

@@ -1,4 +1,4 @@
-//! `LogReader`: reads a log in etcd, batch by batch.
+//! `LogReader`: reads a log in etcd, batch by batch; `Takes`: what takes these.
 
 use crate::answers::KeyValue;
 use crate::client::Client;
@@ -8,9 +8,35 @@ use crate::log_error::LogError;
 use crate::log_head::LogHead;
 use crate::pages::{Page, first_page, next_page};
 use crate::position::Position;
-use crate::takes::Takes;
 use argus_guardian::Error;
 use argus_guardian::log::{Batch, LineError};
+
+/// What takes the batches of a log that is read.
+pub(crate) trait Takes {
+    /// The log begins anew with an opening, which comes next, in one batch or in several. `is_next`: everything before
+    /// it was taken.
+    fn begin_anew(&mut self, is_next: bool) -> Result<(), LineError>;
+
+    /// Takes a batch.
+    fn take(&mut self, batch: &Batch<'_>) -> Result<(), LineError>;
+
+    /// The whole opening was taken.
+    fn end_opening(&mut self) -> Result<(), LineError>;
+}
+
+impl<F: FnMut(&Batch<'_>) -> Result<(), LineError>> Takes for F {
+    fn begin_anew(&mut self, _: bool) -> Result<(), LineError> {
+        Ok(())
+    }
+
+    fn take(&mut self, batch: &Batch<'_>) -> Result<(), LineError> {
+        self(batch)
+    }
+
+    fn end_opening(&mut self) -> Result<(), LineError> {
+        Ok(())
+    }
+}
 
 /// Reads a log in etcd, and hands each batch on. A later call goes on where the last one ended.
 #[derive(Debug)]

@@ -1,17 +1,34 @@
-//! `Maintenance`: the requests by which operators look after etcd.
+//! `Maintenance`: the requests by which operators look after etcd; `NodeStatus`: the status of a node.
 
-use crate::answers::{Alarm, Alarms, Done, Ranged, Status};
+use crate::answers::{Alarm, Alarms, NoContent, RangeAnswer, Status};
 use crate::client::Client;
 use crate::etcd_error::EtcdError;
 use crate::etcd_options::EtcdOptions;
 use crate::keys::Keys;
-use crate::node_status::NodeStatus;
 use serde_json::json;
 use std::sync::Arc;
 use std::time::Duration;
 
 const ALARM: &str = "maintenance/alarm";
 const NO_SPACE: &str = "NOSPACE";
+
+/// The status of a node of etcd.
+///
+/// ```
+/// use argus_guardian_etcd::NodeStatus;
+/// let status = NodeStatus { version: "3.4.23".into(), size: 25_000_000, in_use: 1_000_000 };
+/// assert!(status.size > 2 * status.in_use); // worth defragmenting
+/// ```
+#[derive(Debug, Clone, PartialEq, Eq)]
+pub struct NodeStatus {
+    /// Its version.
+    pub version: String,
+    /// The size of its database file, in bytes, which counts for the quota.
+    pub size: u64,
+    /// How many bytes of that are in use. [`Maintenance::defragment`](crate::Maintenance::defragment) shrinks the file
+    /// to that.
+    pub in_use: u64,
+}
 
 /// The requests by which operators look after etcd. `etcdctl compact`, `defrag`, `alarm list`, `alarm disarm` and
 /// `endpoint status` do the same. If etcd asks for users, most of them need the role `root`.
@@ -66,7 +83,7 @@ impl Maintenance {
     /// # Ok::<(), EtcdError>(())
     /// ```
     pub fn leader(&mut self) -> Result<Option<(String, u64)>, EtcdError> {
-        let oldest: Ranged = self.client.ask("kv/range", &self.keys.oldest_leader())?;
+        let oldest: RangeAnswer = self.client.ask("kv/range", &self.keys.oldest_leader())?;
         Ok(oldest.kvs.first().map(|found| {
             let name = String::from_utf8_lossy(&found.value).into_owned();
             (name, u64::try_from(found.create_revision).unwrap_or(0))
@@ -143,7 +160,7 @@ impl Maintenance {
             if alarm == NO_SPACE {
                 let question =
                     json!({ "action": "DEACTIVATE", "memberID": member, "alarm": NO_SPACE });
-                let Done {} = self.client.ask(ALARM, &question)?;
+                let NoContent {} = self.client.ask(ALARM, &question)?;
             }
         }
         Ok(())
@@ -164,11 +181,11 @@ impl Maintenance {
     /// ```
     pub fn compact(&mut self) -> Result<(), EtcdError> {
         let question = json!({ "key": base64::encode(self.keys.head()) });
-        let now: Ranged = self.client.ask("kv/range", &question)?;
+        let now: RangeAnswer = self.client.ask("kv/range", &question)?;
         // `physical`: it returns once the space is free for other values.
         let question = json!({ "revision": now.header.revision.to_string(), "physical": true });
-        match self.client.ask::<Done>("kv/compaction", &question) {
-            Ok(Done {}) | Err(EtcdError::Compacted) => Ok(()),
+        match self.client.ask::<NoContent>("kv/compaction", &question) {
+            Ok(NoContent {}) | Err(EtcdError::Compacted) => Ok(()),
             Err(error) => Err(error),
         }
     }
@@ -189,7 +206,7 @@ impl Maintenance {
     pub fn defragment(&mut self, longest: Duration) -> Result<(), EtcdError> {
         for node in 0..self.client.options().endpoints.len() {
             let path = "maintenance/defragment";
-            let Done {} = self.client.ask_node(node, path, &json!({}), longest)?;
+            let NoContent {} = self.client.ask_node(node, path, &json!({}), longest)?;
         }
         Ok(())
     }

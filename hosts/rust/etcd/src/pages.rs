@@ -1,6 +1,6 @@
 //! Reads batches of a log: a page at a time, all at one revision.
 
-use crate::answers::{KeyValue, Ranged, Transacted};
+use crate::answers::{KeyValue, RangeAnswer, TransactionAnswer};
 use crate::client::Client;
 use crate::etcd_error::EtcdError;
 use crate::keys::Keys;
@@ -22,7 +22,7 @@ pub(crate) fn first_page(client: &mut Client, keys: &Keys, from: u64) -> Result<
     let both = Transaction::default()
         .read(&json!({ "key": base64::encode(keys.head()) }))
         .read(&batches_from(client, keys, from));
-    let answer: Transacted = client.ask("kv/txn", &both.question())?;
+    let answer: TransactionAnswer = client.ask("kv/txn", &both.question())?;
     let revision = answer.header.revision;
     let mut read = answer
         .responses
@@ -45,7 +45,7 @@ pub(crate) fn next_page(
 ) -> Result<Vec<KeyValue>, EtcdError> {
     let mut question = batches_from(client, keys, from);
     question["revision"] = json!(revision.to_string());
-    let answer: Ranged = client.ask("kv/range", &question)?;
+    let answer: RangeAnswer = client.ask("kv/range", &question)?;
     Ok(answer.kvs)
 }
 

@@ -1,9 +1,8 @@
-//! `Request`: posts requests to nodes, by libcurl.
+//! `Request`: posts requests to nodes, by libcurl; `Body`: that of an answer.
 
-use crate::etcd_options::EtcdOptions;
-use crate::tls::Tls;
+use crate::etcd_options::{EtcdOptions, Tls};
 use curl::Error;
-use curl::easy::{Easy2, Handler, HttpVersion, List};
+use curl::easy::{Easy2, Handler, HttpVersion, List, WriteError};
 use std::time::Duration;
 
 /// The status code of HTTP.
@@ -70,4 +69,25 @@ fn headers(token: Option<&str>) -> Result<List, Error> {
         headers.append(&format!("Authorization: {token}"))?;
     }
     Ok(headers)
+}
+
+/// The body of an answer, as far as it has come.
+#[derive(Debug, Default)]
+pub(crate) struct Body(Vec<u8>);
+
+impl Body {
+    pub(crate) fn clear(&mut self) {
+        self.0.clear();
+    }
+
+    pub(crate) fn bytes(&self) -> &[u8] {
+        &self.0
+    }
+}
+
+impl Handler for Body {
+    fn write(&mut self, data: &[u8]) -> Result<usize, WriteError> {
+        self.0.extend_from_slice(data);
+        Ok(data.len())
+    }
 }

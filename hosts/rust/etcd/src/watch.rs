@@ -1,6 +1,6 @@
 //! `Watch`: a thread that watches a log's head.
 
-use crate::answers::{Events, Ranged, Watched};
+use crate::answers::{Events, RangeAnswer, WatchMessage};
 use crate::client::Client;
 use crate::etcd_error::EtcdError;
 use crate::etcd_options::EtcdOptions;
@@ -24,10 +24,10 @@ const PAUSE: Duration = Duration::from_millis(50);
 
 /// A thread that watches a log's head. It ends within a second or so after this is dropped.
 #[derive(Debug)]
-pub(crate) struct Watch(Arc<Seen>);
+pub(crate) struct Watch(Arc<WatchState>);
 
 #[derive(Debug)]
-struct Seen {
+struct WatchState {
     head: Mutex<Option<SeenHead>>,
     moved: Condvar,
     ends: AtomicBool,
@@ -40,7 +40,7 @@ struct SeenHead {
     head: LogHead,
 }
 
-impl Seen {
+impl WatchState {
     fn locked(&self) -> MutexGuard<'_, Option<SeenHead>> {
         self.head.lock().unwrap_or_else(PoisonError::into_inner)
     }
@@ -57,27 +57,27 @@ impl Seen {
 
 impl Watch {
     pub(crate) fn begin(options: &Arc<EtcdOptions>) -> Result<Watch, EtcdError> {
-        let seen = Arc::new(Seen {
+        let state = Arc::new(WatchState {
             head: Mutex::new(None),
             moved: Condvar::new(),
             ends: AtomicBool::new(false),
         });
         let handler = Messages {
-            seen: Arc::clone(&seen),
+            state: Arc::clone(&state),
             rest: Vec::new(),
         };
         let request = Request::new(handler, options);
         let watcher = Watcher {
             client: Client::new(options)?,
             key: Keys::under(&options.prefix).head(),
-            seen: Arc::clone(&seen),
+            state: Arc::clone(&state),
             request: request.map_err(|error| EtcdError::Option(error.to_string()))?,
         };
         let spawned = thread::Builder::new()
             .name("argus-watch".to_owned())
             .spawn(|| watcher.run());
         spawned.map_err(|error| EtcdError::Option(format!("no thread for a watch: {error}")))?;
-        Ok(Watch(seen))
+        Ok(Watch(state))
     }
 
     /// Waits, but not longer than this, until the head has changed since it was read at that revision. Whether it
@@ -104,13 +104,13 @@ impl Drop for Watch {
 struct Watcher {
     client: Client,
     key: String,
-    seen: Arc<Seen>,
+    state: Arc<WatchState>,
     request: Request<Messages>,
 }
 
 impl Watcher {
     fn run(mut self) {
-        while !self.seen.ends() {
+        while !self.state.ends() {
             let watched = self.read().and_then(|revision| self.watch(revision + 1));
             if watched.is_err() {
                 self.client.turn();
@@ -122,10 +122,10 @@ impl Watcher {
     // Reads the head. The revision at which it was so.
     fn read(&mut self) -> Result<i64, EtcdError> {
         let question = json!({ "key": base64::encode(&self.key) });
-        let answer: Ranged = self.client.ask("kv/range", &question)?;
+        let answer: RangeAnswer = self.client.ask("kv/range", &question)?;
         let revision = answer.header.revision;
         if let Some(head) = head_in(answer.kvs)? {
-            self.seen.see(revision, head);
+            self.state.see(revision, head);
         }
         Ok(revision)
     }
@@ -153,7 +153,7 @@ impl Watcher {
 
 // The messages of a watch: each is a line of JSON.
 struct Messages {
-    seen: Arc<Seen>,
+    state: Arc<WatchState>,
     // The beginning of the next line.
     rest: Vec<u8>,
 }
@@ -162,7 +162,7 @@ impl Messages {
     // False: the watch is over.
     fn take(&self, line: &[u8]) -> bool {
         let message = serde_json::from_slice(line);
-        let Ok(Watched { result: Some(it) }) = message else {
+        let Ok(WatchMessage { result: Some(it) }) = message else {
             return false;
         };
         let Events { canceled, list } = it;
@@ -170,7 +170,7 @@ impl Messages {
         let mut heads =
             values.filter_map(|found| Some((found.mod_revision, LogHead::of(&found.value)?)));
         if let Some((revision, head)) = heads.next_back() {
-            self.seen.see(revision, head);
+            self.state.see(revision, head);
         }
         !canceled
     }
@@ -181,7 +181,7 @@ impl Handler for Messages {
         self.rest.extend_from_slice(data);
         while let Some(end) = self.rest.iter().position(|byte| *byte == b'\n') {
             let line: Vec<u8> = self.rest.drain(..=end).collect();
-            if self.seen.ends() || !self.take(&line) {
+            if self.state.ends() || !self.take(&line) {
                 // Fewer bytes than came: the request ends.
                 return Ok(0);
             }
@@ -190,6 +190,6 @@ impl Handler for Messages {
     }
 
     fn progress(&mut self, _: f64, _: f64, _: f64, _: f64) -> bool {
-        !self.seen.ends()
+        !self.state.ends()
     }
 }

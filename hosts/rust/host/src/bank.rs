@@ -1,16 +1,9 @@
 //! `Bank`: accounts and orders, over a guardian with a log.
 
 use crate::bank_error::BankError;
-use crate::carried::Carried;
-use crate::kept::Kept;
-use crate::keys::Keys;
-use crate::known::Known;
-use crate::limits::MOST_OBJECTS;
-use crate::order::Order;
-use crate::records::{ACCOUNT, KEY, Records};
-use crate::slot::Slot;
-use crate::transfer::Transfer;
-use crate::transfer_end::TransferEnd;
+use crate::keys::{KeyLookup, Keys, Slot};
+use crate::order::{Order, OrderOutcome, Transfer, TransferEnd};
+use crate::records::{ACCOUNT, KEY, MOST_OBJECTS, OrderRecord, Records};
 use argus_guardian::log::{Logged, LoggedAction, LoggedError};
 use argus_guardian::{Change, Content, Guardian, ObjId, Value};
 use std::sync::{Mutex, MutexGuard, PoisonError, RwLock};
@@ -54,12 +47,12 @@ fn create(top: &LoggedAction<'_>, record: ObjId, content: Content) -> Result<(),
 }
 
 // The fields of a record that keeps a key.
-fn kept_in(content: Content) -> Option<(i64, String, Kept)> {
+fn kept_in(content: Content) -> Option<(i64, String, OrderRecord)> {
     let Content::Record(fields) = content else {
         return None;
     };
     let [sequence, key, order, ends] = <[Value; 4]>::try_from(fields).ok()?;
-    let kept = Kept {
+    let kept = OrderRecord {
         order: order.try_into().ok()?,
         ends: ends.try_into().ok()?,
     };
@@ -154,7 +147,7 @@ impl Bank {
     }
 
     /// Opens an account with a balance of 0; with a key once, however often that is asked for. Its number.
-    pub(crate) fn open_account(&self, key: Option<&str>) -> Result<Carried, BankError> {
+    pub(crate) fn open_account(&self, key: Option<&str>) -> Result<OrderOutcome, BankError> {
         let mut next = locked(&self.next_account);
         let carried = if let Some(key) = key {
             self.once(key, OPENING, |top| self.next_account(top, &mut next))?
@@ -162,7 +155,7 @@ impl Bank {
             let top = self.logged.topaction()?;
             let ends = self.next_account(&top, &mut next)?;
             top.commit()?;
-            Carried {
+            OrderOutcome {
                 is_before: false,
                 ends,
             }
@@ -221,7 +214,7 @@ impl Bank {
         key: &str,
         order: &Order,
         deadline: Instant,
-    ) -> Result<Carried, BankError> {
+    ) -> Result<OrderOutcome, BankError> {
         self.once(key, &order.text(), |top| {
             self.transfer_each(top, order, deadline)
         })
@@ -233,19 +226,19 @@ impl Bank {
         key: &str,
         text: &str,
         work: impl FnOnce(&LoggedAction<'_>) -> Result<String, BankError>,
-    ) -> Result<Carried, BankError> {
+    ) -> Result<OrderOutcome, BankError> {
         let slot = match self.known(key)? {
-            Known::New(slot) => slot,
-            Known::Kept(kept) if kept.order == text => {
-                return Ok(Carried {
+            KeyLookup::New(slot) => slot,
+            KeyLookup::Kept(kept) if kept.order == text => {
+                return Ok(OrderOutcome {
                     is_before: true,
                     ends: kept.ends,
                 });
             }
-            Known::Kept(_) => return Err(BankError::OtherOrder),
-            Known::UnderWay => return Err(BankError::UnderWay),
-            Known::InDoubt => return Err(BankError::InDoubt),
-            Known::Busy | Known::NoSlot => return Err(BankError::Busy),
+            KeyLookup::Kept(_) => return Err(BankError::OtherOrder),
+            KeyLookup::UnderWay => return Err(BankError::UnderWay),
+            KeyLookup::InDoubt => return Err(BankError::InDoubt),
+            KeyLookup::Busy | KeyLookup::NoSlot => return Err(BankError::Busy),
         };
         let carried = self.carry_out(&slot, key, text, work);
         let mut keys = locked(&self.keys);
@@ -253,7 +246,7 @@ impl Bank {
             Ok(kept) => {
                 let ends = kept.ends.clone();
                 keys.keep(slot, key, kept);
-                Ok(Carried {
+                Ok(OrderOutcome {
                     is_before: false,
                     ends,
                 })
@@ -270,10 +263,10 @@ impl Bank {
     }
 
     // What is known of a key; where there is no record for it, some are made, as long as there is room for them.
-    fn known(&self, key: &str) -> Result<Known, LoggedError> {
+    fn known(&self, key: &str) -> Result<KeyLookup, LoggedError> {
         let mut keys = locked(&self.keys);
         let known = keys.reserve(key);
-        if !matches!(known, Known::NoSlot) {
+        if !matches!(known, KeyLookup::NoSlot) {
             return Ok(known);
         }
         let left = MOST_OBJECTS.saturating_sub(self.logged.objects()? as usize);
@@ -298,9 +291,9 @@ impl Bank {
         key: &str,
         text: &str,
         work: impl FnOnce(&LoggedAction<'_>) -> Result<String, BankError>,
-    ) -> Result<Kept, BankError> {
+    ) -> Result<OrderRecord, BankError> {
         let top = self.logged.topaction()?;
-        let kept = Kept {
+        let kept = OrderRecord {
             order: text.to_owned(),
             ends: work(&top)?,
         };

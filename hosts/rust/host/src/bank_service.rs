@@ -1,15 +1,14 @@
 //! `BankService`: a bank's routes.
 
+use crate::arguments::ServeArguments;
 use crate::bank::{Bank, is_half_used};
 use crate::bank_error::BankError;
-use crate::carried::Carried;
 use crate::figures::Figures;
-use crate::opened::Opened;
-use crate::order::Order;
+use crate::opening::OpenGuardian;
+use crate::order::{Order, OrderOutcome};
 use crate::reply::Reply;
 use crate::request::Request;
-use crate::serve_arguments::ServeArguments;
-use crate::service::Service;
+use crate::server::Service;
 use argus_guardian::log::LoggedError;
 use argus_guardian_etcd::{EtcdError, Leadership};
 use serde_json::json;
@@ -61,7 +60,10 @@ fn no_key() -> Reply {
 }
 
 impl BankService {
-    pub(crate) fn over(opened: Opened, asked: &ServeArguments) -> Result<BankService, LoggedError> {
+    pub(crate) fn over(
+        opened: OpenGuardian,
+        asked: &ServeArguments,
+    ) -> Result<BankService, LoggedError> {
         // Entries of earlier lives count, too: the log has had no checkpoint since.
         let folded = opened.logged.entries().saturating_sub(opened.in_log);
         Ok(BankService {
@@ -93,7 +95,7 @@ impl BankService {
             return no_key();
         }
         match self.bank.open_account(key) {
-            Ok(Carried { is_before, ends }) => {
+            Ok(OrderOutcome { is_before, ends }) => {
                 let account: u32 = ends.parse().unwrap_or(u32::MAX);
                 Reply::json(201, &json!({ "account": account, "before": is_before }))
             }

@@ -1,11 +1,11 @@
 //! `FollowerService`: a follower's routes.
 
+use crate::bank_follower::BankFollower;
 use crate::bank_service::{account_in, no_account};
-use crate::following::Following;
 use crate::records::Records;
 use crate::reply::Reply;
 use crate::request::Request;
-use crate::service::Service;
+use crate::server::Service;
 use argus_guardian_etcd::{EtcdOptions, Follower, LogError};
 use serde_json::json;
 use std::sync::{Mutex, MutexGuard, PoisonError};
@@ -16,7 +16,7 @@ const LONGEST_LAG: Duration = Duration::from_secs(10);
 
 /// A follower's routes.
 #[derive(Debug)]
-pub(crate) struct FollowerService(Mutex<Following>);
+pub(crate) struct FollowerService(Mutex<BankFollower>);
 
 impl FollowerService {
     pub(crate) fn over(options: &EtcdOptions) -> Result<FollowerService, LogError> {
@@ -30,7 +30,7 @@ impl FollowerService {
         };
         let mut follower = Follower::begin(&options)?;
         follower.catch_up()?;
-        Ok(FollowerService(Mutex::new(Following {
+        Ok(FollowerService(Mutex::new(BankFollower {
             follower,
             records: Records::default(),
             taken: 0,
@@ -39,7 +39,7 @@ impl FollowerService {
         })))
     }
 
-    fn locked(&self) -> MutexGuard<'_, Following> {
+    fn locked(&self) -> MutexGuard<'_, BankFollower> {
         self.0.lock().unwrap_or_else(PoisonError::into_inner)
     }
 

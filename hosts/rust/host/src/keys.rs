@@ -1,11 +1,42 @@
 //! `Keys`: which orders were carried out, by their keys.
 
-use crate::kept::Kept;
-use crate::key_state::KeyState;
-use crate::known::Known;
-use crate::slot::Slot;
+use crate::records::OrderRecord;
 use argus_guardian::ObjId;
 use std::collections::{HashMap, VecDeque};
+
+/// A record that an order writes its key into.
+#[derive(Debug)]
+pub(crate) struct Slot {
+    pub(crate) record: ObjId,
+    /// The newest key has the greatest.
+    pub(crate) sequence: i64,
+    /// The key that is forgotten for it.
+    pub(crate) oldest: Option<String>,
+}
+
+/// What is kept of a key that isn't new.
+#[derive(Debug)]
+pub(crate) enum KeyState {
+    UnderWay,
+    InDoubt,
+    Kept(OrderRecord),
+}
+
+/// What is known of a key.
+#[derive(Debug)]
+pub(crate) enum KeyLookup {
+    /// It is new, and has this slot.
+    New(Slot),
+    /// It is new, and another record is to be made.
+    NoSlot,
+    /// It is new, but all records are of orders under way.
+    Busy,
+    /// An order with this key is under way.
+    UnderWay,
+    /// Whether the order is in the log isn't known.
+    InDoubt,
+    Kept(OrderRecord),
+}
 
 /// Which orders were carried out, by their keys: what the guardian's records say, and what is under way. A key
 /// belongs to one order at a time; so two orders of one key are never carried out at once.
@@ -51,7 +82,13 @@ impl Keys {
     }
 
     /// A key that is in the log; its sequence is the greatest so far.
-    pub(crate) fn add_kept(&mut self, record: ObjId, sequence: i64, key: String, kept: Kept) {
+    pub(crate) fn add_kept(
+        &mut self,
+        record: ObjId,
+        sequence: i64,
+        key: String,
+        kept: OrderRecord,
+    ) {
         self.made += 1;
         self.sequence = sequence + 1;
         self.states.insert(key.clone(), KeyState::Kept(kept));
@@ -59,26 +96,26 @@ impl Keys {
     }
 
     /// What is known of a key. A new one is under way from now on.
-    pub(crate) fn reserve(&mut self, key: &str) -> Known {
+    pub(crate) fn reserve(&mut self, key: &str) -> KeyLookup {
         match self.states.get(key) {
-            Some(KeyState::UnderWay) => return Known::UnderWay,
-            Some(KeyState::InDoubt) => return Known::InDoubt,
-            Some(KeyState::Kept(kept)) => return Known::Kept(kept.clone()),
+            Some(KeyState::UnderWay) => return KeyLookup::UnderWay,
+            Some(KeyState::InDoubt) => return KeyLookup::InDoubt,
+            Some(KeyState::Kept(kept)) => return KeyLookup::Kept(kept.clone()),
             None => {}
         }
         let (record, oldest) = if let Some(record) = self.unused.pop() {
             (record, None)
         } else if self.missing() > 0 {
-            return Known::NoSlot;
+            return KeyLookup::NoSlot;
         } else if let Some((record, key)) = self.used.pop_front() {
             (record, Some(key))
         } else {
-            return Known::Busy;
+            return KeyLookup::Busy;
         };
         self.states.insert(key.to_owned(), KeyState::UnderWay);
         let sequence = self.sequence;
         self.sequence += 1;
-        Known::New(Slot {
+        KeyLookup::New(Slot {
             record,
             sequence,
             oldest,
@@ -86,7 +123,7 @@ impl Keys {
     }
 
     /// The order is in the log.
-    pub(crate) fn keep(&mut self, slot: Slot, key: &str, kept: Kept) {
+    pub(crate) fn keep(&mut self, slot: Slot, key: &str, kept: OrderRecord) {
         if let Some(oldest) = slot.oldest {
             self.states.remove(&oldest);
         }

@@ -6,42 +6,24 @@
 mod arguments;
 mod bank;
 mod bank_error;
+mod bank_follower;
 mod bank_service;
-mod carried;
-mod command;
-mod etcd_arguments;
 mod figures;
 mod follower_service;
-mod following;
-mod head;
-mod http_arguments;
-mod kept;
-mod key_state;
 mod keys;
-mod known;
-mod limits;
-mod measured;
-mod opened;
 mod opening;
 mod order;
 mod records;
 mod reply;
 mod request;
-mod serve_arguments;
-mod service;
-mod serving;
-mod slot;
-mod token;
-mod transfer;
-mod transfer_end;
+mod server;
 mod verifying;
 mod visit;
 
-use crate::arguments::Arguments;
+use crate::arguments::{Arguments, Command};
 use crate::bank_service::BankService;
-use crate::command::Command;
 use crate::follower_service::FollowerService;
-use crate::serving::Serving;
+use crate::server::Server;
 use clap::Parser;
 use std::error::Error;
 use std::process::ExitCode;
@@ -61,18 +43,18 @@ fn run(command: Command) -> Result<ExitCode, Box<dyn Error>> {
         Command::Verify { folder } => Ok(verifying::verify(&folder)),
         Command::Serve(asked) => {
             let ends = signals()?;
-            let serving = Serving::begin(&asked.http)?;
+            let server = Server::begin(&asked.http)?;
             let Some(opened) = opening::open(&asked, &ends)? else {
                 return Ok(ExitCode::SUCCESS);
             };
             let service = BankService::over(opened, &asked)?;
-            serving.run(&service, &ends)
+            server.run(&service, &ends)
         }
         Command::Follow { etcd, http } => {
             let ends = signals()?;
-            let serving = Serving::begin(&http)?;
+            let server = Server::begin(&http)?;
             let service = FollowerService::over(&etcd.options()?)?;
-            serving.run(&service, &ends)
+            server.run(&service, &ends)
         }
     }
 }

@@ -1,9 +1,7 @@
 //! `open`: a guardian made again of its log, in files or in etcd.
 
-use crate::figures::Figures;
-use crate::measured::Measured;
-use crate::opened::Opened;
-use crate::serve_arguments::ServeArguments;
+use crate::arguments::ServeArguments;
+use crate::figures::{Figures, MeasuredLog};
 use argus_guardian::log::{BatchLog, FileLog, Folder, LineError, Logged, Recovery};
 use argus_guardian::{Guardian, Shared};
 use argus_guardian_etcd::{Campaign, EtcdLog, EtcdOptions, Leadership};
@@ -16,11 +14,22 @@ use std::time::Duration;
 
 const POLL: Duration = Duration::from_millis(100);
 
+/// A guardian over its log.
+pub(crate) struct OpenGuardian {
+    pub(crate) logged: Logged,
+    pub(crate) figures: Arc<Figures>,
+    pub(crate) epoch: u64,
+    /// How many entries the log has beside its opening.
+    pub(crate) in_log: u64,
+    /// The right to append, where the log is in etcd.
+    pub(crate) leadership: Option<Leadership>,
+}
+
 /// The guardian of a log; over etcd, once this host leads. None: a signal came before that.
 pub(crate) fn open(
     asked: &ServeArguments,
     ends: &AtomicBool,
-) -> Result<Option<Opened>, Box<dyn Error>> {
+) -> Result<Option<OpenGuardian>, Box<dyn Error>> {
     if let Some(folder) = &asked.log {
         return open_files(folder).map(Some);
     }
@@ -31,7 +40,7 @@ pub(crate) fn open(
     open_etcd(&options, leadership).map(Some)
 }
 
-fn open_files(folder: &Path) -> Result<Opened, Box<dyn Error>> {
+fn open_files(folder: &Path) -> Result<OpenGuardian, Box<dyn Error>> {
     let mut recovery = Recovery::new()?;
     let log = FileLog::read(Folder::open(folder)?, |batch| recovery.take(batch.lines))?;
     let found = log.found().clone();
@@ -45,7 +54,10 @@ fn open_files(folder: &Path) -> Result<Opened, Box<dyn Error>> {
     resumed(guardian, log.begin()?, found.epoch + 1, found.entries)
 }
 
-fn open_etcd(options: &EtcdOptions, leadership: Leadership) -> Result<Opened, Box<dyn Error>> {
+fn open_etcd(
+    options: &EtcdOptions,
+    leadership: Leadership,
+) -> Result<OpenGuardian, Box<dyn Error>> {
     let (mut recovery, mut entries) = (Recovery::new()?, 0);
     let log = EtcdLog::open(options, leadership.clone(), |batch| {
         entries += batch.entries;
@@ -62,7 +74,7 @@ fn open_etcd(options: &EtcdOptions, leadership: Leadership) -> Result<Opened, Bo
         return Err(why.into());
     }
     let opened = resumed(guardian, log, leadership.epoch(), entries)?;
-    Ok(Opened {
+    Ok(OpenGuardian {
         leadership: Some(leadership),
         ..opened
     })
@@ -74,9 +86,9 @@ fn resumed(
     log: impl BatchLog + 'static,
     epoch: u64,
     entries: u64,
-) -> Result<Opened, Box<dyn Error>> {
+) -> Result<OpenGuardian, Box<dyn Error>> {
     let figures = Arc::new(Figures::default());
-    let log = Measured {
+    let log = MeasuredLog {
         log,
         figures: Arc::clone(&figures),
     };
@@ -85,7 +97,7 @@ fn resumed(
         "argus-host: {} entries, epoch {epoch}; {aborted} of them abort what was live",
         logged.entries()
     );
-    Ok(Opened {
+    Ok(OpenGuardian {
         logged,
         figures,
         epoch,

@@ -1,8 +1,8 @@
-//! `Order`: transfers that are one topaction, each of them a subaction.
+//! `Order`: transfers that are one topaction, each of them a subaction; what became of them.
 
-use crate::transfer::Transfer;
 use serde::Deserialize;
 use std::collections::BTreeSet;
+use std::fmt;
 
 /// The most transfers of an order.
 pub(crate) const MOST: usize = 64;
@@ -44,4 +44,51 @@ impl Order {
         let words: Vec<String> = self.transfers.iter().map(Transfer::to_string).collect();
         words.join(" ")
     }
+}
+
+/// An amount that goes from one account to another.
+#[derive(Debug, Clone, Copy, PartialEq, Eq, Deserialize)]
+#[serde(deny_unknown_fields)]
+pub(crate) struct Transfer {
+    pub(crate) from: u32,
+    pub(crate) to: u32,
+    pub(crate) amount: i64,
+}
+
+impl fmt::Display for Transfer {
+    fn fmt(&self, f: &mut fmt::Formatter<'_>) -> fmt::Result {
+        write!(f, "{}>{}:{}", self.from, self.to, self.amount)
+    }
+}
+
+/// What became of a transfer. But for `Made` nothing is left of it.
+#[derive(Debug, Clone, Copy, PartialEq, Eq)]
+pub(crate) enum TransferEnd {
+    Made,
+    /// The account that was to pay has too little.
+    TooLittle,
+    /// One of the accounts isn't there.
+    NoAccount,
+    /// The other account can't hold so much.
+    TooMuch,
+}
+
+impl fmt::Display for TransferEnd {
+    fn fmt(&self, f: &mut fmt::Formatter<'_>) -> fmt::Result {
+        f.write_str(match self {
+            TransferEnd::Made => "made",
+            TransferEnd::TooLittle => "too_little",
+            TransferEnd::NoAccount => "no_account",
+            TransferEnd::TooMuch => "too_much",
+        })
+    }
+}
+
+/// What became of an order. It is in the log.
+#[derive(Debug, Clone, PartialEq, Eq)]
+pub(crate) struct OrderOutcome {
+    /// Whether it was carried out before: it was sent again.
+    pub(crate) is_before: bool,
+    /// What became of each transfer, in words.
+    pub(crate) ends: String,
 }

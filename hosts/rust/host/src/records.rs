@@ -5,6 +5,9 @@ use argus_guardian::{ObjId, Object};
 pub(crate) const ACCOUNT: &str = "atomic_record[balance:int]";
 pub(crate) const KEY: &str = "atomic_record[sequence:int,key:text,order:text,answer:text]";
 
+/// The most objects of a guardian: records of accounts and of keys.
+pub(crate) const MOST_OBJECTS: usize = 65_535;
+
 /// Which of a guardian's objects are accounts, and which keep keys. An account's number is its place among the
 /// accounts.
 #[derive(Debug, Clone, Default)]
@@ -26,4 +29,11 @@ impl Records {
     pub(crate) fn account(&self, number: u32) -> Option<ObjId> {
         self.accounts.get(number as usize).copied()
     }
+}
+
+/// An order that was carried out, as a record of the guardian keeps it beside its key.
+#[derive(Debug, Clone, PartialEq, Eq)]
+pub(crate) struct OrderRecord {
+    pub(crate) order: String,
+    pub(crate) ends: String,
 }

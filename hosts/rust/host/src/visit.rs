@@ -1,10 +1,8 @@
 //! `Visit`: a connection, which has one request.
 
-use crate::head::Head;
-use crate::limits::{LARGEST_HEAD, Limits};
 use crate::reply::Reply;
-use crate::request::Request;
-use crate::token::Token;
+use crate::request::{Head, LARGEST_HEAD, Request, Token};
+use crate::server::Limits;
 use std::io::{ErrorKind, Read};
 use std::net::{Shutdown, TcpStream};
 use std::time::{Duration, Instant};

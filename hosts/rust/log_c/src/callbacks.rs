@@ -18,7 +18,7 @@ pub type Fold = unsafe extern "C" fn(*mut c_void, u64, *mut *const c_char, *mut 
 pub(crate) struct Host(*mut c_void);
 
 /// What became of a fold.
-pub(crate) enum Folded {
+pub(crate) enum FoldOutcome {
     /// The journal begins with this opening now, which is empty if it has none.
     Opening(Vec<u8>),
     /// There are entries that the log hasn't got.
@@ -47,17 +47,19 @@ impl Host {
         unsafe { give(self.0, from, room.as_mut_ptr().cast(), room.len()) }
     }
 
-    pub(crate) fn fold(&self, fold: Fold, next: u64) -> Folded {
+    pub(crate) fn fold(&self, fold: Fold, next: u64) -> FoldOutcome {
         let (mut opening, mut size): (*const c_char, usize) = (ptr::null(), 0);
         // SAFETY: of `new`.
         let folded = unsafe { fold(self.0, next, &raw mut opening, &raw mut size) };
         match folded {
-            0 if size == 0 => Folded::Opening(Vec::new()),
+            0 if size == 0 => FoldOutcome::Opening(Vec::new()),
             // SAFETY: the host has said where the opening is, and how long.
-            0 => Folded::Opening(unsafe { slice::from_raw_parts(opening.cast(), size) }.to_owned()),
-            1 => Folded::Behind,
-            2 => Folded::Busy,
-            _ => Folded::Lost,
+            0 => FoldOutcome::Opening(
+                unsafe { slice::from_raw_parts(opening.cast(), size) }.to_owned(),
+            ),
+            1 => FoldOutcome::Behind,
+            2 => FoldOutcome::Busy,
+            _ => FoldOutcome::Lost,
         }
     }
 }

@@ -1,6 +1,6 @@
 //! `HostLog`: a log for whose entries the threads of a host wait together.
 
-use crate::callbacks::{Fold, Folded, Give, Host};
+use crate::callbacks::{Fold, FoldOutcome, Give, Host};
 use crate::numbers::{are_entries, are_opening};
 use argus_guardian::log::{EntryLines, Failure, FileLog, Folder, Opening as OpeningLines, Step};
 use std::io;
@@ -148,10 +148,12 @@ impl HostLog {
                 return Ok(false);
             };
             let (written, is_folded) = match host.fold(fold, next) {
-                Folded::Opening(text) => (writer.restart(next, text).map(|()| next), Some(true)),
-                Folded::Behind => (writer.write(next, give, host), None),
-                Folded::Busy => (Ok(next), Some(false)),
-                Folded::Lost => (Err(failure("the host has no opening")), None),
+                FoldOutcome::Opening(text) => {
+                    (writer.restart(next, text).map(|()| next), Some(true))
+                }
+                FoldOutcome::Behind => (writer.write(next, give, host), None),
+                FoldOutcome::Busy => (Ok(next), Some(false)),
+                FoldOutcome::Lost => (Err(failure("the host has no opening")), None),
             };
             self.put_back(writer, &written);
             written?;

@@ -8,14 +8,12 @@ mod host_log;
 mod numbers;
 mod opening;
 mod status;
-mod words;
 
 use callbacks::{Fold, Give, Host, Take};
 use host_log::HostLog;
 use status::Status;
 use std::ffi::{CStr, c_char, c_void};
 use std::ptr::null_mut;
-use words::put;
 
 /// A log that is open.
 pub struct Log(HostLog);
@@ -123,5 +121,19 @@ pub unsafe extern "C" fn argus_log_close(log: *mut Log) {
     if !log.is_null() {
         // SAFETY: as the caller says.
         drop(unsafe { Box::from_raw(log) });
+    }
+}
+
+// Puts the front of a text that fits there, and a zero behind it. The caller has so much room, or none, and then the
+// pointer isn't used.
+unsafe fn put(text: &str, words: *mut c_char, room: usize) {
+    let Some(most) = room.checked_sub(1) else {
+        return;
+    };
+    let size = most.min(text.len());
+    // SAFETY: as the caller says.
+    unsafe {
+        words.copy_from_nonoverlapping(text.as_ptr().cast(), size);
+        *words.add(size) = 0;
     }
 }

@@ -1,8 +1,8 @@
 //! `Batch`: a batch of a log, as it is read back.
 
+use crate::log::batch_log::line_feeds;
 use crate::log::checksum::crc32;
-use crate::log::defect::Defect;
-use crate::log::entry_lines::line_feeds;
+use crate::log::damage::Defect;
 use crate::log::frame::{FORMAT, checked_line, format_in};
 use crate::log::head::Head;
 

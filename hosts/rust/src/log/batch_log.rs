@@ -1,8 +1,6 @@
-//! `BatchLog`: what keeps a guardian's entries.
+//! `BatchLog`: what keeps a guardian's entries; `EntryLines`, `Opening`: what it is given.
 
-use crate::log::entry_lines::EntryLines;
 use crate::log::failure::Failure;
-use crate::log::opening::Opening;
 
 /// What keeps a guardian's entries permanently: a [`FileLog`](crate::log::FileLog), or a log that copies them to other
 /// machines.
@@ -25,4 +23,137 @@ pub trait BatchLog: Send {
     ///
     /// As for [`append`](Self::append); then it isn't known whether the log has the old entries or the opening.
     fn restart(&mut self, opening: &Opening) -> Result<(), Failure>;
+}
+
+/// A piece of a journal's listing: whole lines of entries that follow one another, from a number on.
+///
+/// ```
+/// use argus_guardian::log::EntryLines;
+/// let lines = EntryLines::new(7, "7 begin_top -> a3\n8 commit a3 -> done\n".into()).expect("whole lines");
+/// assert_eq!((lines.first(), lines.next()), (7, 9));
+/// assert_eq!(EntryLines::new(7, "7 begin_top -> a3".into()), None);
+/// ```
+#[derive(Debug, Clone, PartialEq, Eq, Default)]
+pub struct EntryLines {
+    first: u64,
+    count: u64,
+    text: String,
+}
+
+impl EntryLines {
+    /// Lines of which the first one belongs to this entry. `None` if the text doesn't end with a line feed.
+    ///
+    /// ```
+    /// use argus_guardian::log::EntryLines;
+    /// assert!(EntryLines::new(0, String::new()).is_some_and(|none| none.is_empty()));
+    /// ```
+    #[must_use]
+    pub fn new(first: u64, text: String) -> Option<EntryLines> {
+        if !text.is_empty() && !text.ends_with('\n') {
+            return None;
+        }
+        let count = line_feeds(text.as_bytes());
+        Some(EntryLines { first, count, text })
+    }
+
+    /// The number of the first line's entry.
+    ///
+    /// ```
+    /// use argus_guardian::log::EntryLines;
+    /// assert_eq!(EntryLines::default().first(), 0);
+    /// ```
+    #[must_use]
+    pub fn first(&self) -> u64 {
+        self.first
+    }
+
+    /// The number of the entry after these.
+    ///
+    /// ```
+    /// use argus_guardian::log::EntryLines;
+    /// assert_eq!(EntryLines::default().next(), 0);
+    /// ```
+    #[must_use]
+    pub fn next(&self) -> u64 {
+        self.first.saturating_add(self.count)
+    }
+
+    /// Whether there are no lines.
+    ///
+    /// ```
+    /// use argus_guardian::log::EntryLines;
+    /// assert!(EntryLines::default().is_empty());
+    /// ```
+    #[must_use]
+    pub fn is_empty(&self) -> bool {
+        self.count == 0
+    }
+
+    /// The lines, each with its line feed.
+    ///
+    /// ```
+    /// use argus_guardian::log::EntryLines;
+    /// assert_eq!(EntryLines::default().text(), "");
+    /// ```
+    #[must_use]
+    pub fn text(&self) -> &str {
+        &self.text
+    }
+}
+
+/// How many line feeds there are.
+pub(crate) fn line_feeds(bytes: &[u8]) -> u64 {
+    bytes.iter().map(|byte| u64::from(*byte == b'\n')).sum()
+}
+
+/// What a journal begins with after a checkpoint: the opening lines of its listing, and the number of the first entry
+/// after them.
+///
+/// ```
+/// use argus_guardian::log::Opening;
+/// let text = "opening entries 4 actions 1\nopening o0 atomic_record[n:int] {5}\n";
+/// let opening = Opening::new(4, text.into()).expect("whole lines");
+/// assert_eq!((opening.next(), opening.text()), (4, text));
+/// ```
+#[derive(Debug, Clone, PartialEq, Eq)]
+pub struct Opening {
+    next: u64,
+    text: String,
+}
+
+impl Opening {
+    /// The opening with these lines. `None` if the text doesn't end with a line feed.
+    ///
+    /// ```
+    /// use argus_guardian::log::Opening;
+    /// assert_eq!(Opening::new(4, "opening entries 4 actions 1".into()), None);
+    /// ```
+    #[must_use]
+    pub fn new(next: u64, text: String) -> Option<Opening> {
+        text.ends_with('\n').then_some(Opening { next, text })
+    }
+
+    /// The number of the first entry after it.
+    ///
+    /// ```
+    /// use argus_guardian::log::Opening;
+    /// let opening = Opening::new(4, "opening entries 4 actions 1\n".into()).expect("a whole line");
+    /// assert_eq!(opening.next(), 4);
+    /// ```
+    #[must_use]
+    pub fn next(&self) -> u64 {
+        self.next
+    }
+
+    /// Its lines, each with its line feed.
+    ///
+    /// ```
+    /// use argus_guardian::log::Opening;
+    /// let opening = Opening::new(4, "opening entries 4 actions 1\n".into()).expect("a whole line");
+    /// assert_eq!(opening.text(), "opening entries 4 actions 1\n");
+    /// ```
+    #[must_use]
+    pub fn text(&self) -> &str {
+        &self.text
+    }
 }

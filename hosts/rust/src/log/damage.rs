@@ -1,6 +1,5 @@
-//! `Damage`: where and how a log isn't as it was written.
+//! `Damage`: where a log isn't as it was written; `Defect`, how; `LineError`, why a reader didn't take a line.
 
-use crate::log::defect::Defect;
 use crate::log::segment_head::segment_name;
 use std::error;
 use std::fmt;
@@ -49,3 +48,74 @@ impl fmt::Display for Damage {
 }
 
 impl error::Error for Damage {}
+
+/// How a log isn't as it was written.
+///
+/// ```
+/// use argus_guardian::log::Defect;
+/// assert_eq!(Defect::Lines.to_string(), "its lines don't have the checksum that it says");
+/// ```
+#[derive(Debug, Clone, PartialEq, Eq)]
+#[non_exhaustive]
+pub enum Defect {
+    /// No head of a batch is there, or its checksum is wrong.
+    Head,
+    /// The batch's lines don't have the checksum that its head says.
+    Lines,
+    /// The seal of the batch before isn't there, or its checksum is wrong.
+    Seal,
+    /// The batch isn't the one that comes next.
+    Order,
+    /// The file was cut off: it ends before what was written, or before the zeros that were laid out.
+    CutOff,
+    /// The segment's first line isn't there, its checksum is wrong, or it is that of another segment.
+    Segment,
+    /// A segment is missing here.
+    Missing,
+    /// It was written in a format that this version doesn't read.
+    Format(u64),
+    /// A line isn't what the guardian writes there; what its reader says.
+    Line(String),
+}
+
+impl fmt::Display for Defect {
+    fn fmt(&self, f: &mut fmt::Formatter<'_>) -> fmt::Result {
+        match self {
+            Defect::Head => f.write_str("no head of a batch is there"),
+            Defect::Lines => f.write_str("its lines don't have the checksum that it says"),
+            Defect::Seal => f.write_str("the seal of the batch before isn't there"),
+            Defect::Order => f.write_str("it isn't the batch that comes next"),
+            Defect::CutOff => f.write_str("the file was cut off"),
+            Defect::Segment => f.write_str("the segment's first line isn't there"),
+            Defect::Missing => f.write_str("the segment is missing"),
+            Defect::Format(format) => write!(f, "it has format {format}, which isn't known"),
+            Defect::Line(why) => f.write_str(why),
+        }
+    }
+}
+
+/// Why the lines of a batch weren't taken by the reader of a log.
+///
+/// ```
+/// use argus_guardian::log::{Defect, FileLog, LineError, EntryLines, MemoryStorage, OpenError};
+/// let mut log = FileLog::read(MemoryStorage::default(), |_| Ok(()))?.begin()?;
+/// log.append(&EntryLines::new(0, "0 begin_top -> a1\n".into()).expect("a whole line"))?;
+/// let why = "the reply is a0".to_owned();
+/// let fault = || LineError::Fault { line: 0, why: why.clone() };
+/// let found = FileLog::read(log.into_storage(), |_| Err(fault()));
+/// let Err(OpenError::Damaged(damage)) = found else { panic!("it was refused") };
+/// assert_eq!((damage.batch, damage.line, damage.defect), (0, Some(0), Defect::Line(why)));
+/// # Ok::<(), OpenError>(())
+/// ```
+#[derive(Debug, Clone, PartialEq, Eq)]
+pub enum LineError {
+    /// A line isn't what the guardian writes there.
+    Fault {
+        /// Which of the batch's lines it is, counted from 0.
+        line: u64,
+        /// Why it isn't.
+        why: String,
+    },
+    /// Out of memory.
+    OutOfMemory,
+}

@@ -1,23 +1,44 @@
 //! `FileLog`: a log in files, with one process as its writer.
 
 use crate::log::batch::Batch;
-use crate::log::batch_log::BatchLog;
+use crate::log::batch_log::{BatchLog, EntryLines, Opening};
 use crate::log::checksum::crc32;
-use crate::log::entry_lines::EntryLines;
+use crate::log::damage::LineError;
 use crate::log::failure::Failure;
-use crate::log::file_log_options::FileLogOptions;
 use crate::log::folder::Folder;
 use crate::log::found_log::{FoundLog, LastSegment};
 use crate::log::head::{Head, VERSION};
-use crate::log::line_error::LineError;
 use crate::log::open_error::OpenError;
-use crate::log::opening::Opening;
 use crate::log::seal::Seal;
 use crate::log::segment_head::{SegmentHead, continued_line, segment_name};
 use crate::log::segment_list::UNFINISHED;
 use crate::log::step::Step;
 use crate::log::storage::Storage;
 use std::io;
+
+/// The sizes of a log's files, in bytes.
+///
+/// ```
+/// use argus_guardian::log::FileLogOptions;
+/// assert_eq!(FileLogOptions::default().laid_out, 1 << 20);
+/// ```
+#[derive(Debug, Clone, Copy, PartialEq, Eq)]
+pub struct FileLogOptions {
+    /// How many zeros are laid out at the end of a file whenever there are no more: 1 MiB by default. A sync is faster
+    /// if the file doesn't grow, and a full disk is found before a batch is begun.
+    pub laid_out: u64,
+    /// The size from which on no more batches go into a segment: 64 MiB by default.
+    pub segment: u64,
+}
+
+impl Default for FileLogOptions {
+    fn default() -> FileLogOptions {
+        FileLogOptions {
+            laid_out: 1 << 20,
+            segment: 64 << 20,
+        }
+    }
+}
 
 /// A log in files, with one process as its writer: segments of batches, which have whole lines of a journal.
 ///

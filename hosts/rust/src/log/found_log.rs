@@ -2,19 +2,14 @@
 
 use crate::error::Error;
 use crate::log::batch::Batch;
-use crate::log::damage::Damage;
-use crate::log::defect::Defect;
-use crate::log::file_log::FileLog;
-use crate::log::file_log_options::FileLogOptions;
+use crate::log::damage::{Damage, Defect, LineError};
+use crate::log::file_log::{FileLog, FileLogOptions};
 use crate::log::found::Found;
-use crate::log::line_error::LineError;
 use crate::log::open_error::OpenError;
-use crate::log::position::Position;
 use crate::log::segment_head::segment_name;
 use crate::log::segment_list::{SegmentList, damage};
-use crate::log::segment_reader::SegmentReader;
+use crate::log::segment_reader::{Position, SegmentReader, Tail};
 use crate::log::storage::Storage;
-use crate::log::tail::Tail;
 
 /// A log that was read, and isn't begun yet: its files are unchanged.
 ///

@@ -2,10 +2,8 @@
 
 use crate::log::batch_log::BatchLog;
 use crate::log::failure::Failure;
-use crate::log::goal::Goal;
-use crate::log::outgoing::Outgoing;
-use crate::log::piece::Piece;
-use crate::log::progress::{Progress, Turn};
+use crate::log::journal_queue::{JournalQueue, Piece};
+use crate::log::progress::{Goal, Progress, Turn};
 use crate::log::step::Step;
 use crate::shared::Shared;
 use std::fmt;
@@ -18,12 +16,12 @@ use std::thread::{self, Thread};
 /// log hasn't got, and writes them for all; calls go on meanwhile.
 pub(crate) struct Group {
     log: Mutex<Box<dyn BatchLog>>,
-    outgoing: Mutex<Outgoing>,
+    queue: Mutex<JournalQueue>,
     progress: Mutex<Progress>,
     is_broken: AtomicBool,
 }
 
-// A thread that panics is one that was writing, and `Writing` says that the log has failed.
+// A thread that panics is one that was writing, and `WriteTurn` says that the log has failed.
 fn locked<T: ?Sized>(mutex: &Mutex<T>) -> MutexGuard<'_, T> {
     mutex.lock().unwrap_or_else(PoisonError::into_inner)
 }
@@ -33,15 +31,15 @@ impl Group {
     pub(crate) fn new(log: Box<dyn BatchLog>, next: u64) -> Group {
         Group {
             log: Mutex::new(log),
-            outgoing: Mutex::new(Outgoing::from(next)),
+            queue: Mutex::new(JournalQueue::from(next)),
             progress: Mutex::new(Progress::at(next)),
             is_broken: AtomicBool::new(false),
         }
     }
 
     /// What has to be taken. The guardian's mutex has to be held.
-    pub(crate) fn outgoing(&self) -> MutexGuard<'_, Outgoing> {
-        locked(&self.outgoing)
+    pub(crate) fn queue(&self) -> MutexGuard<'_, JournalQueue> {
+        locked(&self.queue)
     }
 
     /// Why the log is broken, if it is.
@@ -68,15 +66,15 @@ impl Group {
 
     // Writes the next piece, in the turn of this thread.
     fn write(&self, shared: &Shared) {
-        let mut writing = Writing {
+        let mut turn = WriteTurn {
             group: self,
             outcome: Err(panicked()),
         };
-        writing.outcome = self.write_piece(shared);
+        turn.outcome = self.write_piece(shared);
     }
 
     fn write_piece(&self, shared: &Shared) -> Result<Option<(u64, bool)>, Failure> {
-        let piece = shared.lend(|guardian| self.outgoing().next_piece(guardian));
+        let piece = shared.lend(|guardian| self.queue().next_piece(guardian));
         let piece =
             piece.map_err(|error| Failure::new(Step::TakeLines, io::Error::other(error)))?;
         let mut log = locked(&self.log);
@@ -98,12 +96,12 @@ fn panicked() -> Failure {
 }
 
 // The turn of a thread that writes; when it ends it wakes the others, after a panic too.
-struct Writing<'g> {
+struct WriteTurn<'g> {
     group: &'g Group,
     outcome: Result<Option<(u64, bool)>, Failure>,
 }
 
-impl Drop for Writing<'_> {
+impl Drop for WriteTurn<'_> {
     fn drop(&mut self) {
         let mut progress = locked(&self.group.progress);
         match &self.outcome {

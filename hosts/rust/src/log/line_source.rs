@@ -2,7 +2,7 @@
 
 use crate::error::Error;
 use crate::guardian::Guardian;
-use crate::log::entry_lines::EntryLines;
+use crate::log::batch_log::EntryLines;
 
 // What the library can't return.
 const UNKNOWN: Error = Error::Unknown(0);

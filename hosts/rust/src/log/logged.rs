@@ -7,13 +7,12 @@ use crate::guardian::Guardian;
 use crate::listing::Listing;
 use crate::log::batch_log::BatchLog;
 use crate::log::failure::Failure;
-use crate::log::goal::Goal;
 use crate::log::group::Group;
 use crate::log::logged_action::LoggedAction;
 use crate::log::logged_error::LoggedError;
-use crate::may_conflict::MayConflict;
+use crate::log::progress::Goal;
 use crate::object::Object;
-use crate::retrying::waits;
+use crate::retrying::{MayConflict, waits};
 use crate::shared::Shared;
 use crate::shared_action::SharedAction;
 use crate::{ActionId, ObjId};
@@ -426,7 +425,7 @@ impl Logged {
     /// # Ok::<(), argus_guardian::log::LoggedError>(())
     /// ```
     pub fn checkpoint_waiting(&self, patience: Duration) -> Result<(), LoggedError> {
-        let fold = |guardian: &Guardian| self.group.outgoing().fold(guardian);
+        let fold = |guardian: &Guardian| self.group.queue().fold(guardian);
         let goal: Result<Goal, CheckpointError> = self.shared()?.fold_waiting(patience, fold);
         let waited = self.group.wait(&self.shared, goal?);
         waited.map_err(LoggedError::InDoubt)

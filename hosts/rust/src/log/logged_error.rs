@@ -3,8 +3,8 @@
 use crate::Error;
 use crate::checkpoint_error::CheckpointError;
 use crate::log::failure::Failure;
-use crate::may_conflict::MayConflict;
 use crate::refusal::Refusal;
+use crate::retrying::MayConflict;
 use crate::signal::Signal;
 use std::error;
 use std::fmt;

@@ -1,18 +1,69 @@
-//! How a guardian with a log is opened.
+//! How a guardian with a log is opened: `LoggedOptions`, and what was `Recovered`.
 
 use crate::guardian::Guardian;
 use crate::log::batch_log::BatchLog;
+use crate::log::file_log::FileLogOptions;
 use crate::log::folder::Folder;
 use crate::log::found::Found;
-use crate::log::goal::Goal;
 use crate::log::logged::Logged;
-use crate::log::logged_options::LoggedOptions;
 use crate::log::open_error::OpenError;
-use crate::log::recovered::Recovered;
+use crate::log::progress::Goal;
 use crate::log::recovery::recovered;
 use crate::log::storage::Storage;
+use crate::shared::Shared;
 use std::path::Path;
 use std::time::Duration;
+
+/// How a guardian with a log is opened.
+///
+/// ```
+/// use argus_guardian::{Shared, log::LoggedOptions};
+/// assert_eq!(LoggedOptions::default().patience, Shared::PATIENCE);
+/// ```
+#[derive(Debug, Clone, Copy, PartialEq, Eq)]
+pub struct LoggedOptions {
+    /// How long an access waits for its lock at most: a second by default.
+    pub patience: Duration,
+    /// The sizes of the log's files.
+    pub files: FileLogOptions,
+}
+
+impl Default for LoggedOptions {
+    fn default() -> LoggedOptions {
+        LoggedOptions {
+            patience: Shared::PATIENCE,
+            files: FileLogOptions::default(),
+        }
+    }
+}
+
+/// What was found and done when a guardian with a log was opened.
+///
+/// ```
+/// use argus_guardian::log::Recovered;
+/// assert!(Recovered::default().is_new());
+/// ```
+#[derive(Debug, Clone, PartialEq, Eq, Default)]
+pub struct Recovered {
+    /// What the log had. If something was torn, it has been cut off.
+    pub found: Found,
+    /// How many entries it took to abort the actions that were live when the log ended.
+    pub aborted: u64,
+}
+
+impl Recovered {
+    /// Whether the folder had no log before. If one should be there, a disk may not be mounted.
+    ///
+    /// ```
+    /// use argus_guardian::log::{Found, Recovered};
+    /// let found = Found { segments: 1, ..Found::default() };
+    /// assert!(!Recovered { found, aborted: 0 }.is_new());
+    /// ```
+    #[must_use]
+    pub fn is_new(&self) -> bool {
+        self.found.segments == 0
+    }
+}
 
 impl Logged {
     /// Opens the guardian whose log is in a folder, or a new one if there is no log: makes each call of the log again

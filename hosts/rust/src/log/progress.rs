@@ -1,9 +1,24 @@
 //! `Progress`: how far a log has come, and which threads wait for it.
 
 use crate::log::failure::Failure;
-use crate::log::goal::Goal;
 use std::mem;
 use std::thread::{self, Thread, ThreadId};
+
+/// What a thread waits for.
+#[derive(Debug, Clone, Copy, PartialEq, Eq)]
+pub(crate) struct Goal {
+    /// All entries before this one are in the log.
+    pub(crate) entry: u64,
+    /// So many openings are in the log.
+    pub(crate) openings: u64,
+}
+
+impl Goal {
+    /// All entries before this one are in the log.
+    pub(crate) fn entry(entry: u64) -> Goal {
+        Goal { entry, openings: 0 }
+    }
+}
 
 /// How far a log has come, and which threads wait for it.
 #[derive(Debug)]

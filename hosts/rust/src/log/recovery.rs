@@ -3,14 +3,12 @@
 use crate::error::Error;
 use crate::guardian::Guardian;
 use crate::line_fault::LineFault;
+use crate::log::damage::LineError;
 use crate::log::file_log::FileLog;
 use crate::log::found_log::FoundLog;
-use crate::log::line_error::LineError;
 use crate::log::open_error::OpenError;
 use crate::log::storage::Storage;
-use crate::opened::Opened;
-use crate::resuming::Resuming;
-use crate::taken_end::TakenEnd;
+use crate::resuming::{Opened, Resuming, TakenEnd};
 
 /// A log that was read, and the guardian of its lines.
 pub(crate) fn recovered<S: Storage>(storage: S) -> Result<(FoundLog<S>, Guardian), OpenError> {

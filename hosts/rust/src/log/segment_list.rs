@@ -1,11 +1,10 @@
 //! `SegmentList`: which segments of a log are there.
 
-use crate::log::damage::Damage;
-use crate::log::defect::Defect;
+use crate::log::damage::{Damage, Defect};
 use crate::log::frame::{FORMAT, LONGEST, checked_line, format_in};
 use crate::log::open_error::OpenError;
-use crate::log::position::Position;
 use crate::log::segment_head::{SegmentHead, segment_name, segment_named};
+use crate::log::segment_reader::Position;
 use crate::log::storage::Storage;
 
 /// The name of a segment's file until it is complete.

@@ -1,17 +1,40 @@
-//! `SegmentReader`: the batches of one segment, read one after another.
+//! `SegmentReader`: the batches of one segment, read one after another; `Position`, `Tail`: how far it has come.
 
 use crate::log::batch::Batch;
+use crate::log::batch_log::line_feeds;
 use crate::log::checksum::crc32;
-use crate::log::damage::Damage;
-use crate::log::defect::Defect;
-use crate::log::entry_lines::line_feeds;
+use crate::log::damage::{Damage, Defect};
+use crate::log::found::Torn;
 use crate::log::frame::{FORMAT, checked_line, format_in};
 use crate::log::head::Head;
-use crate::log::position::Position;
 use crate::log::seal::Seal;
 use crate::log::segment_head::{SegmentHead, continued_in};
-use crate::log::tail::Tail;
-use crate::log::torn::Torn;
+
+/// What comes next in a log.
+#[derive(Debug, Clone, Copy, PartialEq, Eq)]
+pub(crate) struct Position {
+    pub(crate) segment: u64,
+    pub(crate) batch: u64,
+    pub(crate) entry: u64,
+    /// The epoch of what is before: epochs never decrease.
+    pub(crate) epoch: u64,
+}
+
+/// Where a segment's complete batches end, and what comes after them.
+#[derive(Debug, Clone, PartialEq, Eq)]
+pub(crate) struct Tail {
+    /// From here on, what was read may be only in the system's memory, as after a failed sync: the byte after the lines
+    /// of the last batch that has a seal.
+    pub(crate) from: u64,
+    /// The byte after the last complete batch, and after its seal if it has one.
+    pub(crate) end: u64,
+    /// The seal that the last complete batch lacks.
+    pub(crate) seal: Option<Seal>,
+    /// What is torn after it.
+    pub(crate) torn: Option<Torn>,
+    /// How long the file is. After all this it has zeros.
+    pub(crate) length: u64,
+}
 
 /// The batches of one segment, read one after another.
 ///
@@ -33,7 +56,7 @@ pub(crate) struct SegmentReader<'b> {
 }
 
 // A batch that was read, and the byte after its lines.
-struct Found<'b> {
+struct WholeBatch<'b> {
     batch: Batch<'b>,
     seal: Seal,
     end: usize,
@@ -41,7 +64,7 @@ struct Found<'b> {
 
 // What is found where a batch may begin.
 enum Here<'b> {
-    Batch(Found<'b>),
+    Batch(WholeBatch<'b>),
     // Zeros: the segment ends, as it should.
     End,
     // A line says that the next segment continues this one.
@@ -101,8 +124,8 @@ impl<'b> SegmentReader<'b> {
     }
 
     // Continues after a batch.
-    fn take(&mut self, found: &Found<'b>) -> Result<Batch<'b>, Damage> {
-        let Found { batch, seal, end } = *found;
+    fn take(&mut self, found: &WholeBatch<'b>) -> Result<Batch<'b>, Damage> {
+        let WholeBatch { batch, seal, end } = *found;
         self.at = end;
         self.next.batch += 1;
         self.next.entry = batch.first + batch.entries;
@@ -174,7 +197,7 @@ impl<'b> SegmentReader<'b> {
             is_opening: head.is_opening,
             lines,
         };
-        Ok(Here::Batch(Found { batch, seal, end }))
+        Ok(Here::Batch(WholeBatch { batch, seal, end }))
     }
 
     // A line that says which segment continues this one, and what comes after it.

@@ -23,7 +23,7 @@ pub const OPTIONS: LoggedOptions = LoggedOptions {
 
 /// What became of an order.
 #[derive(Debug, Clone, Copy, PartialEq, Eq)]
-pub enum Carried {
+pub enum OrderOutcome {
     /// It is carried out, and that is acknowledged.
     Out,
     /// It was carried out before: it was sent again. That is acknowledged, too.
@@ -97,14 +97,14 @@ fn transfer_each(top: &LoggedAction<'_>, order: &Order) -> Result<(), LoggedErro
 }
 
 /// Carries out an order: a topaction, a subaction for each transfer, and the key.
-pub fn carry_out(bank: &Logged, client: u32, number: i64) -> Result<Carried, LoggedError> {
+pub fn carry_out(bank: &Logged, client: u32, number: i64) -> Result<OrderOutcome, LoggedError> {
     let order = Order::drawn(client, number.unsigned_abs(), ACCOUNTS);
     let top = bank.topaction()?;
     top.lock(last_of(client))?;
     if int(&top, last_of(client))? >= number {
         // Its commit returns once that by which it was carried out is in the log.
         top.commit()?;
-        return Ok(Carried::Before);
+        return Ok(OrderOutcome::Before);
     }
     for account in order.accounts() {
         top.lock(ObjId::numbered(account))?;
@@ -113,10 +113,10 @@ pub fn carry_out(bank: &Logged, client: u32, number: i64) -> Result<Carried, Log
     top.set(last_of(client), 0, number)?;
     if order.is_cancelled {
         top.abort()?;
-        return Ok(Carried::Cancelled);
+        return Ok(OrderOutcome::Cancelled);
     }
     top.commit()?;
-    Ok(Carried::Out)
+    Ok(OrderOutcome::Out)
 }
 
 /// A client's orders, until the log fails or the bank has had enough: its last order once more, since the
@@ -129,10 +129,10 @@ pub fn serve(
 ) -> Result<(), LoggedError> {
     let last = number(bank, last_of(client))?;
     if last >= 0 {
-        assert_eq!(carry_out(bank, client, last)?, Carried::Before);
+        assert_eq!(carry_out(bank, client, last)?, OrderOutcome::Before);
     }
     for number in last + 1.. {
-        if carry_out(bank, client, number)? == Carried::Out && !note(number) {
+        if carry_out(bank, client, number)? == OrderOutcome::Out && !note(number) {
             break;
         }
     }

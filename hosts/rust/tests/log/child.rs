@@ -47,6 +47,8 @@ impl Child {
         let mut command = Command::new(env::current_exe().expect("this program"));
         command
             .args([test, "--exact", "--ignored", "--nocapture"])
+            // With one thread, as on one processor, a test's name would stand before the first thing that it says.
+            .arg("--test-threads=2")
             .env(FOLDER, folder)
             .envs(words.iter().map(|(name, word)| (name, word)))
             .stdout(Stdio::piped());

@@ -8,13 +8,13 @@ use std::io::ErrorKind;
 /// What a client knows of a log: the lines since its opening that were acknowledged, and the number of the
 /// next entry.
 #[derive(Default)]
-struct Known {
+struct Expectation {
     acknowledged: String,
     next: u64,
 }
 
 /// Batches, a checkpoint in their middle, and more of them: until something fails.
-fn work<S: Storage>(log: &mut FileLog<S>, known: &mut Known) -> bool {
+fn work<S: Storage>(log: &mut FileLog<S>, known: &mut Expectation) -> bool {
     for round in 0..2 {
         known.acknowledged += &append(log, 8);
         known.next = log.next();
@@ -33,7 +33,7 @@ fn work<S: Storage>(log: &mut FileLog<S>, known: &mut Known) -> bool {
 
 // What a reader may find: what was acknowledged, with the batch in doubt or without it, or the opening in
 // doubt.
-fn may_be_found(known: &Known) -> Vec<String> {
+fn may_be_found(known: &Expectation) -> Vec<String> {
     let in_doubt = lines_from(known.next);
     vec![
         known.acknowledged.clone(),
@@ -45,7 +45,7 @@ fn may_be_found(known: &Known) -> Vec<String> {
 fn fail_at(fails_at: u64, harm: Harm) -> bool {
     let storage = FailingStorage::new(MemoryStorage::default(), fails_at, harm);
     let (_, found) = read(storage).expect("empty");
-    let mut known = Known::default();
+    let mut known = Expectation::default();
     let mut log = match found.begin_with(SMALL) {
         Ok(log) => log,
         Err(OpenError::Broken(_)) => return false,

@@ -11,19 +11,19 @@ use std::thread;
 const THREADS: usize = 4;
 const ROUNDS: u32 = 20;
 
-type Kept = Arc<Mutex<Option<Folder>>>;
+type FolderSlot = Arc<Mutex<Option<Folder>>>;
 
 fn is_locked(path: &Path) -> bool {
     matches!(Folder::open(path), Err(OpenError::Locked))
 }
 
 // Drops the folder.
-fn let_go(kept: &Kept) {
+fn let_go(kept: &FolderSlot) {
     drop(kept.lock().expect("no panic").take());
 }
 
 // A forked process, which drops its copy of the folder before it becomes another program.
-fn let_go_in_fork(kept: &Kept) {
+fn let_go_in_fork(kept: &FolderSlot) {
     let copy = Arc::clone(kept);
     let in_child = move || {
         let_go(&copy);

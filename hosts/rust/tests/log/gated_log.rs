@@ -19,23 +19,23 @@ pub enum Say {
 
 /// A log in memory, whose writes a test lets through one by one.
 pub struct GatedLog {
-    begun: Sender<Kept>,
+    begun: Sender<Piece>,
     said: Receiver<Say>,
-    kept: Arc<Mutex<Vec<Kept>>>,
+    kept: Arc<Mutex<Vec<Piece>>>,
 }
 
 /// What the log was handed.
 #[derive(Debug, Clone, PartialEq, Eq)]
-pub enum Kept {
+pub enum Piece {
     Lines(String),
     Opening(String),
 }
 
 /// The test's end.
 pub struct Gate {
-    begun: Receiver<Kept>,
+    begun: Receiver<Piece>,
     say: Sender<Say>,
-    kept: Arc<Mutex<Vec<Kept>>>,
+    kept: Arc<Mutex<Vec<Piece>>>,
 }
 
 impl GatedLog {
@@ -52,7 +52,7 @@ impl GatedLog {
         (log, Gate { begun, say, kept })
     }
 
-    fn keep(&mut self, piece: Kept) -> Result<(), Failure> {
+    fn keep(&mut self, piece: Piece) -> Result<(), Failure> {
         self.begun.send(piece.clone()).expect("the test waits");
         match self.said.recv_timeout(LONG).expect("the test says") {
             Say::Go => {
@@ -67,17 +67,17 @@ impl GatedLog {
 
 impl BatchLog for GatedLog {
     fn append(&mut self, lines: &EntryLines) -> Result<(), Failure> {
-        self.keep(Kept::Lines(lines.text().to_owned()))
+        self.keep(Piece::Lines(lines.text().to_owned()))
     }
 
     fn restart(&mut self, opening: &Opening) -> Result<(), Failure> {
-        self.keep(Kept::Opening(opening.text().to_owned()))
+        self.keep(Piece::Opening(opening.text().to_owned()))
     }
 }
 
 impl Gate {
     /// The next write, once it has begun.
-    pub fn begun(&self) -> Kept {
+    pub fn begun(&self) -> Piece {
         self.begun.recv_timeout(LONG).expect("a write")
     }
 
@@ -86,13 +86,13 @@ impl Gate {
     }
 
     /// Lets the next write through.
-    pub fn pass(&self) -> Kept {
+    pub fn pass(&self) -> Piece {
         let piece = self.begun();
         self.say(Say::Go);
         piece
     }
 
-    pub fn kept(&self) -> Vec<Kept> {
+    pub fn kept(&self) -> Vec<Piece> {
         self.kept.lock().expect("no panic").clone()
     }
 }

@@ -1,6 +1,6 @@
 //! Commits that wait for a log together, and what they are told when it fails.
 
-use crate::gated_log::{Gate, GatedLog, Kept, Say};
+use crate::gated_log::{Gate, GatedLog, Piece, Say};
 use argus_guardian::log::{Logged, LoggedAction, LoggedError};
 use argus_guardian::{Change, Error, Guardian, ObjId, Refusal, Value};
 use std::sync::Arc;
@@ -16,8 +16,8 @@ fn logged() -> (Logged, Gate) {
     (Logged::over(guardian, Box::new(log), LONG), gate)
 }
 
-fn lines(text: &[&str]) -> Kept {
-    Kept::Lines(text.join("\n") + "\n")
+fn lines(text: &[&str]) -> Piece {
+    Piece::Lines(text.join("\n") + "\n")
 }
 
 // Waits until so many entries were made.
@@ -72,7 +72,7 @@ fn calls_go_on_while_a_batch_is_written_and_commits_share_the_next() {
         until_entries(&logged, 10);
         gate.say(Say::Go);
         first.join().expect("no panic").expect("acknowledged");
-        let Kept::Lines(second) = gate.pass() else {
+        let Piece::Lines(second) = gate.pass() else {
             panic!("lines");
         };
         assert_eq!(second.lines().count(), 8);
@@ -208,7 +208,7 @@ fn a_checkpoint_comes_behind_all_lines() {
             gate.pass(),
             lines(&["2 begin_top -> a1", "3 abort a1 -> done"])
         );
-        let opening = Kept::Opening("opening entries 4 actions 2\n".to_owned());
+        let opening = Piece::Opening("opening entries 4 actions 2\n".to_owned());
         assert_eq!(gate.begun(), opening);
         thread::sleep(Duration::from_millis(30));
         assert!(!folds.is_finished());
@@ -261,7 +261,7 @@ fn what_runs_again_is_acknowledged_once() {
                 Ok(Value::Int(tries))
             })
         });
-        let Kept::Lines(text) = gate.pass() else {
+        let Piece::Lines(text) = gate.pass() else {
             panic!("lines");
         };
         assert_eq!(text.matches(" commit ").count(), 1);

@@ -43,6 +43,8 @@ fn child(folder: &Path) -> Child {
             "--exact",
             "--ignored",
             "--nocapture",
+            // With one thread, as on one processor, a test's name would stand before the first thing that it says.
+            "--test-threads=2",
         ])
         .env(FOLDER, folder)
         .stdout(Stdio::piped())

@@ -8,13 +8,13 @@ use argus_guardian::log::{FileLog, MemoryStorage, OpenError, Storage};
 const LIVES: u64 = 3000;
 
 /// What is known of a log: the lines since its opening that were acknowledged, and what may follow them.
-struct Known {
+struct Expectation {
     text: String,
     next: u64,
     in_doubt: Option<String>,
 }
 
-impl Known {
+impl Expectation {
     /// What a reader may find.
     fn allows(&self, found: &str) -> bool {
         found == self.text || self.in_doubt.as_deref() == Some(found)
@@ -42,7 +42,7 @@ impl Known {
 }
 
 // Reads what a power cut has left, and goes on until the next one.
-fn live(memory: MemoryStorage, known: &mut Known, chance: &mut Chance) -> MemoryStorage {
+fn live(memory: MemoryStorage, known: &mut Expectation, chance: &mut Chance) -> MemoryStorage {
     let left = 1 + chance.below(60) as u64;
     let power = Handle::new(PowerStorage::of(memory, left));
     let (contents, found) = read(power.clone()).expect("a log that may be read");
@@ -70,7 +70,7 @@ fn live(memory: MemoryStorage, known: &mut Known, chance: &mut Chance) -> Memory
 #[test]
 fn no_power_cut_loses_what_was_acknowledged() {
     let mut chance = Chance(11);
-    let mut known = Known {
+    let mut known = Expectation {
         text: String::new(),
         next: 0,
         in_doubt: None,

@@ -80,6 +80,8 @@ impl Reckoner {
                 "--exact",
                 "--ignored",
                 "--nocapture",
+                // With one thread, as on one processor, a test's name would stand before the first thing that it says.
+                "--test-threads=2",
             ])
             .env(ENDPOINT, proxy.endpoint())
             .envs(words.iter().map(|(name, word)| (name, word)))

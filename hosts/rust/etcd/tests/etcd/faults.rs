@@ -6,7 +6,7 @@
 
 use crate::clock::Clock;
 use crate::cluster::has_etcd;
-use crate::host::Said;
+use crate::host::Report;
 use crate::hosts::{Hosts, until};
 use crate::proxy::Way;
 use crate::replica::LEASE;
@@ -79,7 +79,7 @@ fn refused(hosts: &Hosts, at: usize, epoch: u64, since: Instant, late: Instant) 
     let mut clients: Vec<u32> = late
         .iter()
         .filter_map(|(_, said)| match said {
-            Said::Acknowledged {
+            Report::Acknowledged {
                 epoch: it, client, ..
             } if *it == epoch => Some(*client),
             _ => None,
@@ -160,7 +160,7 @@ fn hang_two_nodes(hosts: &mut Hosts, first: usize, under: &str) {
     thread::sleep(LEASE + Duration::from_secs(1));
     // What was on its way may have come in the first moments; then nothing can.
     let late = hosts.said_since(since + Duration::from_secs(2)).into_iter();
-    let late = late.filter(|(_, said)| matches!(said, Said::Acknowledged { .. }));
+    let late = late.filter(|(_, said)| matches!(said, Report::Acknowledged { .. }));
     assert_eq!(late.count(), 0, "one node of three has acknowledged orders");
     let again = Instant::now();
     for node in hung {

@@ -1,10 +1,9 @@
 //! `Host`: a host of the bank as the test sees it.
 
 use crate::network::Network;
-use crate::node::Node;
+use crate::node::{Node, send};
 use crate::proxy::{Proxy, Way};
 use crate::replica::{ENDPOINTS, NAME};
-use crate::signals::send;
 use std::env;
 use std::io::{BufRead, BufReader, Write};
 use std::net::Ipv4Addr;
@@ -15,7 +14,7 @@ use std::time::Instant;
 
 /// What a host has said.
 #[derive(Debug, Clone, PartialEq, Eq)]
-pub(crate) enum Said {
+pub(crate) enum Report {
     Leads(u64),
     Acknowledged {
         epoch: u64,
@@ -31,27 +30,27 @@ pub(crate) enum Said {
     Other(String),
 }
 
-fn said_in(line: &str) -> Said {
+fn said_in(line: &str) -> Report {
     let words: Vec<&str> = line.split(' ').collect();
     let number = |at: usize| words[at].parse::<u64>().expect("a number");
     match words[0] {
-        "leads" => Said::Leads(number(1)),
-        "acknowledged" => Said::Acknowledged {
+        "leads" => Report::Leads(number(1)),
+        "acknowledged" => Report::Acknowledged {
             epoch: number(1),
             client: words[2].parse().expect("a number"),
             number: words[3].parse().expect("a number"),
         },
-        "deposed" => Said::Deposed(number(1)),
-        "rested" => Said::Rested,
-        "journal" => Said::Journal {
+        "deposed" => Report::Deposed(number(1)),
+        "rested" => Report::Rested,
+        "journal" => Report::Journal {
             entries: number(1),
             sum: u64::from_str_radix(words[2], 16).expect("a checksum"),
         },
-        _ => Said::Other(line.to_owned()),
+        _ => Report::Other(line.to_owned()),
     }
 }
 
-type AllSaid = Arc<Mutex<Vec<(Instant, Said)>>>;
+type AllSaid = Arc<Mutex<Vec<(Instant, Report)>>>;
 
 /// A host of the bank, in a process of its own, and the ways from it to the nodes.
 pub(crate) struct Host {
@@ -96,6 +95,8 @@ fn begun(
             "--exact",
             "--ignored",
             "--nocapture",
+            // With one thread, as on one processor, a test's name would stand before the first thing that it says.
+            "--test-threads=2",
         ])
         .env(NAME, name)
         .env(ENDPOINTS, endpoints.join(" "))
@@ -142,7 +143,7 @@ impl Host {
     }
 
     /// What it has said since then, and when.
-    pub(crate) fn said_since(&self, since: Instant) -> Vec<(Instant, Said)> {
+    pub(crate) fn said_since(&self, since: Instant) -> Vec<(Instant, Report)> {
         let said = self.said.lock().expect("no panic");
         said.iter().filter(|it| it.0 >= since).cloned().collect()
     }

@@ -1,16 +1,16 @@
 //! `Hosts`: three hosts of the bank over three nodes of etcd, and what is asked of them after each fault.
 
 use crate::cluster::Cluster;
-use crate::host::{Host, Said};
-use crate::kept_log::KeptLog;
+use crate::host::{Host, Report};
 use crate::leading::begins_opening;
 use crate::ledger::Ledger;
 use crate::node::Node;
 use crate::replica::{options, sum_of};
 use argus_guardian::Listing;
-use argus_guardian::log::{Logged, Recovery};
+use argus_guardian::log::{BatchLog, EntryLines, Failure, Logged, Opening, Recovery, Step};
 use argus_guardian_etcd::EtcdLog;
 use std::collections::BTreeSet;
+use std::io::ErrorKind;
 use std::thread;
 use std::time::{Duration, Instant};
 
@@ -24,6 +24,19 @@ pub(crate) struct Hosts {
     // What was said before was counted.
     counted: Instant,
     begun: Instant,
+}
+
+/// A log that takes nothing, for guardians that are only read.
+struct ReadOnlyLog;
+
+impl BatchLog for ReadOnlyLog {
+    fn append(&mut self, _: &EntryLines) -> Result<(), Failure> {
+        Err(Failure::new(Step::Other, ErrorKind::Unsupported.into()))
+    }
+
+    fn restart(&mut self, _: &Opening) -> Result<(), Failure> {
+        Err(Failure::new(Step::Other, ErrorKind::Unsupported.into()))
+    }
 }
 
 /// Waits until there is one, and fails once that takes too long.
@@ -58,7 +71,7 @@ impl Hosts {
     }
 
     /// All that was said since then, in the order of time.
-    pub(crate) fn said_since(&self, since: Instant) -> Vec<(Instant, Said)> {
+    pub(crate) fn said_since(&self, since: Instant) -> Vec<(Instant, Report)> {
         let mut said: Vec<_> = self
             .each
             .iter()
@@ -73,7 +86,7 @@ impl Hosts {
         let led = self.each.iter().enumerate().flat_map(|(at, host)| {
             let said = host.said_since(self.begun).into_iter();
             said.filter_map(move |(_, said)| match said {
-                Said::Leads(epoch) => Some((epoch, at)),
+                Report::Leads(epoch) => Some((epoch, at)),
                 _ => None,
             })
         });
@@ -86,7 +99,7 @@ impl Hosts {
         until("an order of the next leader", || {
             let said = self.said_since(since).into_iter();
             let mut later = said.filter(
-                |(_, said)| matches!(said, Said::Acknowledged { epoch: it, .. } if *it > epoch),
+                |(_, said)| matches!(said, Report::Acknowledged { epoch: it, .. } if *it > epoch),
             );
             later.next().map(|(at, _)| at - since)
         })
@@ -98,7 +111,7 @@ impl Hosts {
             let said = self.said_since(since);
             let acknowledged = said
                 .iter()
-                .filter(|it| matches!(it.1, Said::Acknowledged { .. }));
+                .filter(|it| matches!(it.1, Report::Acknowledged { .. }));
             (acknowledged.count() >= orders).then_some(())
         });
     }
@@ -108,7 +121,7 @@ impl Hosts {
         let said = self.said_since(since);
         let acknowledged = said
             .iter()
-            .filter(|it| matches!(it.1, Said::Acknowledged { .. }));
+            .filter(|it| matches!(it.1, Report::Acknowledged { .. }));
         let mut last = since;
         let gaps = acknowledged.map(|(at, _)| *at - std::mem::replace(&mut last, *at));
         gaps.max().unwrap_or_default()
@@ -128,7 +141,7 @@ impl Hosts {
         let asked = Instant::now();
         until("the leader to rest", || {
             let said = self.said_since(asked);
-            said.iter().any(|it| it.1 == Said::Rested).then_some(())
+            said.iter().any(|it| it.1 == Report::Rested).then_some(())
         });
         self.tell("say");
         let journals = until("all journals", || {
@@ -149,7 +162,7 @@ impl Hosts {
     /// When the host has said that it was refused as the leader of this epoch.
     pub(crate) fn deposed(&self, at: usize, epoch: u64) -> Option<Instant> {
         let said = self.each[at].said_since(self.begun).into_iter();
-        let mut deposed = said.filter(|(_, said)| *said == Said::Deposed(epoch));
+        let mut deposed = said.filter(|(_, said)| *said == Report::Deposed(epoch));
         deposed.next().map(|(when, _)| when)
     }
 
@@ -157,11 +170,11 @@ impl Hosts {
         self.each.iter_mut().for_each(|it| it.tell(line));
     }
 
-    fn check(&mut self, said: &[(Instant, Said)], journals: &BTreeSet<(u64, u64)>) -> String {
+    fn check(&mut self, said: &[(Instant, Report)], journals: &BTreeSet<(u64, u64)>) -> String {
         let mut orders: Vec<(u32, i64)> = said
             .iter()
             .filter_map(|(_, said)| match *said {
-                Said::Acknowledged { client, number, .. } => Some((client, number)),
+                Report::Acknowledged { client, number, .. } => Some((client, number)),
                 _ => None,
             })
             .collect();
@@ -200,14 +213,14 @@ impl Hosts {
         })
         .expect("whole");
         let guardian = recovery.into_guardian().expect("made");
-        Logged::over(guardian, Box::new(KeptLog), LONG)
+        Logged::over(guardian, Box::new(ReadOnlyLog), LONG)
     }
 }
 
 // What a host has said of its journal.
-fn journal_of(said: &[(Instant, Said)]) -> Option<(u64, u64)> {
+fn journal_of(said: &[(Instant, Report)]) -> Option<(u64, u64)> {
     said.iter().find_map(|(_, said)| match said {
-        Said::Journal { entries, sum } => Some((*entries, *sum)),
+        Report::Journal { entries, sum } => Some((*entries, *sum)),
         _ => None,
     })
 }

@@ -16,7 +16,6 @@ mod faults;
 mod followers;
 mod host;
 mod hosts;
-mod kept_log;
 mod leading;
 #[path = "../../../tests/log/ledger.rs"]
 mod ledger;
@@ -30,4 +29,3 @@ mod quotas;
 mod replica;
 mod scratch;
 mod secured;
-mod signals;

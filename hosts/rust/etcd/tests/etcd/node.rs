@@ -1,10 +1,16 @@
 //! `Node`: a node of etcd on loopback.
 
-use crate::signals::send;
 use std::env;
 use std::fs::File;
 use std::path::{Path, PathBuf};
 use std::process::{Child, Command, Stdio};
+
+/// Sends a signal by its name to a process that is still this one's child.
+pub(crate) fn send(child: &Child, signal: &str) {
+    let pid = child.id().to_string();
+    let sent = Command::new("kill").args(["-s", signal, &pid]).status();
+    assert!(sent.expect("kill is there").success(), "{signal} to {pid}");
+}
 
 /// etcd's program, wherever it is installed. It gets `PATH` alone: etcd takes options from the environment.
 pub(crate) fn etcd() -> Command {

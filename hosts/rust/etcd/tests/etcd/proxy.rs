@@ -29,10 +29,10 @@ pub(crate) enum Way {
 /// Stands between a host and a node, and lets through what the test says.
 pub(crate) struct Proxy {
     endpoint: String,
-    shared: Arc<Shared>,
+    shared: Arc<Passage>,
 }
 
-struct Shared {
+struct Passage {
     node: String,
     way: AtomicU8,
     // So many transactions go through before the way is cut; none is counted below zero.
@@ -40,7 +40,7 @@ struct Shared {
     ends: AtomicBool,
 }
 
-impl Shared {
+impl Passage {
     fn is(&self, way: Way) -> bool {
         self.way.load(Ordering::SeqCst) == way as u8
     }
@@ -66,7 +66,7 @@ impl Proxy {
     pub(crate) fn before_at(node: &str, address: Ipv4Addr) -> Proxy {
         let listener = TcpListener::bind((address, 0)).expect("a port is free");
         let place = listener.local_addr().expect("bound");
-        let shared = Arc::new(Shared {
+        let shared = Arc::new(Passage {
             node: node.trim_start_matches("http://").to_owned(),
             way: AtomicU8::new(Way::Open as u8),
             left: AtomicI64::new(-1),
@@ -110,7 +110,7 @@ impl Drop for Proxy {
     }
 }
 
-fn serve(listener: &TcpListener, shared: &Arc<Shared>) {
+fn serve(listener: &TcpListener, shared: &Arc<Passage>) {
     for host in listener.incoming().map_while(Result::ok) {
         if shared.ends.load(Ordering::SeqCst) {
             return;
@@ -132,7 +132,7 @@ fn clone(stream: &TcpStream) -> TcpStream {
 }
 
 // Copies what comes, as the way lets it through, until one end closes.
-fn pump(mut from: TcpStream, mut to: TcpStream, shared: &Shared, is_request: bool) {
+fn pump(mut from: TcpStream, mut to: TcpStream, shared: &Passage, is_request: bool) {
     let mut room = vec![0; 64 * 1024];
     let mut is_lossy = false;
     while !shared.ends.load(Ordering::SeqCst) {

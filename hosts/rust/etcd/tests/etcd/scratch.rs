@@ -9,7 +9,7 @@ pub(crate) struct Scratch(PathBuf);
 impl Scratch {
     pub(crate) fn new(name: &str) -> Scratch {
         let above = env::var_os("ARGUS_ETCD_SCRATCH").map_or_else(env::temp_dir, PathBuf::from);
-        let path = above.join(format!("argus-etcd-{name}-{}", process::id()));
+        let path = above.join(format!("argus-test-{name}-{}", process::id()));
         let _ = fs::remove_dir_all(&path);
         fs::create_dir_all(&path).expect("made");
         Scratch(path)

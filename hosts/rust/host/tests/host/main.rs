@@ -12,5 +12,6 @@ mod kills;
 mod node;
 mod replicated;
 mod routes;
+#[path = "../../../etcd/tests/etcd/scratch.rs"]
 mod scratch;
 mod secured;

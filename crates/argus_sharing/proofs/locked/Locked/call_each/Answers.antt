@@ -2,7 +2,7 @@
 use Rattle.std.proofs.Common.{[], ap, arith, length, map, subst, suc, sym, true, ◌++◌, ◌+◌, ◌∙◌}
 use Rattle.std.proofs.Common.{◌∷◌, ◌≡◌}
 use Rattle.argus_entries.specs.Call.{plain_call}
-use Rattle.argus_receipts.specs.Receipt.{plain_receipt}
+use Rattle.argus_sharing.specs.Receipt.{plain_receipt}
 use Rattle.argus_sharing.specs.CallEach.{added_by_calls, after_calls, end_of, is_met, receipts_of}
 use Rattle.argus_sharing.specs.Following.{GoesOn}
 use Rattle.argus_sharing.specs.Locked.{LockedState}

@@ -1,7 +1,7 @@
 -- The calls so far have the receipts so far, and those that are left go on from there.
 use Rattle.std.proofs.Common.{drop, length, map, ◌++◌, ◌+◌, ◌≡◌, ℕ, ◌≤◌}
 use Rattle.argus_board.specs.BoardView.{BoardView}
-use Rattle.argus_receipts.specs.Receipt.{plain_receipt}
+use Rattle.argus_sharing.specs.Receipt.{plain_receipt}
 use Rattle.argus_sharing.specs.CallEach.{added_by_calls, after_calls, end_of, receipts_of}
 use Rattle.argus_sharing.specs.Following.{FollowsJournal, GoesOn, IsSharedJournal}
 use Rattle.argus_sharing.proofs.locked.Locked.call_each.Given as goal

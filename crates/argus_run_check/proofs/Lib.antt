@@ -1,4 +1,0 @@
-pub mod CheckedRuns
-pub mod Endings
-pub mod Keeping
-pub mod Ordered

@@ -1,6 +1,0 @@
--- Receipts that show a run tell it.
-use Rattle.argus_run_check.proofs.CheckedRuns.{checked-runs-are-runs}
-use Rattle.argus_run_check.proofs.laws.checked_runs_are_runs.Goals as goal
-
-pub returns : goal.returns
-returns c = checked-runs-are-runs

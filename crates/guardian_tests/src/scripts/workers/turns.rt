@@ -1,0 +1,121 @@
+//! `Turns`: a gate that does what a row says when arms come to steps.
+
+use crate::scripts::workers::hold::Hold;
+use crate::scripts::workers::place::Place;
+use argus_commands::Gate;
+use argus_values::{Heap, OutOfMemory, Room};
+use std::sync::atomic::{AtomicU64, Ordering};
+use std::thread::yield_now;
+use test_rows::Setting;
+
+// How often an arm that is held up yields before the gate gives up.
+const MOST: u32 = 20_000_000;
+
+// The arms that others may be held up for.
+const ARMS: u32 = 16;
+
+/// Holds arms up, and refuses memory, as a row says. No arm is held up for ever: after twenty
+/// million turns, each of which yields, the gate gives up.
+///
+/// ```text
+/// let gate = Turns::new(setting, row.holds.as_slice())?;
+/// let ran = run(rt, plan, &gate)?;
+/// ensure!(!gate.gave_up(), "an arm is held up for ever");
+/// ```
+#[derive(Drop)]
+pub(crate) struct Turns {
+    holds: Vec<Hold, Room>,
+    // For each arm to how many of its steps it has come.
+    come: Vec<AtomicU64, Room>,
+    // How many times the gate gave up.
+    given_up: AtomicU64,
+    setting: Setting,
+}
+
+impl Turns {
+    pub(crate) fn new(setting: Setting, holds: &[Hold]) -> Result<Turns, OutOfMemory> {
+        let mut turns = Turns {
+            holds: Vec::new(setting.texts.room()),
+            come: no_steps(setting.texts)?,
+            given_up: AtomicU64::new(0),
+            setting,
+        };
+        for hold in holds {
+            turns.holds.push(*hold)?;
+        }
+        Ok(turns)
+    }
+
+    /// Whether an arm was held up too long.
+    pub(crate) fn gave_up(&self) -> bool {
+        self.given_up.load(Ordering::SeqCst) > 0
+    }
+
+    // Refuses memory, or allows it again, before anybody sees that the arm has come here.
+    fn ration(&self, here: Place) {
+        for hold in self.holds.as_slice() {
+            match *hold {
+                Hold::Refuse(at) if at == here => self.setting.allowing(0).limit(),
+                Hold::Allow(at) if at == here => self.setting.lift(),
+                Hold::Refuse(_) | Hold::Allow(_) | Hold::Until { .. } | Hold::Slow { .. } => {}
+            }
+        }
+    }
+
+    fn note(&self, here: Place) {
+        if let Some(steps) = self.come.get(here.arm as usize) {
+            steps.store(u64::from(here.step).saturating_add(1), Ordering::SeqCst);
+        }
+    }
+
+    fn wait(&self, here: Place) {
+        for hold in self.holds.as_slice() {
+            match *hold {
+                Hold::Until { at, other } if at == here => self.hold_up(other),
+                Hold::Slow { arm, turns } if arm == here.arm => take_turns(turns),
+                Hold::Until { .. } | Hold::Slow { .. } | Hold::Refuse(_) | Hold::Allow(_) => {}
+            }
+        }
+    }
+
+    fn hold_up(&self, other: Place) {
+        for _turn in 0..MOST {
+            if self.has_come(other) {
+                return;
+            }
+            yield_now();
+        }
+        self.given_up.store(1, Ordering::SeqCst);
+    }
+
+    fn has_come(&self, place: Place) -> bool {
+        match self.come.get(place.arm as usize) {
+            Some(steps) => steps.load(Ordering::SeqCst) > u64::from(place.step),
+            None => false,
+        }
+    }
+}
+
+impl Gate for Turns {
+    fn pass(&self, arm: u32, step: u32) {
+        let here = Place { arm, step };
+        self.ration(here);
+        self.note(here);
+        self.wait(here);
+    }
+}
+
+// No arm has come to a step.
+fn no_steps(heap: Heap) -> Result<Vec<AtomicU64, Room>, OutOfMemory> {
+    let mut come = Vec::new(heap.room());
+    for _arm in 0..ARMS {
+        come.push(AtomicU64::new(0))?;
+    }
+    Ok(come)
+}
+
+fn take_turns(turns: u32) {
+    for _turn in 0..turns {
+        yield_now();
+    }
+}

@@ -1,0 +1,155 @@
+//! Lists of calls: `ListedCall`, with what it demands, and `CallsMade`, with why a list ended.
+
+use crate::call::Call;
+use crate::error::Error;
+use crate::owner::Owner;
+use crate::reply::Reply;
+use crate::words::Words;
+use crate::{ActionId, sys};
+use std::ptr;
+
+/// One call of a list, and what its reply must be for the list to go on.
+///
+/// ```
+/// use argus_guardian::{Call, ListedCall};
+/// let list = [ListedCall::from(Call::BeginTop), ListedCall::by(0, Call::Commit)];
+/// assert_ne!(list[0], list[1]);
+/// ```
+#[derive(Debug, Clone, PartialEq, Eq, Hash)]
+pub struct ListedCall {
+    call: Call,
+    demand: Demand,
+    // The place in the list, counted from 1, of the call that begins its action; 0: the action is
+    // in the call.
+    begun_by: u32,
+}
+
+impl ListedCall {
+    /// A call by the action that the call at this place of the list, counted from 0, begins.
+    ///
+    /// ```
+    /// use argus_guardian::{Call, ListedCall, ObjId, Query};
+    /// let ask = ListedCall::by(0, |action| Call::Ask(action, ObjId::numbered(0), Query::Whole));
+    /// assert_ne!(ask, ListedCall::by(1, |action| Call::Ask(action, ObjId::numbered(0), Query::Whole)));
+    /// ```
+    #[must_use]
+    pub fn by(place: usize, call: impl FnOnce(ActionId) -> Call) -> ListedCall {
+        let place = u32::try_from(place).unwrap_or(u32::MAX);
+        ListedCall {
+            begun_by: place.saturating_add(1),
+            ..ListedCall::from(call(ActionId::numbered(0)))
+        }
+    }
+
+    /// The same call with another demand.
+    ///
+    /// ```
+    /// use argus_guardian::{Call, Demand, ListedCall};
+    /// let abort = ListedCall::by(0, Call::Abort).demanding(Demand::Nothing);
+    /// assert_ne!(abort, ListedCall::by(0, Call::Abort));
+    /// ```
+    #[must_use]
+    pub fn demanding(self, demand: Demand) -> ListedCall {
+        ListedCall { demand, ..self }
+    }
+
+    /// The words of the call, of this guardian, which hold its text.
+    pub(crate) fn words(&self, guardian: Owner) -> Words {
+        Words::of(&self.call, guardian)
+    }
+
+    /// Why this guardian doesn't take the ids of the call.
+    pub(crate) fn refused_by(&self, guardian: Owner) -> Error {
+        self.call.refused_by(guardian)
+    }
+
+    /// The call as the library takes it, with the address of its words' text.
+    pub(crate) fn with(&self, words: &Words) -> sys::ListedCall {
+        sys::ListedCall {
+            kind: words.kind,
+            demand: match self.demand {
+                Demand::NoRefusal => sys::demand::NO_REFUSAL,
+                Demand::Nothing => sys::demand::NOTHING,
+                Demand::NoSignal => sys::demand::NO_SIGNAL,
+            },
+            action: words.action,
+            begun_by: self.begun_by,
+            object: words.object,
+            status: 0,
+            first: words.first,
+            second: words.second,
+            number: 0,
+            text: ptr::from_ref(words.text.as_bytes()).cast(),
+            text_size: words.text.len(),
+        }
+    }
+}
+
+impl From<Call> for ListedCall {
+    /// The call itself, whose reply must not be a refusal.
+    fn from(call: Call) -> ListedCall {
+        ListedCall {
+            call,
+            demand: Demand::NoRefusal,
+            begun_by: 0,
+        }
+    }
+}
+
+/// What a reply must be for a list of calls to go on.
+///
+/// ```
+/// use argus_guardian::Demand;
+/// assert_eq!(Demand::default(), Demand::NoRefusal);
+/// ```
+#[derive(Debug, Clone, Copy, PartialEq, Eq, Hash, Default)]
+pub enum Demand {
+    /// No refusal.
+    #[default]
+    NoRefusal,
+    /// It may be anything.
+    Nothing,
+    /// No refusal and no signal.
+    NoSignal,
+}
+
+/// The outcome of a list of calls: the replies of those that were made, from the first one on, and
+/// why no more were.
+///
+/// ```
+/// use argus_guardian::{ActionId, Answer, Call, Guardian, ListEnd, ListedCall, Reply};
+/// let guardian = Guardian::new()?;
+/// let list = [ListedCall::from(Call::BeginTop), ListedCall::by(0, Call::Commit)];
+/// let made = guardian.call_each(&list)?;
+/// assert_eq!(made.replies, [Reply::Begun(ActionId::numbered(0)), Reply::Answered(Answer::Done)]);
+/// assert_eq!(made.end, ListEnd::Whole);
+/// # Ok::<(), argus_guardian::Error>(())
+/// ```
+#[derive(Debug, Clone, PartialEq, Eq)]
+#[must_use = "it says whether all calls of the list were made"]
+pub struct CallsMade {
+    /// The replies, in the order of the calls.
+    pub replies: Vec<Reply>,
+    /// Why no more were made.
+    pub end: ListEnd,
+}
+
+/// Why no more calls of a list were made.
+///
+/// ```
+/// use argus_guardian::{ActionId, Call, Guardian, ListEnd, ListedCall};
+/// let guardian = Guardian::new()?;
+/// let made = guardian.call_each(&[ListedCall::from(Call::Commit(ActionId::numbered(7)))])?;
+/// assert_eq!(made.end, ListEnd::Unmet);
+/// # Ok::<(), argus_guardian::Error>(())
+/// ```
+#[derive(Debug, Clone, PartialEq, Eq)]
+#[must_use = "it says whether all calls of the list were made"]
+pub enum ListEnd {
+    /// All were made, and each reply is what its demand says.
+    Whole,
+    /// The last reply isn't what its demand says.
+    Unmet,
+    /// The next call failed: it wasn't made, and has changed nothing.
+    Failed(Error),
+}

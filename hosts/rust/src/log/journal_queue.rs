@@ -1,0 +1,115 @@
+//! `JournalQueue`: what has been taken out of a guardian's journal, and what of that the log hasn't got yet.
+
+use crate::Listing;
+use crate::checkpoint_error::CheckpointError;
+use crate::error::Error;
+use crate::guardian::Guardian;
+use crate::log::batch_log::{EntryLines, Opening};
+use crate::log::progress::Goal;
+use crate::shared::Shared;
+use std::collections::VecDeque;
+
+/// The most bytes that a piece has, except with a line that is longer.
+const PIECE: usize = 256 * 1024;
+
+// What each line of an opening begins with, and no entry's line.
+const OPENING: &str = "opening ";
+
+/// What goes to the log next.
+#[derive(Debug)]
+pub(crate) enum Piece {
+    Lines(EntryLines),
+    Opening(Opening),
+}
+
+impl Piece {
+    /// The number of the first entry after it.
+    pub(crate) fn next(&self) -> u64 {
+        match self {
+            Piece::Lines(lines) => lines.next(),
+            Piece::Opening(opening) => opening.next(),
+        }
+    }
+}
+
+/// What has been taken out of a guardian's journal, and what of that the log hasn't got yet. It is used only while the
+/// guardian's mutex is held, so the pieces are in the order of the entries.
+#[derive(Debug)]
+pub(crate) struct JournalQueue {
+    // The number of the first entry that hasn't been taken.
+    next: u64,
+    pieces: VecDeque<Piece>,
+    // How often the journal was folded.
+    folds: u64,
+    // Whether the opening of the last fold hasn't been taken yet.
+    owes_opening: bool,
+    room: Vec<u8>,
+}
+
+impl JournalQueue {
+    /// For a log that has all entries before this one.
+    pub(crate) fn from(next: u64) -> JournalQueue {
+        JournalQueue {
+            next,
+            pieces: VecDeque::new(),
+            folds: 0,
+            owes_opening: false,
+            room: vec![0; PIECE],
+        }
+    }
+
+    /// The next piece. `None`: the log has all.
+    pub(crate) fn next_piece(&mut self, guardian: &Guardian) -> Result<Option<Piece>, Error> {
+        if self.pieces.is_empty() {
+            self.take_opening(guardian)?;
+            self.take(guardian)?;
+        }
+        Ok(self.pieces.pop_front())
+    }
+
+    // Takes as many lines as fit into a piece.
+    fn take(&mut self, guardian: &Guardian) -> Result<(), Error> {
+        let lines = guardian.lines_in(&mut self.room, self.next)?;
+        self.next = lines.next();
+        if !lines.is_empty() {
+            self.pieces.push_back(Piece::Lines(lines));
+        }
+        Ok(())
+    }
+
+    // Takes the opening that hasn't been taken yet: the first lines of the journal's listing.
+    fn take_opening(&mut self, guardian: &Guardian) -> Result<(), Error> {
+        if !self.owes_opening {
+            return Ok(());
+        }
+        let mut text = guardian.list(Listing::Journal)?;
+        let lines = text.split_inclusive('\n');
+        let opening = lines.take_while(|line| line.starts_with(OPENING));
+        text.truncate(opening.map(str::len).sum());
+        let opening = Opening::new(self.next, text).ok_or(Error::OtherAnswer)?;
+        self.pieces.push_back(Piece::Opening(opening));
+        self.owes_opening = false;
+        Ok(())
+    }
+
+    /// Folds the journal when all of it has been taken, and takes the opening. Returns the goal at which the log has
+    /// it. If there is no memory for the opening, it is taken before the next lines.
+    pub(crate) fn fold(&mut self, guardian: &Guardian) -> Result<Goal, CheckpointError> {
+        let out_of_memory = |_: Error| CheckpointError::OutOfMemory;
+        self.take_opening(guardian).map_err(out_of_memory)?;
+        while self.next < guardian.entries() {
+            self.take(guardian).map_err(out_of_memory)?;
+        }
+        Shared::fold(guardian)?;
+        // A journal without entries has no opening.
+        if self.next > 0 {
+            self.folds += 1;
+            self.owes_opening = true;
+            self.take_opening(guardian).map_err(out_of_memory)?;
+        }
+        Ok(Goal {
+            entry: self.next,
+            openings: self.folds,
+        })
+    }
+}
