@@ -1,7 +1,7 @@
 """Scripts by chance: their journals are those of a walk over their lines, in which the definitions give each reply.
 
-The journal also comes back from a replay. One that several workers leave, none of which waits for a lock, has its own
-order; made again call by call, its calls have the same replies.
+The journal also comes back from a replay. One that several workers leave, with some patience or none, has its own
+order; made again call by call, its calls have the same replies. Whatever waits for whatever, the run comes to its end.
 """
 
 from __future__ import annotations
@@ -15,12 +15,15 @@ from coming_back import replayed
 from draft import draft
 from walk import Walk, steps_of
 
+PATIENCES = [0, 1, 20, 1000]
+
 
 def trials(count: int, first: int) -> Iterator[Trial]:
     """So many scripts, each with a seed of its own, from this one on."""
     for seed in range(first, first + count):
         yield f"script {seed}", partial(carried_out, draft(seed))
-        yield f"script {seed}, by workers", partial(shared, draft(seed), Random(seed).randint(2, 8))
+        by = Random(seed)
+        yield f"script {seed}, by workers", partial(shared, draft(seed), by.randint(2, 8), by.choice(PATIENCES))
 
 
 def carried_out(lines: list[str], programs: Programs) -> str:
@@ -33,12 +36,12 @@ def carried_out(lines: list[str], programs: Programs) -> str:
     return f"{fault}of\n{shortened(script)}" if fault else ""
 
 
-def shared(lines: list[str], workers: int, programs: Programs) -> str:
+def shared(lines: list[str], workers: int, patience: int, programs: Programs) -> str:
     """What is wrong with the journal that these workers leave of a script."""
-    words = [b"--workers", b"%d" % workers, b"--patience", b"0", *JOURNAL]
+    words = [b"--workers", b"%d" % workers, b"--patience", b"%d" % patience, *JOURNAL]
     listed = programs.call("argus", words, as_text(lines))
     fault = difference(as_text(made_again(listed.output)), listed.output) if listed.output else "nothing is listed\n"
-    return f"{fault}by {workers} workers, of\n{shortened(as_text(lines))}" if fault else ""
+    return f"{fault}by {workers} workers with patience {patience}, of\n{shortened(as_text(lines))}" if fault else ""
 
 
 def made_again(listed: bytes) -> list[str]:

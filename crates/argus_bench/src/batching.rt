@@ -10,10 +10,9 @@ use argus_actions::ActionId;
 use argus_guardian::{DemandedCall, Sharing};
 use argus_journal::Call;
 use argus_values::{Change, ObjId, Query, Room, Value};
-use std::collections::VecDeque;
 use std::sync::Wait;
 
-type Calls = VecDeque<DemandedCall, Room>;
+type Calls = Vec<DemandedCall, Room>;
 
 /// This many topactions, each of which adds 1 to four records of the thread's own. What is in them
 /// is kept here, so that the calls are known. Returns how many were made: fewer, if a call doesn't
@@ -25,7 +24,7 @@ pub(crate) fn count_in_lists<N: Sharing, R: Wait + Drop>(
     turns: u32,
 ) -> Result<u32, BenchError> {
     let mut numbers = Vec::from_elem(client.heap.room(), 0i64, usize::from(RECORDS))?;
-    let mut calls = VecDeque::new(client.heap.room());
+    let mut calls = Vec::new(client.heap.room());
     for turn in 0..turns {
         let records = circle.four(draws);
         if turn_list(client, records, numbers.as_mut_slice(), &mut calls).is_err() {
@@ -46,8 +45,10 @@ fn turn_list<N: Sharing, R: Wait + Drop>(
     for place in 0..4usize {
         push_count(calls, a, records[place], numbers)?;
     }
-    calls.push_back(DemandedCall::from(Call::Commit(a)))?;
-    client.callee.answer_each(calls)
+    calls.push(DemandedCall::from(Call::Commit(a)))?;
+    let answered = client.callee.answer_each(calls.as_slice());
+    calls.clear();
+    answered
 }
 
 // The lock of a record, a look at it, and the next number in it.
@@ -62,8 +63,8 @@ fn push_count(
     };
     *number = number.wrapping_add(1);
     let set = Change::SetField(0, Value::Int(*number));
-    calls.push_back(DemandedCall::from(Call::Alter(a, o, Change::Touch)))?;
-    calls.push_back(DemandedCall::from(Call::Ask(a, o, Query::Field(0))))?;
-    calls.push_back(DemandedCall::from(Call::Alter(a, o, set)))?;
+    calls.push(DemandedCall::from(Call::Alter(a, o, Change::Touch)))?;
+    calls.push(DemandedCall::from(Call::Ask(a, o, Query::Field(0))))?;
+    calls.push(DemandedCall::from(Call::Alter(a, o, set)))?;
     Ok(())
 }

@@ -3,16 +3,14 @@
 use crate::bench_error::BenchError;
 use crate::callee::Callee;
 use crate::reply_summary::ReplySummary;
-use argus_guardian::{CallsEnd, DemandedCall, Receipt, Seat, Shared, Sharing};
+use argus_guardian::{CallsEnd, DemandedCall, Seat, Shared, Sharing};
 use argus_journal::Call;
-use argus_values::Room;
-use std::collections::VecDeque;
 use std::sync::Wait;
 
 // More wake-ups than there will be.
 const PATIENCE: u32 = u32::MAX;
 
-/// A seat of a shared guardian, by which calls are made. Their receipts are dropped.
+/// A seat of a shared guardian, by which calls are made. It keeps no receipts.
 ///
 /// ```text
 /// let mut client = Client::of(heap, Seated::new(&rt, &shared, seat));
@@ -31,10 +29,7 @@ impl<'a, N: Sharing, R: Wait + Drop> Seated<'a, N, R> {
     }
 
     /// Makes the calls under one lock of the mutex; none may be refused.
-    pub(crate) fn answer_each(
-        &mut self,
-        calls: &mut VecDeque<DemandedCall, Room>,
-    ) -> Result<(), BenchError> {
+    pub(crate) fn answer_each(&mut self, calls: &[DemandedCall]) -> Result<(), BenchError> {
         let Seated { rt, shared, seat } = self;
         match shared.call_each(*rt, seat, calls).end {
             CallsEnd::Whole => Ok(()),
@@ -47,15 +42,13 @@ impl<'a, N: Sharing, R: Wait + Drop> Seated<'a, N, R> {
 impl<N: Sharing, R: Wait + Drop> Callee for Seated<'_, N, R> {
     fn answer(&mut self, call: Call) -> Result<ReplySummary, BenchError> {
         let Seated { rt, shared, seat } = self;
-        Ok(summary_of(shared.call(*rt, seat, call)?))
+        let answered = shared.answer(*rt, seat, call)?;
+        Ok(ReplySummary::by(answered.reply))
     }
 
     fn answer_waiting(&mut self, call: Call) -> Result<ReplySummary, BenchError> {
         let Seated { rt, shared, seat } = self;
-        Ok(summary_of(shared.call_waiting(*rt, seat, call, PATIENCE)?))
+        let answered = shared.answer_waiting(*rt, seat, call, PATIENCE)?;
+        Ok(ReplySummary::by(answered.reply))
     }
-}
-
-fn summary_of(receipt: Receipt) -> ReplySummary {
-    ReplySummary::by(receipt.into_reply())
 }

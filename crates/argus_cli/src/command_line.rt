@@ -23,8 +23,8 @@ const ABOUT: &str =
     "Runs a script from standard input on a new guardian, and lists what it then holds.";
 
 const DETAILS: &str = "\
-The listing goes to standard output. With several workers and --patience, a run may wait for ever:
-two arms can each wait for a lock that the other one holds.
+The listing goes to standard output. With several workers and --patience, an access waits for its
+lock; one that would wait while all other workers wait is refused.
 
 Exit status:
   0  done

@@ -44,8 +44,7 @@ use std::thread::Threads;
 /// The reader has failed exactly at `Read`, and the writer exactly at `Write`.
 ///
 /// Condition: neither the reader nor the writer has failed before, and the options are within their
-/// ranges. With several workers it may wait for other threads: for ever if two arms wait for each
-/// other.
+/// ranges. With several workers it may wait for other threads.
 ///
 /// ```text
 /// let mut reader = FailStop::new(rt.stdin());

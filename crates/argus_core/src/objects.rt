@@ -61,7 +61,7 @@ impl Guardian {
     /// declared.
     ///
     /// Source: holders of read locks, Moss, Nested Transactions (MIT/LCS/TR-260, 1981).
-    pub fn readers(&self, o: ObjId) -> Option<&[ActionId]>
+    pub fn holders(&self, o: ObjId) -> Option<&[ActionId]>
         ensures { action_numbers_found result ≡ where_declared self.now o.0
             (readers_of self.now.opening self.now.entries o.0) }
     {

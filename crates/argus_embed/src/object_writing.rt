@@ -68,7 +68,7 @@ pub(crate) fn readers_text(
     ensures there { OnErr result (option_map action_lines (where_declared guardian.now o.0
         (readers_of guardian.now.opening guardian.now.entries o.0)) ≢ None) }
 {
-    let Some(readers) = guardian.readers(o) else {
+    let Some(readers) = guardian.holders(o) else {
         return Ok(None);
     };
     let mut text = String::new(heap.room());

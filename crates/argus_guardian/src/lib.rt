@@ -22,7 +22,7 @@ pub use argus_resume::{
     laws as resume_laws, resume,
 };
 pub use argus_sharing::{
-    CallsEnd, CallsMade, Demand, DemandedCall, NotShared, Parts, Receipt, Seat, SettleFault,
-    Shared, Sharing, Unsettled, check, laws,
+    Answered, CallsEnd, CallsMade, Demand, DemandedCall, NotShared, Parts, Receipt, Seat,
+    SettleFault, Shared, Sharing, Unsettled, check, laws,
 };
 pub use argus_streams::FailStop;

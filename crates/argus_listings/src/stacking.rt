@@ -58,7 +58,7 @@ fn append_readers(
     ensures { OnOk result (string_bytes text.new ≡ string_bytes text.old
         ++ readers_line name.now (readers_of guardian.now.opening guardian.now.entries o.0)) }
 {
-    match guardian.readers(o) {
+    match guardian.holders(o) {
         Some(readers) => append_readers_line(name, readers, text),
         None => Ok(()),
     }

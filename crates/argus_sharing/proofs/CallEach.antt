@@ -1,14 +1,13 @@
 -- Several calls: what one more call adds.
-use Rattle.std.proofs.Common.{List, [], ap, append_assoc, arith, drop, false, sym, true, ℕ, suc, ◌++◌, ◌+◌, ◌∙◌, ◌∷◌, ◌≡◌}
-use Rattle.std.proofs.lemmas.List.{drop-drop}
+use Rattle.std.proofs.Common.{List, [], ap, append_assoc, arith, false, length, sym, true, ℕ, suc, ◌++◌, ◌∙◌, ◌∷◌, ◌<◌, ◌≡◌}
 use Rattle.std.specs.Prelude.{if◌then◌else◌}
 use Rattle.argus_board.specs.BoardView.{BoardView}
 use Rattle.argus_core.specs.ReadyCommit.{added_by_call}
 use Rattle.argus_entries.specs.Call.{plain_call}
-use Rattle.argus_journal.specs.JournalView.{JournalView, after}
-use Rattle.argus_sharing.specs.Receipt.{PlainReceipt}
+use Rattle.argus_entries.specs.Reply.{PlainReply}
+use Rattle.argus_journal.specs.JournalView.{JournalView, after, reply_to}
 use Rattle.argus_sharing.proofs.Follow.{goes_on_further}
-use Rattle.argus_sharing.specs.CallEach.{added_by_calls, end_of, is_met, receipt_of, receipts_of}
+use Rattle.argus_sharing.specs.CallEach.{added_by_calls, end_of, is_met, replies_of}
 use Rattle.argus_sharing.specs.Following.{GoesOn}
 use Rattle.argus_sharing.specs.declared.calls_end.CallsEnd.TheVariants.{Unmet}
 use Rattle.argus_sharing.specs.declared.demanded_call.DemandedCall.{DemandedCall}
@@ -17,8 +16,8 @@ module _ (journal : JournalView) (each : DemandedCall) (rest : List DemandedCall
   abbrev next : JournalView
   next = after journal (plain_call each.call)
 
-  abbrev mine : PlainReceipt
-  mine = receipt_of journal (plain_call each.call)
+  abbrev mine : PlainReply
+  mine = reply_to journal (plain_call each.call)
 
   -- what the calls behind it add comes after what it adds
   pub goes_on_more : (was now later : BoardView) (n : ℕ) → GoesOn was now (added_by_call journal (plain_call each.call))
@@ -27,26 +26,25 @@ module _ (journal : JournalView) (each : DemandedCall) (rest : List DemandedCall
       goes_on_further was now later (added_by_call journal (plain_call each.call)) (added_by_calls next rest n) on more
 
   -- where its reply is as demanded, the others go on behind it
-  pub receipts_more : (so_far now all : List PlainReceipt) → is_met journal each ≡ true → now ≡ so_far ++ mine ∷ []
-      → so_far ++ receipts_of journal (each ∷ rest) ≡ all → now ++ receipts_of next rest ≡ all
-  receipts_more so_far now all met is whole =
-      ap (λ z. z ++ receipts_of next rest) is ∙ append_assoc so_far (mine ∷ []) (receipts_of next rest)
-      ∙ ap (λ b. so_far ++ mine ∷ (if b then receipts_of next rest else [])) (sym met) ∙ whole
+  pub replies_more : (so_far now all : List PlainReply) → is_met journal each ≡ true → now ≡ so_far ++ mine ∷ []
+      → so_far ++ replies_of journal (each ∷ rest) ≡ all → now ++ replies_of next rest ≡ all
+  replies_more so_far now all met is whole =
+      ap (λ z. z ++ replies_of next rest) is ∙ append_assoc so_far (mine ∷ []) (replies_of next rest)
+      ∙ ap (λ b. so_far ++ mine ∷ (if b then replies_of next rest else [])) (sym met) ∙ whole
 
   pub end_more : is_met journal each ≡ true → end_of next rest ≡ end_of journal (each ∷ rest)
   end_more met = ap (λ b. if b then end_of next rest else Unmet) (sym met)
 
   -- where it isn't, they end with it
-  pub receipts_end : (so_far now all : List PlainReceipt) → is_met journal each ≡ false → now ≡ so_far ++ mine ∷ []
-      → so_far ++ receipts_of journal (each ∷ rest) ≡ all → now ≡ all
-  receipts_end so_far now all unmet is whole =
-      is ∙ ap (λ b. so_far ++ mine ∷ (if b then receipts_of next rest else [])) (sym unmet) ∙ whole
+  pub replies_end : (so_far now all : List PlainReply) → is_met journal each ≡ false → now ≡ so_far ++ mine ∷ []
+      → so_far ++ replies_of journal (each ∷ rest) ≡ all → now ≡ all
+  replies_end so_far now all unmet is whole =
+      is ∙ ap (λ b. so_far ++ mine ∷ (if b then replies_of next rest else [])) (sym unmet) ∙ whole
 
   pub end_unmet : is_met journal each ≡ false → Unmet ≡ end_of journal (each ∷ rest)
   end_unmet unmet = ap (λ b. if b then end_of next rest else Unmet) (sym unmet)
 
--- what is left behind one element more
-pub rest_more : {A : Type 0} (all left rest : List A) (x : A) (n m : ℕ) → left ≡ x ∷ rest → left ≡ drop n all
-    → m ≡ n + 1 → rest ≡ drop m all
-rest_more all left rest x n m is behind more =
-    ap (λ l. drop 1 l) (sym is ∙ behind) ∙ drop-drop 1 n all ∙ ap (λ k. drop k all) (omega (arith, more))
+-- some call has a reply
+pub some_reply : (journal : JournalView) (calls : List DemandedCall) → 0 < length calls → 0 < length (replies_of journal calls)
+some_reply journal [] none = absurd none
+some_reply journal (each ∷ calls) some = omega arith

@@ -28,7 +28,6 @@ use Rattle.argus_model.specs.Status.{live_siblings}
 use Rattle.argus_journal.specs.JournalView.{JournalView, after, entry_of, next_entry, reply_to}
 use Rattle.argus_sharing.specs.Following.{FollowsJournal, GoesOn, IsNoCommit, IsSharedJournal}
 use Rattle.argus_sharing.specs.Following.{journal_effects}
-use Rattle.argus_sharing.specs.Locked.{LockedState}
 
 -- what adds nothing where it happens adds nothing where it may
 may_add : (b : Bool) (s : Opening) (event : Event PlainEntry) (j : List PlainEntry) → added_by s (Some event) j ≡ []
@@ -75,7 +74,7 @@ effects_then journal call legal = effects_added journal.opening (entry_of journa
 
 module _ (opening : ℕ → Option PlainContent) (journal next : JournalView) where
   -- after one call more, and what it adds
-  follows_call : (call : PlainCall) (l m : List Effect) → Legal journal.opening journal.entries
+  pub follows_call : (call : PlainCall) (l m : List Effect) → Legal journal.opening journal.entries
       → FollowsJournal opening journal l
       → next ≡ after journal call → m ≡ l ++ added_by_call journal call → FollowsJournal opening next m
   follows_call call l m legal h is more =
@@ -86,23 +85,6 @@ module _ (opening : ℕ → Option PlainContent) (journal next : JournalView) wh
             ∙ append_assoc h.0 (journal_effects journal) (added_by_call journal call)
             ∙ ap (λ z. h.0 ++ z) (sym (effects_then journal call legal)),
       )
-
-  -- after a call that is no commit
-  pub follows_other : (call : PlainCall) (l : List Effect) → IsNoCommit call → Legal journal.opening journal.entries
-      → FollowsJournal opening journal l → next ≡ after journal call → FollowsJournal opening next l
-  follows_other call l other legal h is =
-      follows_call call l l legal h is (sym (ap (λ z. l ++ z) (adds_none journal call other) ∙ append-nil l))
-
-  -- after a call whose effect was pending, and a publish
-  pub follows_commit : (call : PlainCall) (was pending now : BoardView) → Legal journal.opening journal.entries
-      → FollowsJournal opening journal (was.published ++ was.pending) → next ≡ after journal call
-      → pending.published ≡ was.published → pending.pending ≡ was.pending ++ added_by_call journal call
-      → now.published ++ now.pending ≡ pending.published ++ pending.pending
-      → FollowsJournal opening next (now.published ++ now.pending)
-  follows_commit call was pending now legal h is same more all =
-      follows_call call (was.published ++ was.pending) (now.published ++ now.pending) legal h is
-      (all ∙ ap (λ z. z ++ pending.pending) same ∙ ap (λ z. was.published ++ z) more
-      ∙ sym (append_assoc was.published was.pending (added_by_call journal call)))
 
   -- after a fold of the journal
   follows_fold : (l : List Effect) → is_sound journal.opening ≡ true → Legal journal.opening journal.entries
@@ -144,23 +126,14 @@ published_same (Ok a) was now ok err =
     ∙ append-nil (was.published ++ was.pending)
 published_same (Err b) was now ok err = ap (λ (s : BoardView). s.published ++ s.pending) err.0
 
--- the state that was seen is the one that was there
-pub goes_on_from : (call : PlainCall) (seen was : LockedState) (now : BoardView) → seen ≡ was
-    → GoesOn seen.board now (added_by_call seen.journal call)
-    → GoesOn was.board now (added_by_call was.journal call)
-goes_on_from call seen was now same on =
-    subst (λ (s : LockedState). GoesOn s.board now (added_by_call s.journal call)) same on
-
 -- a board that stays goes on, after a call that is no commit
-pub goes_on_other : (call : PlainCall) (seen was : LockedState) → seen ≡ was → IsNoCommit call
-    → GoesOn was.board seen.board (added_by_call was.journal call)
-goes_on_other call seen was same other =
-    let board = seen.board in
-    goes_on_from call seen was board same (
-      ([], append-nil board.published),
-      sym (ap (λ z. (board.published ++ board.pending) ++ z) (adds_none seen.journal call other)
-          ∙ append-nil (board.published ++ board.pending)),
-    )
+pub goes_on_other : (journal : JournalView) (call : PlainCall) (board : BoardView) → IsNoCommit call
+    → GoesOn board board (added_by_call journal call)
+goes_on_other journal call board other = (
+  ([], append-nil board.published),
+  sym (ap (λ z. (board.published ++ board.pending) ++ z) (adds_none journal call other)
+      ∙ append-nil (board.published ++ board.pending)),
+)
 
 -- what was published stays, behind a publish
 published_on : {A B : Type 0} (r : Result A B) (was pending now : BoardView) → pending.published ≡ was.published

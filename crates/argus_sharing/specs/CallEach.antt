@@ -3,11 +3,10 @@ use Rattle.std.specs.Prelude.{Bool, List, [], false, if◌then◌else◌, suc, t
 use Rattle.argus_contents.specs.Answer.{PlainAnswer, body, done, flag, num, signal, val}
 use Rattle.argus_contents.specs.Effect.{Effect}
 use Rattle.argus_core.specs.ReadyCommit.{added_by_call}
-use Rattle.argus_entries.specs.Call.{PlainCall, plain_call}
+use Rattle.argus_entries.specs.Call.{plain_call}
 use Rattle.argus_entries.specs.Reply.{PlainReply, answered, begun, object, plain_reply, refused}
 use Rattle.argus_entries.specs.Same.{same_reply}
-use Rattle.argus_journal.specs.JournalView.{JournalView, after, entry_of, next_entry, reply_to}
-use Rattle.argus_sharing.specs.Receipt.{PlainReceipt}
+use Rattle.argus_journal.specs.JournalView.{JournalView, after, reply_to}
 use Rattle.argus_sharing.specs.declared.calls_end.CallsEnd.{CallsEnd}
 use Rattle.argus_sharing.specs.declared.calls_end.CallsEnd.TheVariants.{Unmet, Whole}
 use Rattle.argus_sharing.specs.declared.demand.Demand.{Demand}
@@ -48,15 +47,11 @@ meets (demand.Exactly demanded) reply = same_reply (plain_reply demanded) reply
 abbrev pub is_met : JournalView → DemandedCall → Bool
 is_met journal each = meets each.demand (reply_to journal (plain_call each.call))
 
--- the receipt of the journal's next call
-abbrev pub receipt_of : JournalView → PlainCall → PlainReceipt
-receipt_of journal call = record { at = next_entry journal; entry = entry_of journal call }
-
--- the receipts of the calls, up to the first whose reply isn't as demanded
-abbrev pub receipts_of : JournalView → List DemandedCall → List PlainReceipt
-receipts_of journal [] = []
-receipts_of journal (each ∷ calls) = receipt_of journal (plain_call each.call)
-    ∷ (if is_met journal each then receipts_of (after journal (plain_call each.call)) calls else [])
+-- the replies to the calls, up to the first that isn't as demanded
+abbrev pub replies_of : JournalView → List DemandedCall → List PlainReply
+replies_of journal [] = []
+replies_of journal (each ∷ calls) = reply_to journal (plain_call each.call)
+    ∷ (if is_met journal each then replies_of (after journal (plain_call each.call)) calls else [])
 
 -- why no more calls are made, as long as there is memory
 abbrev pub end_of : JournalView → List DemandedCall → CallsEnd

@@ -7,7 +7,7 @@ pub enum CallsEnd {
     Whole,
     /// The last reply didn't meet its demand.
     Unmet,
-    /// There was no memory: for the receipts, and no call was made; or for the call after the last
-    /// receipt, and it is consumed.
+    /// There was no memory: for the replies, and no call was made; or for the call after the last
+    /// reply, and it wasn't made.
     OutOfMemory,
 }

@@ -1,6 +1,6 @@
 //! `check`: whether receipts and seats agree with a journal.
 
-ghost use Rattle.std.specs.Prelude.{◌≡◌, ◌≤◌, ◌++◌, ◌∷◌, [], All, None, Some, map};
+ghost use Rattle.std.specs.Prelude.{◌+◌, ◌≡◌, ◌≤◌, ◌++◌, ◌∷◌, [], All, None, Some, map};
 ghost use Rattle.std.specs.Prelude.{IfErr, IfOk, OnOk};
 ghost use Rattle.argus_entries.specs.Call.{plain_call};
 ghost use Rattle.argus_entries.specs.Entry.{plain_entry};
@@ -8,7 +8,7 @@ ghost use Rattle.argus_entries.specs.Reply.{plain_reply};
 ghost use Rattle.argus_entries.specs.Same.{same_call, same_entry, same_reply};
 ghost use Rattle.argus_journal.specs.Folding.{next_entry_number};
 ghost use Rattle.argus_journal.specs.Journal.{entries_of, entry_at, opening_of};
-ghost use Rattle.argus_sharing.specs.Checking.{AreApart, IsSettleAnswer, Stands, entries_since};
+ghost use Rattle.argus_sharing.specs.Checking.{AreApart, IsSettleAnswer, Stands};
 ghost use Rattle.argus_sharing.specs.Checking.{first_fault, is_entry, receipt_fault};
 ghost use Rattle.argus_sharing.specs.Checking.{settle_fault};
 ghost use Rattle.argus_sharing.specs.Receipt.{plain_receipt};
@@ -51,7 +51,7 @@ pub fn check(
         (map plain_receipt receipts.now)) }
     ensures apart { OnOk result (AreApart (map plain_receipt receipts.now)) }
     ensures count { OnOk result
-        (entries_since start (opening_of journal.now) (entries_of journal.now) ≡ made) }
+        (next_entry_number (opening_of journal.now) (entries_of journal.now) ≡ start + made) }
     ensures fault { IfErr result (IsSettleAnswer
         (settle_fault (opening_of journal.now) (entries_of journal.now) start made
         (map plain_receipt receipts.now))) }

@@ -1,8 +1,7 @@
 //! A guardian that threads share: calls under one mutex, receipts, and readers outside the mutex.
 #![tactic(auto)]
 
-mod accessing;
-mod acting;
+mod answered;
 mod calling;
 mod calling_each;
 mod calls_end;
@@ -23,8 +22,12 @@ mod settling;
 mod shared;
 mod sharing;
 mod sharing_start;
+mod taking;
 mod unsettled;
+mod waiting;
+mod waking;
 
+pub use answered::Answered;
 pub use calls_end::CallsEnd;
 pub use calls_made::CallsMade;
 pub use checking::check;

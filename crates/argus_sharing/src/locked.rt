@@ -31,6 +31,9 @@ pub struct Locked<N: Sharing, R: Wait + Drop> {
     pub(crate) publishing: PublishingGuardian<N, R>,
     pub(crate) book: Book<N>,
     pub(crate) start: u64,
+    // How many threads wait until actions end, and how many make calls at most, if that is known.
+    pub(crate) waiting: u32,
+    pub(crate) callers: Option<u32>,
 }
 
 impl<N: Sharing, R: Wait + Drop> Model for Locked<N, R> {
@@ -72,6 +75,8 @@ impl<N: Sharing, R: Wait + Drop> Locked<N, R> {
             publishing: PublishingGuardian { guardian, board },
             book,
             start,
+            waiting: 0,
+            callers: None,
         }
     }
 
@@ -84,6 +89,8 @@ impl<N: Sharing, R: Wait + Drop> Locked<N, R> {
             publishing,
             book: _,
             start: _,
+            waiting: _,
+            callers: _,
         } = self;
         let PublishingGuardian { guardian, board } = publishing;
         board.end();

@@ -89,7 +89,10 @@ impl<N: Sharing, R: Wait + Drop> Locked<N, R> {
     }
 
     /// Whether the call would be refused with `Conflict` now.
-    pub(crate) fn would_conflict(&self, call: &Call) -> bool {
+    pub(crate) fn would_conflict(&self, call: &Call) -> bool
+        ensures { (result ≡ true) ↔ (refusal_of_access self.now.journal (plain_call call.now)
+            ≡ Some Conflict) }
+    {
         self.publishing.guardian.access_refusal(call) == Some(Refusal::Conflict)
     }
 }

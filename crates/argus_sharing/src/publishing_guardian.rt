@@ -1,17 +1,18 @@
 //! `PublishingGuardian`: a guardian with the board that shows what its commits leave.
 
 ghost use Rattle.std.specs.Prelude.{◌++◌, ◌≡◌, IfOk, OnErr, OnOk};
-ghost use Rattle.argus_entries.specs.Call.{commit};
+ghost use Rattle.argus_entries.specs.Call.{commit, plain_call};
 ghost use Rattle.argus_entries.specs.Reply.{plain_reply};
 ghost use Rattle.argus_core.specs.ReadyCommit.{added_by_call};
 ghost use Rattle.argus_journal.specs.JournalView.{after, reply_to};
+ghost use Rattle.argus_sharing.specs.Following.{GoesOn, IsNoCommit};
 
 use crate::commit_told::{Added, CommitTold};
 use crate::sharing::Sharing;
 use argus_actions::ActionId;
 use argus_board::BoardWriter;
 use argus_core::Guardian;
-use argus_entries::Reply;
+use argus_entries::{Call, Reply};
 use argus_memory::OutOfMemory;
 use core::mem::replace_with;
 use std::snapshot::Snapshot;
@@ -25,9 +26,67 @@ pub struct PublishingGuardian<N: Sharing, R: Wait + Drop> {
 }
 
 impl<N: Sharing, R: Wait + Drop> PublishingGuardian<N, R> {
+    /// Makes a call, and tries to publish what the commit of a topaction leaves. If that finds no
+    /// memory, it stays pending. At `OutOfMemory` nothing has changed.
+    #[inline(never)]
+    pub(crate) fn answer(&mut self, call: Call) -> Result<Reply, OutOfMemory>
+        ensures reply { IfOk result (λ reply. plain_reply reply
+            ≡ reply_to self.old.guardian (plain_call call)) }
+        ensures journal { OnOk result (self.new.guardian
+            ≡ after self.old.guardian (plain_call call)) }
+        ensures goes_on { OnOk result (GoesOn self.old.board self.new.board
+            (added_by_call self.old.guardian (plain_call call))) }
+        ensures err { OnErr result ((self.new.guardian ≡ self.old.guardian)
+            × (self.new.board ≡ self.old.board)) }
+    {
+        match call {
+            Call::Commit(a) => self.commit_and_publish(a),
+            Call::Declare(_)
+            | Call::BeginTop
+            | Call::BeginSub(_)
+            | Call::BeginNested(_)
+            | Call::Abort(_)
+            | Call::AbortOthers(_)
+            | Call::Ask(_, _, _)
+            | Call::Alter(_, _, _)
+            | Call::TestRead(_, _)
+            | Call::TestWrite(_, _) => self.answer_other(call),
+        }
+    }
+
+    // A call that isn't a commit leaves nothing for the board.
+    #[inline(always)]
+    fn answer_other(&mut self, call: Call) -> Result<Reply, OutOfMemory>
+        requires { IsNoCommit (plain_call call) }
+        ensures reply { IfOk result (λ reply. plain_reply reply
+            ≡ reply_to self.old.guardian (plain_call call)) }
+        ensures journal { OnOk result (self.new.guardian
+            ≡ after self.old.guardian (plain_call call)) }
+        ensures goes_on { OnOk result (GoesOn self.old.board self.new.board
+            (added_by_call self.old.guardian (plain_call call))) }
+        ensures err { OnErr result ((self.new.guardian ≡ self.old.guardian)
+            × (self.new.board ≡ self.old.board)) }
+    {
+        self.guardian.call(call)
+    }
+
+    fn commit_and_publish(&mut self, a: ActionId) -> Result<Reply, OutOfMemory>
+        ensures reply { IfOk result (λ reply. plain_reply reply
+            ≡ reply_to self.old.guardian (commit a.0)) }
+        ensures journal { OnOk result (self.new.guardian ≡ after self.old.guardian (commit a.0)) }
+        ensures goes_on { OnOk result (GoesOn self.old.board self.new.board
+            (added_by_call self.old.guardian (commit a.0))) }
+        ensures err { OnErr result ((self.new.guardian ≡ self.old.guardian)
+            × (self.new.board ≡ self.old.board)) }
+    {
+        let reply = self.commit(a)?;
+        let _published = self.board.publish();
+        Ok(reply)
+    }
+
     /// Commits, after what a topaction leaves is pending on the board. Without places for lookers
     /// only contracts see what it leaves. At `OutOfMemory` nothing has changed.
-    pub(crate) fn commit(&mut self, a: ActionId) -> Result<Reply, OutOfMemory>
+    fn commit(&mut self, a: ActionId) -> Result<Reply, OutOfMemory>
         ensures published { self.new.board.published ≡ self.old.board.published }
         ensures reply { IfOk result (λ reply. plain_reply reply
             ≡ reply_to self.old.guardian (commit a.0)) }

@@ -1,8 +1,9 @@
 //! Checks receipts and seats against the journal.
 
-ghost use Rattle.std.specs.Prelude.{◌<◌, ◌^◌, ◌≡◌, All, IfErr, OnOk, length, map, sum_by};
-ghost use Rattle.argus_sharing.specs.Checking.{AreApart, IsSettleAnswer, Stands, entries_since};
-ghost use Rattle.argus_sharing.specs.Checking.{settle_fault};
+ghost use Rattle.std.specs.Prelude.{◌+◌, ◌<◌, ◌^◌, ◌≡◌, All, IfErr, OnOk, length, map, sum_by};
+ghost use Rattle.argus_sharing.specs.Checking.{AreApart, IsSettleAnswer, Stands, settle_fault};
+ghost use Rattle.argus_sharing.specs.Following.{IsSharedJournal};
+ghost use Rattle.argus_journal.specs.JournalView.{next_entry};
 ghost use Rattle.argus_sharing.specs.Receipt.{plain_receipt};
 
 use crate::checking::check;
@@ -24,12 +25,13 @@ impl<N: Sharing, R: Wait + Drop> Locked<N, R> {
             (map plain_receipt receipts.now)) }
         ensures apart { OnOk result (AreApart (map plain_receipt receipts.now)) }
         ensures count { OnOk result
-            (entries_since N.start self.now.journal.opening self.now.journal.entries
-            ≡ sum_by (λ seat. seat.made) seats.now) }
+            (next_entry self.now.journal ≡ N.start + sum_by (λ seat. seat.made) seats.now) }
         ensures fault { IfErr result (IsSettleAnswer
             (settle_fault self.now.journal.opening self.now.journal.entries N.start
             (sum_by (λ seat. seat.made) seats.now) (map plain_receipt receipts.now))) }
+        ensures shared { IsSharedJournal N.start self.now.journal }
     {
+        self.journal();
         let Locked {
             heap,
             publishing,

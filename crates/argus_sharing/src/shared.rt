@@ -1,8 +1,7 @@
 //! `Shared`: a guardian that threads share.
 
-ghost use Rattle.std.specs.List.{list_any};
-ghost use Rattle.std.specs.Prelude.{All, IfErr, IfOk, OnErr, OnOk, [], drop, false, length, map};
-ghost use Rattle.std.specs.Prelude.{sum_by, ◌⊎◌};
+ghost use Rattle.std.specs.Prelude.{All, IfErr, IfOk, OnErr, OnOk, [], false, length, map};
+ghost use Rattle.std.specs.Prelude.{sum_by};
 ghost use Rattle.std.specs.Prelude.{true, ◌++◌, ◌+◌, ◌<◌, ◌≡◌, ◌≢◌};
 ghost use Rattle.std.specs.Result.{result_err};
 ghost use mathlib.Core.List.{IsPrefix};
@@ -10,17 +9,17 @@ ghost use Rattle.argus_board.specs.Keeper.{StartsHistory};
 ghost use Rattle.argus_entries.specs.Call.{plain_call};
 ghost use Rattle.argus_entries.specs.Reply.{plain_reply};
 ghost use Rattle.argus_journal.specs.Opening.{content_in};
-ghost use Rattle.argus_sharing.specs.Checking.{AreApart, Stands, entries_since};
+ghost use Rattle.argus_sharing.specs.Checking.{AreApart, IsSettleAnswer, Stands, settle_fault};
 ghost use Rattle.argus_sharing.specs.Receipt.{plain_receipt};
-ghost use Rattle.argus_sharing.specs.CallEach.{end_of, receipts_of};
+ghost use Rattle.argus_sharing.specs.CallEach.{end_of, replies_of};
 ghost use Rattle.argus_sharing.specs.Checkpoint.{IsCheckpointAnswer};
 ghost use Rattle.argus_sharing.specs.Following.{FollowsJournal, IsFollowed, IsSharedJournal};
 ghost use Rattle.argus_sharing.specs.Following.{journal_bases, journal_effects};
 ghost use Rattle.argus_sharing.specs.Locked.{LockedState};
 ghost use Rattle.argus_journal.specs.JournalView.{JournalView, next_entry, reply_to};
-ghost use Rattle.argus_sharing.specs.Waking.{ends, has_ended};
 ghost use Rattle.argus_sharing.specs.declared.calls_end.CallsEnd.TheVariants as calls_end;
 
+use crate::answered::Answered;
 use crate::calls_made::CallsMade;
 use crate::demanded_call::DemandedCall;
 use crate::locked::Locked;
@@ -31,11 +30,11 @@ use crate::seat::Seat;
 use crate::sharing::Sharing;
 use crate::sharing_start::{board_of, lookers_at, seats_over};
 use crate::unsettled::Unsettled;
+use crate::waking::{have_ended, may_end};
 use argus_board::{Keeper, Looker};
 use argus_core::{CheckpointError, Guardian};
-use argus_entries::{Call, Reply};
+use argus_entries::Call;
 use argus_memory::{Heap, OutOfMemory, Room};
-use std::collections::VecDeque;
 use std::sync::ledger::Blank;
 use std::sync::{Condvar, Mutex, Wait};
 
@@ -134,19 +133,44 @@ impl<N: Sharing, R: Wait + Drop> Shared<N, R> {
         ensures made { OnOk result (seat.new.made ≡ seat.old.made + 1) }
         ensures err { OnErr result (seat.new.made ≡ seat.old.made) }
     {
-        let receipt = self.locked.lock(rt).call(seat, call);
-        if frees(&receipt) {
-            self.freed.notify_all();
-        }
-        receipt
+        let receipt = self.take(rt).call(seat, call)?;
+        self.wake_behind(may_end(&receipt.call), &receipt.reply);
+        Ok(receipt)
+    }
+
+    /// Makes a call for the seat, as `call` does, without a copy of the call for a receipt.
+    ///
+    /// It may wait for other threads. The seat came with the same sharing.
+    ///
+    /// ```text
+    /// let Answered { at, reply } = shared.answer(&rt, &mut seat, Call::BeginTop)?;
+    /// ```
+    pub fn answer(
+        &self,
+        rt: &impl Wait,
+        seat: &mut Seat<N>,
+        call: Call,
+    ) -> Result<Answered, OutOfMemory>
+        ensures reply { IfOk result (λ answered. (journal : JournalView)
+            × IsSharedJournal N.start journal
+            × (answered.at ≡ next_entry journal)
+            × (plain_reply answered.reply ≡ reply_to journal (plain_call call))) }
+        ensures made { OnOk result (seat.new.made ≡ seat.old.made + 1) }
+        ensures err { OnErr result (seat.new.made ≡ seat.old.made) }
+    {
+        let may_end = may_end(&call);
+        let answered = self.take(rt).answer(seat, call)?;
+        self.wake_behind(may_end, &answered.reply);
+        Ok(answered)
     }
 
     /// Makes a call for the seat. While it would be refused with `Conflict` it waits, at most for
     /// this many wake-ups, and then makes the call all the same; with 0 it doesn't wait.
     ///
     /// All waiting threads are woken after each call that ended actions, and a spurious wake-up
-    /// counts too. There is no limit of time: if no action ends, it waits for ever. The rest is as
-    /// in `call`, also for `OutOfMemory`.
+    /// counts too. There is no limit of time: if no action ends, it waits for ever, unless
+    /// `expect_callers` has said how many threads there are. The rest is as in `call`, also for
+    /// `OutOfMemory`.
     pub fn call_waiting(
         &self,
         rt: &impl Wait,
@@ -162,60 +186,66 @@ impl<N: Sharing, R: Wait + Drop> Shared<N, R> {
         ensures made { OnOk result (seat.new.made ≡ seat.old.made + 1) }
         ensures err { OnErr result (seat.new.made ≡ seat.old.made) }
     {
-        let mut guard = self.locked.lock(rt);
-        for _wake_up in 0..patience {
-            if !guard.would_conflict(&call) {
-                break;
-            }
-            guard = self.freed.wait(rt, guard);
-        }
-        let receipt = guard.call(seat, call);
-        drop(guard);
-        if frees(&receipt) {
-            self.freed.notify_all();
-        }
-        receipt
+        let receipt = self
+            .take_without_conflict(rt, &call, patience)
+            .call(seat, call)?;
+        self.wake_behind(may_end(&receipt.call), &receipt.reply);
+        Ok(receipt)
+    }
+
+    /// Makes a call for the seat and waits as `call_waiting` does, without a copy of the call for a
+    /// receipt.
+    pub fn answer_waiting(
+        &self,
+        rt: &impl Wait,
+        seat: &mut Seat<N>,
+        call: Call,
+        patience: u32,
+    ) -> Result<Answered, OutOfMemory>
+        ensures reply { IfOk result (λ answered. (journal : JournalView)
+            × IsSharedJournal N.start journal
+            × (answered.at ≡ next_entry journal)
+            × (plain_reply answered.reply ≡ reply_to journal (plain_call call))) }
+        ensures made { OnOk result (seat.new.made ≡ seat.old.made + 1) }
+        ensures err { OnErr result (seat.new.made ≡ seat.old.made) }
+    {
+        let may_end = may_end(&call);
+        let answered = self
+            .take_without_conflict(rt, &call, patience)
+            .answer(seat, call)?;
+        self.wake_behind(may_end, &answered.reply);
+        Ok(answered)
     }
 
     /// Makes the calls one after another for the seat under one lock of the mutex, up to the first
-    /// whose reply doesn't meet its demand. Each is made as by `call`, with a receipt of its own,
-    /// and no call of another seat comes between two of them. Those that weren't made stay in
-    /// `calls`. If one of them ended actions, all waiting threads are woken once, after the last.
+    /// whose reply doesn't meet its demand. Each is made as by `answer`, and no call of another
+    /// seat comes between two of them. If one of them ended actions, all waiting threads are woken
+    /// once, after the last.
     ///
-    /// `OutOfMemory`: there was no memory for the receipts, and no call was made; or none for the
-    /// call after the last receipt, and that call is consumed.
+    /// `OutOfMemory`: there was no memory for the replies, and no call was made; or none for the
+    /// call after the last reply, which wasn't made.
     ///
     /// It may wait for other threads. The seat came with the same sharing.
     ///
     /// ```text
-    /// calls.push_back(DemandedCall::from(Call::Ask(a, account, Query::Field(0))))?;
-    /// calls.push_back(DemandedCall::from(Call::Commit(a)))?;
-    /// let made = shared.call_each(&rt, &mut seat, &mut calls);
+    /// let mut calls = Vec::new(heap.room());
+    /// calls.push(DemandedCall::from(Call::Ask(a, account, Query::Field(0))))?;
+    /// calls.push(DemandedCall::from(Call::Commit(a)))?;
+    /// let made = shared.call_each(&rt, &mut seat, calls.as_slice());
     /// assert_eq!(rt; made.end, CallsEnd::Whole);
     /// ```
-    pub fn call_each(
-        &self,
-        rt: &impl Wait,
-        seat: &mut Seat<N>,
-        calls: &mut VecDeque<DemandedCall, Room>,
-    ) -> CallsMade
-        ensures receipts { (journal : JournalView) × IsSharedJournal N.start journal
-            × IsPrefix (map plain_receipt result.receipts.items)
-            (receipts_of journal calls.old.items)
-            × (result.end ≢ calls_end.OutOfMemory → (map plain_receipt result.receipts.items
-            ≡ receipts_of journal calls.old.items)
-            × (result.end ≡ end_of journal calls.old.items))
-            × (result.end ≡ calls_end.OutOfMemory → (result.receipts.items ≡ [])
-            ⊎ (length result.receipts.items < length (receipts_of journal calls.old.items))) }
-        ensures rest { result.end ≢ calls_end.OutOfMemory → calls.new.items
-            ≡ drop (length result.receipts.items) calls.old.items }
-        ensures memory { result.end ≡ calls_end.OutOfMemory
-            → ((calls.new.items ≡ calls.old.items) × (result.receipts.items ≡ []))
-            ⊎ (calls.new.items ≡ drop (length result.receipts.items + 1) calls.old.items) }
-        ensures made { seat.new.made ≡ seat.old.made + length result.receipts.items }
+    pub fn call_each(&self, rt: &impl Wait, seat: &mut Seat<N>, calls: &[DemandedCall]) -> CallsMade
+        ensures replies { (journal : JournalView) × IsSharedJournal N.start journal
+            × (result.first ≡ next_entry journal)
+            × IsPrefix (map plain_reply result.replies.items) (replies_of journal calls.now)
+            × (result.end ≢ calls_end.OutOfMemory → (map plain_reply result.replies.items
+            ≡ replies_of journal calls.now) × (result.end ≡ end_of journal calls.now))
+            × (result.end ≡ calls_end.OutOfMemory
+            → length result.replies.items < length (replies_of journal calls.now)) }
+        ensures made { seat.new.made ≡ seat.old.made + length result.replies.items }
     {
-        let made = self.locked.lock(rt).call_each(seat, calls);
-        if frees_any(made.receipts.as_slice()) {
+        let made = self.take(rt).call_each(seat, calls);
+        if have_ended(calls, made.replies.as_slice()) {
             self.freed.notify_all();
         }
         made
@@ -236,7 +266,7 @@ impl<N: Sharing, R: Wait + Drop> Shared<N, R> {
             × IsPrefix looker.old (state.board.published ++ state.board.pending)
             × (state.board.pending ≢ []) }
     {
-        self.locked.lock(rt).brief(looker)
+        self.take(rt).brief(looker)
     }
 
     /// Publishes what is pending. False: there was no memory, and the board is out of date.
@@ -248,7 +278,7 @@ impl<N: Sharing, R: Wait + Drop> Shared<N, R> {
         ensures rest { result ≡ false → (state : LockedState) × IsFollowed N.opening_contents N.start state
             × (state.board.pending ≢ []) }
     {
-        self.locked.lock(rt).refresh()
+        self.take(rt).refresh()
     }
 
     /// Folds the journal's past into its opening, as `Guardian::checkpoint` does. Lookers, board
@@ -260,7 +290,7 @@ impl<N: Sharing, R: Wait + Drop> Shared<N, R> {
         ensures error { (state : LockedState) × IsFollowed N.opening_contents N.start state
             × IsCheckpointAnswer state.journal (result_err result) }
     {
-        self.locked.lock(rt).checkpoint()
+        self.take(rt).checkpoint()
     }
 
     /// Gives the guardian back and ends the board, if these receipts and seats agree with the
@@ -282,9 +312,14 @@ impl<N: Sharing, R: Wait + Drop> Shared<N, R> {
         ensures stand { IfOk result (λ guardian. All (Stands guardian.opening guardian.entries)
             (map plain_receipt receipts.now)) }
         ensures apart { OnOk result (AreApart (map plain_receipt receipts.now)) }
-        ensures count { IfOk result (λ guardian. entries_since N.start guardian.opening
-            guardian.entries ≡ sum_by (λ seat. seat.made) seats.items) }
+        ensures count { IfOk result (λ guardian. next_entry guardian
+            ≡ N.start + sum_by (λ seat. seat.made) seats.items) }
         ensures back { IfErr result (λ unsettled. unsettled.seats ≡ seats) }
+        ensures fault { IfErr result (λ unsettled. (journal : JournalView)
+            × IsSharedJournal N.start journal
+            × IsSettleAnswer (settle_fault journal.opening journal.entries N.start
+            (sum_by (λ seat. seat.made) seats.items) (map plain_receipt receipts.now))
+            unsettled.fault) }
     {
         let Shared { locked, freed } = self;
         let locked = locked.into_inner();
@@ -299,46 +334,5 @@ impl<N: Sharing, R: Wait + Drop> Shared<N, R> {
                 seats,
             }),
         }
-    }
-}
-
-/// Whether the call ended actions, so that waiting threads should try again.
-fn frees(receipt: &Result<Receipt, OutOfMemory>) -> bool
-    ensures { result ≡ has_ended receipt.now }
-{
-    match receipt {
-        Ok(receipt) => ends(receipt),
-        Err(OutOfMemory) => false,
-    }
-}
-
-/// Whether one of these calls ended actions.
-fn frees_any(receipts: &[Receipt]) -> bool
-    ensures { result ≡ list_any ends receipts.now }
-{
-    for receipt in receipts {
-        if ends(receipt) {
-            return true;
-        }
-    }
-    false
-}
-
-/// Whether this call ended actions.
-fn ends(receipt: &Receipt) -> bool
-    ensures { result ≡ ends receipt.now }
-{
-    match receipt.call {
-        Call::Commit(_) | Call::Abort(_) | Call::AbortOthers(_) => {
-            matches!(receipt.reply, Reply::Answered(_))
-        }
-        Call::Declare(_)
-        | Call::BeginTop
-        | Call::BeginSub(_)
-        | Call::BeginNested(_)
-        | Call::Ask(_, _, _)
-        | Call::Alter(_, _, _)
-        | Call::TestRead(_, _)
-        | Call::TestWrite(_, _) => false,
     }
 }

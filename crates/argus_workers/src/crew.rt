@@ -9,6 +9,9 @@ use std::thread::Threads;
 pub(crate) trait Crew<J> {
     /// Does one job.
     fn work(&self, job: J);
+
+    /// One job fewer will be done.
+    fn leave_out(&self);
 }
 
 /// Runs the jobs, the last one on this thread and each other one on a thread of its own, and
@@ -21,7 +24,9 @@ pub(crate) fn do_all<R: Threads + Wait, C: Crew<J> + Sync, J: Send + Drop>(
     let last = jobs.pop();
     thread::scope(thread::scope_env(), rt, move |scope| {
         for job in jobs {
-            let _undone = scope.spawn(move || crew.work(job));
+            if scope.spawn(move || crew.work(job)).is_err() {
+                crew.leave_out();
+            }
         }
         if let Some(job) = last {
             crew.work(job);

@@ -77,7 +77,12 @@ fn run_together<N: Sharing + Send + Sync, R: Threads + Wait + Drop + Send + Sync
     receipts: &mut Vec<Receipt, Room>,
 ) -> Result<(), Stopped> {
     let mut left = rooms_for(handed.heap, seats.len(), handed.arms.len())?;
-    run_all(handed, seats, left.as_mut_slice())?;
+    handed
+        .shared
+        .expect_callers(handed.rt, u32::try_from(seats.len()).ok());
+    let ran = run_all(handed, seats, left.as_mut_slice());
+    handed.shared.expect_callers(handed.rt, Some(1));
+    ran?;
     abort_unrun(handed, seats, left.as_slice());
     gather(handed.heap, left, handed.arms.len(), receipts)
 }

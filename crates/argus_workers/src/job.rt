@@ -20,5 +20,10 @@ impl<'a, N: Sharing, R: Wait + Drop, G: Gate> Crew<Job<'a, N>> for ArmContext<'_
     fn work(&self, job: Job<'a, N>) {
         let Job { number, seat, left } = job;
         left.outcome = self.run_arms(number, seat, &mut left.receipts, &mut left.ends);
+        self.shared.lose_caller(self.rt);
+    }
+
+    fn leave_out(&self) {
+        self.shared.lose_caller(self.rt);
     }
 }

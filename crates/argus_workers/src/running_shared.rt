@@ -23,7 +23,8 @@ use std::thread::Threads;
 /// arms; arm k of an outermost coenter is run by worker k mod workers, with the seat after its
 /// number, each worker's arms in order. A coenter inside an arm is run by that arm's worker. The
 /// workers that have an arm run at once, one on this thread and each other one on a thread of its
-/// own. Accesses wait for their locks for at most `patience` wake-ups.
+/// own. Accesses wait for their locks for at most `patience` wake-ups; one that would wait while
+/// all other workers wait, so that nobody is left to wake it, is made at once.
 ///
 /// On `Ok` the receipts, in script order, are those of the run. Of two calls that aren't made by
 /// two arms of one outermost coenter the earlier has the lower number. Each arm ended as its last
@@ -39,7 +40,7 @@ use std::thread::Threads;
 /// what it did. If no thread can be made for a worker, that counts as memory refused in its arms.
 ///
 /// `RunFault::Write` never comes. There is one seat more than workers, and at least one worker. It
-/// may wait for other threads: for ever if two wait for each other.
+/// may wait for other threads. Nobody else makes calls meanwhile.
 ///
 /// ```text
 /// let report = run_shared(&rt, heap, &shared, &mut seats, &script, &NoGate, 2, 0)?;
@@ -72,7 +73,10 @@ pub fn run_shared<N: Sharing + Send + Sync, R: Threads + Wait + Drop + Send + Sy
     let Some(before) = made_by(seats) else {
         return Err(RunFault::Memory);
     };
-    let Ok(receipts) = walk(&team, seats, script) else {
+    shared.expect_callers(rt, Some(1));
+    let walked = walk(&team, seats, script);
+    shared.expect_callers(rt, None);
+    let Ok(receipts) = walked else {
         return Err(RunFault::Memory);
     };
     let Some(after) = made_by(seats) else {

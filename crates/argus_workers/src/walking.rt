@@ -90,7 +90,7 @@ fn walk_step<N: Sharing + Send + Sync, R: Threads + Wait + Drop + Send + Sync, G
             }
         },
         (Step::Block(BlockKind::If(lock, x), body), Some(action)) => {
-            match tested(first, *lock, object_at(numbers, *x), action)? {
+            match flow_unless_yes(first, *lock, object_at(numbers, *x), action)? {
                 None => walk_steps(team, first, others, numbers, body, within),
                 Some(flow) => Ok(flow),
             }
@@ -120,8 +120,8 @@ fn walk_step<N: Sharing + Send + Sync, R: Threads + Wait + Drop + Send + Sync, G
     }
 }
 
-// How the block goes on after a test; `None` if it returned yes.
-fn tested<C: Caller>(
+// How the block goes on after a test that didn't return yes; `None` if it did.
+fn flow_unless_yes<C: Caller>(
     caller: &mut C,
     lock: Lock,
     object: ObjId,

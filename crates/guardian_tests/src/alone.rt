@@ -49,6 +49,7 @@ pub(crate) fn answer_alone(
             tell_word("done", &mut out)?;
         }
         "length" => tell_number(guardian.journal().journal().len(), &mut out)?,
+        "first_entry" => tell_number(guardian.journal().journal().first_entry(), &mut out)?,
         "base" => match guardian.base(object(rest)?) {
             Some(content) => tell_content(content, &mut out)?,
             None => tell_word("undeclared", &mut out)?,

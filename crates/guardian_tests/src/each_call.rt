@@ -1,8 +1,7 @@
-//! The calls of a list, as a row spells them.
+//! The calls of a list, as a row spells them, and their receipts.
 
-use argus_guardian::{Demand, DemandedCall};
-use argus_values::{Heap, Room};
-use std::collections::VecDeque;
+use argus_guardian::{CallsMade, Demand, DemandedCall, Receipt};
+use argus_values::{Heap, OutOfMemory, Room};
 use test_rows::{RowFault, call_of, reply_of};
 
 /// The calls between commas, but for the first ones.
@@ -10,10 +9,10 @@ pub(crate) fn calls_of(
     heap: Heap,
     text: &str,
     made: usize,
-) -> Result<VecDeque<DemandedCall, Room>, RowFault> {
-    let mut calls = VecDeque::new(heap.room());
+) -> Result<Vec<DemandedCall, Room>, RowFault> {
+    let mut calls = Vec::new(heap.room());
     for part in text.split(", ").skip(made) {
-        calls.push_back(demanded_of(heap, part)?)?;
+        calls.push(demanded_of(heap, part)?)?;
     }
     Ok(calls)
 }
@@ -30,4 +29,21 @@ fn demanded_of(heap: Heap, text: &str) -> Result<DemandedCall, RowFault> {
     };
     let call = call_of(heap, call)?;
     Ok(DemandedCall { call, demand })
+}
+
+/// Adds the receipts of the calls that were made.
+pub(crate) fn push_receipts(
+    heap: Heap,
+    calls: &[DemandedCall],
+    made: &CallsMade,
+    receipts: &mut Vec<Receipt, Room>,
+) -> Result<(), OutOfMemory> {
+    let mut at = made.first;
+    for (each, reply) in calls.iter().zip(&made.replies) {
+        let call = each.call.duplicate(heap)?;
+        let reply = reply.duplicate(heap)?;
+        receipts.push(Receipt { at, call, reply })?;
+        at = at.wrapping_add(1);
+    }
+    Ok(())
 }

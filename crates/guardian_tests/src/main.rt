@@ -45,12 +45,12 @@ const FILES: [(&str, Form); 12] = [
     ("waiting.rows", Form::Shared),
     ("locks.rows", Form::BySeat("")),
     ("ends.rows", Form::BySeat("")),
-    ("contents.rows", Form::BySeat("")),
-    ("questions.rows", Form::BySeat("")),
+    ("contents.rows", Form::BySeat("answer ")),
+    ("questions.rows", Form::BySeat("answer ")),
     ("locks.rows", Form::BySeat("wait 0 ")),
     ("ends.rows", Form::BySeat("wait 0 ")),
-    ("contents.rows", Form::BySeat("wait 0 ")),
-    ("questions.rows", Form::BySeat("wait 0 ")),
+    ("contents.rows", Form::BySeat("answer wait 0 ")),
+    ("questions.rows", Form::BySeat("answer wait 0 ")),
 ];
 
 fn main(rt: HostRuntime) -> Result<()> {

@@ -1,14 +1,15 @@
 //! `Session`: a guardian from its sharing to its settlement, or its drop, which answers rows.
 
 use crate::answering::{tell_checkpoint, tell_reply};
-use crate::each_call::calls_of;
+use crate::each_call::{calls_of, push_receipts};
 use crate::sharing::budgets;
 use crate::waiting::{Others, WAITING, wait_meanwhile};
 use argus_guardian::{
-    CallsEnd, Guardian, LookFault, Looker, Parts, Receipt, Seat, SettleFault, Shared, Sharing,
-    Unsettled,
+    Answered, CallsEnd, Guardian, LookFault, Looker, Parts, Receipt, Seat, SettleFault, Shared,
+    Sharing, Unsettled,
 };
-use argus_values::{Heap, ObjId, Room};
+use argus_journal::Call;
+use argus_values::{Heap, ObjId, OutOfMemory, Room};
 use std::fmt::Write;
 use std::mem::replace;
 use std::sync::Wait;
@@ -301,7 +302,7 @@ impl<N: Sharing + Send + Sync, R: Threads + Wait + Copy + Drop + Send + Sync> Se
     }
 }
 
-// A call, or one that waits: `wait 3 commit a0`.
+// A call, or one that waits: `wait 3 commit a0`; behind `answer`, one that returns no receipt.
 fn make_call<N: Sharing, R: Wait + Drop>(
     rt: &R,
     setting: Setting,
@@ -311,23 +312,60 @@ fn make_call<N: Sharing, R: Wait + Drop>(
     text: &str,
     out: &mut String<Room>,
 ) -> Result<(), RowFault> {
-    let receipt = match text.strip_prefix("wait ") {
+    let (is_bare, text) = match text.strip_prefix("answer ") {
+        Some(rest) => (true, rest),
+        None => (false, text),
+    };
+    let (patience, asked) = match text.strip_prefix("wait ") {
         Some(waiting) => {
             let (patience, asked) = first_word(waiting);
-            let patience = patience.parse::<u32>()?;
-            let call = call_of(setting.heap, asked)?;
-            setting.limit();
-            shared.call_waiting(rt, seat, call, patience)?
+            (Some(patience.parse::<u32>()?), asked)
         }
-        None => {
-            let call = call_of(setting.heap, text)?;
-            setting.limit();
-            shared.call(rt, seat, call)?
+        None => (None, text),
+    };
+    let call = call_of(setting.heap, asked)?;
+    let receipt = if is_bare {
+        let copy = call.duplicate(setting.texts)?;
+        setting.limit();
+        let Answered { at, reply } = answer(rt, shared, seat, call, patience)?;
+        Receipt {
+            at,
+            call: copy,
+            reply,
         }
+    } else {
+        setting.limit();
+        receive(rt, shared, seat, call, patience)?
     };
     tell_reply(&receipt.reply, out)?;
     receipts.push(receipt)?;
     Ok(())
+}
+
+fn answer<N: Sharing, R: Wait + Drop>(
+    rt: &R,
+    shared: &Shared<N, R>,
+    seat: &mut Seat<N>,
+    call: Call,
+    patience: Option<u32>,
+) -> Result<Answered, OutOfMemory> {
+    match patience {
+        None => shared.answer(rt, seat, call),
+        Some(patience) => shared.answer_waiting(rt, seat, call, patience),
+    }
+}
+
+fn receive<N: Sharing, R: Wait + Drop>(
+    rt: &R,
+    shared: &Shared<N, R>,
+    seat: &mut Seat<N>,
+    call: Call,
+    patience: Option<u32>,
+) -> Result<Receipt, OutOfMemory> {
+    match patience {
+        None => shared.call(rt, seat, call),
+        Some(patience) => shared.call_waiting(rt, seat, call, patience),
+    }
 }
 
 // `CALL, CALL`: those that weren't made yet are made together.
@@ -341,11 +379,11 @@ fn call_each<N: Sharing, R: Wait + Drop>(
     text: &str,
     out: &mut String<Room>,
 ) -> Result<(), RowFault> {
-    let mut calls = calls_of(setting.heap, text, receipts.len().saturating_sub(before))?;
+    let calls = calls_of(setting.heap, text, receipts.len().saturating_sub(before))?;
     setting.limit();
-    let mut made = shared.call_each(rt, seat, &mut calls);
+    let made = shared.call_each(rt, seat, calls.as_slice());
     setting.lift();
-    receipts.append(&mut made.receipts)?;
+    push_receipts(setting.texts, calls.as_slice(), &made, receipts)?;
     if made.end == CallsEnd::OutOfMemory {
         return Err(RowFault::OutOfMemory);
     }

@@ -1,6 +1,6 @@
 //! A call that waits in one thread, and what another thread does meanwhile.
 
-use crate::each_call::calls_of;
+use crate::each_call::{calls_of, push_receipts};
 use argus_actions::ActionId;
 use argus_guardian::{CallsEnd, Receipt, Seat, Shared, Sharing};
 use argus_journal::{Call, Reply};
@@ -107,16 +107,23 @@ fn make_others<N: Sharing, R: Wait + Drop>(
     state: &AtomicU64,
 ) -> Result<Vec<Receipt, Room>, RowFault> {
     let Others { heap, text } = others;
+    let mut receipts = Vec::new(heap.room());
     if let Some(together) = text.strip_prefix("together ") {
-        let made = shared.call_each(rt, seat, &mut calls_of(heap, together, 0)?);
+        let calls = calls_of(heap, together, 0)?;
+        let made = shared.call_each(rt, seat, calls.as_slice());
+        push_receipts(heap, calls.as_slice(), &made, &mut receipts)?;
         return match made.end {
-            CallsEnd::Whole => Ok(made.receipts),
+            CallsEnd::Whole => Ok(receipts),
             CallsEnd::Unmet | CallsEnd::OutOfMemory => Err(RowFault::OutOfMemory),
         };
     }
-    let mut receipts = Vec::new(heap.room());
     if text == "others end" {
         stir(rt, shared, seat, state, &mut receipts)?;
+        return Ok(receipts);
+    }
+    if let Some(answered) = text.strip_prefix("answer ") {
+        // Its receipt isn't kept: any of the receipts will do for the settlement.
+        shared.answer(rt, seat, call_of(heap, answered)?)?;
         return Ok(receipts);
     }
     for call in text.split(", ") {
