@@ -19,7 +19,7 @@ MOST_WORDS = 40
 SPAN = re.compile(r"``? ?[^\n]*?`+")
 LINK = re.compile(r"!?\[([^\]]*)\]\([^)]*\)")
 SENTENCE_END = re.compile(r"(?<=[.?!])\)?[*\"]*\s+")
-ITEM = re.compile(r"\s*(?:[-*]|\d+\.)\s")
+ITEM = re.compile(r"^\s*(?:[-*]|\d+\.)\s")
 
 
 def budgets():
