@@ -29,10 +29,8 @@ def budgets():
         if not line or line.startswith("#"):
             continue
         most, pattern, *plain = line.split()
-        pages = sorted(TOP.glob(pattern))
-        if not pages:
-            print(f"tools/budgets.txt: no page {pattern}")
-        found |= {page: (int(most), plain == ["plain"]) for page in pages} or {TOP / pattern: (0, False)}
+        pages = sorted(TOP.glob(pattern)) or [TOP / pattern]
+        found |= {page: (int(most), plain == ["plain"]) for page in pages}
     return found
 
 

@@ -68,8 +68,8 @@ def definitions():
 def mistakes():
     """The page of mistakes that the prover has to refuse."""
     listed = subprocess.run([TOP / "tools/mistakes.py", "--list"], capture_output=True, text=True, check=True)
-    yield "# Mistakes that the prover has to refuse\n\nEach is an edit in must-fail/; `tools/edits.py` says which test tells it.\n\n"
-    yield listed.stdout
+    yield "# Mistakes that the prover has to refuse\n\nEach is an edit in must-fail/. `tools/edits.py` says which test "
+    yield f"tells it.\n\n{listed.stdout}"
 
 
 def types_of_memory():
@@ -96,8 +96,8 @@ def signatures(path):
         elif line == "}":
             owner = ""
         if found := FUNCTION.match(line):
-            signature = re.split(r"\b(?:requires|ensures|where)\b|\{", " ".join(lines[place : place + 16]), maxsplit=1)[0]
-            yield owner, found.group(1), signature
+            text = " ".join(lines[place : place + 16])
+            yield owner, found.group(1), re.split(r"\b(?:requires|ensures|where)\b|\{", text, maxsplit=1)[0]
 
 
 def calls_of(crate, errors):
@@ -113,8 +113,8 @@ def calls_of(crate, errors):
 def memory():
     """The page of calls that may find no memory."""
     errors = types_of_memory()
-    yield "# Calls that may find no memory\n\nBy the types that they return. One that tells it by a flag, or by what it "
-    yield "was called on, isn't here. docs/TESTING.md says how they are tested.\n"
+    yield "# Calls that may find no memory\n\nBy the types that they return. One that tells it by a flag, or by what "
+    yield "it was called on, isn't here. docs/TESTING.md says how they are tested.\n"
     for crate in crates():
         calls = sorted(set(calls_of(crate, errors)))
         if crate.name.endswith(("_tests", "_bench", "_rows")) or not calls:
