@@ -13,10 +13,9 @@ In each page (*.md) outside its blocks of code it looks at these:
   it ends as the repository's files do (.rt, .antt, .md ..). It has to be a file or folder of the
   repository, or the end of one's path: `specs/Query.antt`, `query.rt`. `*` stands for any characters. A
   word in capitals stands for a name, and what .gitignore names is made by a build: neither is looked for.
-  A page may shorten a folder to one capital letter, as CONTRIBUTING does: "`C` is crates/argus_contents".
+  A page may shorten a folder to one capital letter, as docs/CHANGING.md does: "`C` is crates/argus_contents".
 - A path outside of backticks, where it begins with a folder at the top.
-- An edit that the prover has to refuse, named in docs/MISTAKES.md as CRATE/edit.
-- A definition, in a row of docs/DEFINITIONS.md that begins with a link to its file: it stands there.
+- An edit that the prover has to refuse, named in a row of docs/TESTING.md as CRATE/edit.
 
 It prints a line for each that isn't there, and how many it looked at. Python 3 is all that it needs.
 """
@@ -138,20 +137,11 @@ class Checker:
             self.say(page, number, f"no file or folder {text}")
 
     def check_edits(self, page, number, cell):
-        """The edits that a row of docs/MISTAKES.md names as CRATE/edit."""
+        """The edits that a row of docs/TESTING.md names as CRATE/edit."""
         for edit in EDIT.findall(cell):
             self.looked_at += 1
             if f"must-fail/{edit}.edit" not in self.files:
                 self.say(page, number, f"no edit {edit}")
-
-    def check_definitions(self, page, number, target, cell):
-        """The definitions that a row of docs/DEFINITIONS.md names: they stand in the file of its link."""
-        path = page.parent / target
-        text = path.read_text(encoding="utf-8") if path.exists() else ""
-        for name in SPAN.findall(cell):
-            self.looked_at += 1
-            if not re.search(rf"^(?!\s*--).*\b{re.escape(name)}\b", text, re.MULTILINE):
-                self.say(page, number, f"no definition {name} in {target}")
 
     @property
     def crates(self):
@@ -167,10 +157,8 @@ class Checker:
                 self.check_link(page, number, target)
             for path in SPAN.findall(line) + PLAIN.findall(LINK.sub("", SPAN.sub("", line))):
                 self.check_path(page, number, path, letters)
-            if page.name == "MISTAKES.md" and line.startswith("| ") and line.count("|") == 5:
+            if page.name == "TESTING.md" and line.startswith("| ") and line.count("|") == 4:
                 self.check_edits(page, number, line.split("|")[3])
-            if page.name == "DEFINITIONS.md" and line.startswith("| ["):
-                self.check_definitions(page, number, LINK.search(line).group(1), line.split("|")[2])
 
 
 def main():
