@@ -6,7 +6,6 @@ use crate::reply_summary::ReplySummary;
 use argus_actions::ActionId;
 use argus_journal::Call;
 use argus_values::{Change, Content, Heap, Name, ObjId, OutOfMemory, Query, Shape, Ty, Value};
-use std::collections::VecDeque;
 
 /// A guardian, or a seat of a shared one, which is called by values of `Call`. A reply of another
 /// kind than the call asks for is an error.
@@ -66,17 +65,6 @@ impl<K: Callee> Client<K> {
         self.have_done(Call::Alter(a, o, Change::SetField(0, Value::Int(number))))
     }
 
-    /// Sets the integer at this place of an array.
-    pub(crate) fn store(
-        &mut self,
-        a: ActionId,
-        o: ObjId,
-        place: i64,
-        number: i64,
-    ) -> Result<(), BenchError> {
-        self.have_done(Call::Alter(a, o, Change::Store(place, Value::Int(number))))
-    }
-
     fn have_done(&mut self, call: Call) -> Result<(), BenchError> {
         expect_done(self.callee.answer(call)?)
     }
@@ -84,11 +72,6 @@ impl<K: Callee> Client<K> {
     /// The integer of a record.
     pub(crate) fn get(&mut self, a: ActionId, o: ObjId) -> Result<i64, BenchError> {
         self.ask(a, o, Query::Field(0))
-    }
-
-    /// The integer at this place of an array.
-    pub(crate) fn fetch(&mut self, a: ActionId, o: ObjId, place: i64) -> Result<i64, BenchError> {
-        self.ask(a, o, Query::Fetch(place))
     }
 
     fn ask(&mut self, a: ActionId, o: ObjId, query: Query) -> Result<i64, BenchError> {
@@ -107,16 +90,6 @@ impl<K: Callee> Client<K> {
         let o = self.declare(shape)?;
         let a = self.begin_top()?;
         let content = record(self.heap, 0)?;
-        self.create(a, o, content)?;
-        Ok(o)
-    }
-
-    /// An array of this many integers from 1 on, which a topaction of its own creates as 0.
-    pub(crate) fn declare_array(&mut self, count: u16) -> Result<ObjId, BenchError> {
-        let shape = Shape::arr(Ty::Int)?;
-        let o = self.declare(shape)?;
-        let a = self.begin_top()?;
-        let content = array(self.heap, count)?;
         self.create(a, o, content)?;
         Ok(o)
     }
@@ -150,14 +123,6 @@ fn record_shape(heap: Heap) -> Result<Shape, BenchError> {
     let mut fields = Vec::new(heap.room());
     fields.push((name, Ty::Int))?;
     Ok(Shape::rec(fields)?)
-}
-
-fn array(heap: Heap, count: u16) -> Result<Content, OutOfMemory> {
-    let zeros = (0..count).map(|_| Value::Int(0)).collect(heap.room())?;
-    Ok(Content::Arr {
-        low: 1,
-        items: VecDeque::from_vec(zeros),
-    })
 }
 
 fn expect_done(told: ReplySummary) -> Result<(), BenchError> {

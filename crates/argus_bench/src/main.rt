@@ -52,11 +52,6 @@ WORK is one of these:
   abort:N    the same, and aborts
   chain      64 actions, each the subaction of the one before; the last sets a record, and
              all commit: 129 calls
-  stores     a store into an array of 65,000 integers, by one topaction: the first store
-             (with the topaction's begin), the next ones, and the commit
-  reads      a topaction that reads each of 1,000 records: the asks, and the commit
-  audit      a topaction that sets 8 of 1,000 records; what is timed is the audit after all
-             turns: what the journal's writes leave in each record
 
 or one of these, on a shared guardian of 1,000 records:
   shared:flat, shared:nested
@@ -83,9 +78,6 @@ const WORKS: &[&str] = &[
     "commit:10",
     "abort:10",
     "chain",
-    "stores",
-    "reads",
-    "audit",
     "shared:flat",
     "shared:nested",
     "own:2",

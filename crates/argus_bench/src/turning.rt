@@ -119,16 +119,6 @@ pub(crate) fn turn_abort<K: Callee>(
     client.abort(a)
 }
 
-/// A topaction that sets the next eight of the records in turn to the number of its turn.
-pub(crate) fn turn_eight<K: Callee>(client: &mut Client<K>, turn: u32) -> Result<(), BenchError> {
-    let first = turn % (u32::from(RECORDS) / 8) * 8;
-    let a = client.begin_top()?;
-    for o in first..first + 8 {
-        client.set(a, ObjId(o), i64::from(turn))?;
-    }
-    client.commit(a)
-}
-
 /// A chain of 64 actions, each the subaction of the one before. The last sets a record, and all
 /// commit, the last first.
 pub(crate) fn turn_chain<K: Callee>(client: &mut Client<K>, turn: u32) -> Result<(), BenchError> {

@@ -15,9 +15,6 @@ pub(crate) enum Work {
     Commit(u16),
     Abort(u16),
     Chain,
-    Stores,
-    Reads,
-    Audit,
 }
 
 impl FromStr for Work {
@@ -45,9 +42,6 @@ fn named(text: &str) -> Result<Work, BenchError> {
         "flat" => Ok(Work::Flat),
         "nested" => Ok(Work::Nested),
         "chain" => Ok(Work::Chain),
-        "stores" => Ok(Work::Stores),
-        "reads" => Ok(Work::Reads),
-        "audit" => Ok(Work::Audit),
         _ => Err(BenchError::UnknownWork),
     }
 }

@@ -5,16 +5,12 @@ use crate::callee::Callee;
 use crate::client::Client;
 use crate::draws::Draws;
 use crate::turning::{
-    CHAIN_RECORDS, RECORDS, turn_abort, turn_chain, turn_commit, turn_eight, turn_flat, turn_nested,
+    CHAIN_RECORDS, RECORDS, turn_abort, turn_chain, turn_commit, turn_flat, turn_nested,
 };
 use crate::work::Work;
 use argus_actions::ActionId;
 use argus_guardian::Guardian;
-use argus_journal::replay_base;
 use argus_values::{Content, Heap, ObjId, Value};
-
-/// How many integers the array of the stores has.
-pub(crate) const ITEMS: u16 = 65_000;
 
 /// A guardian with this many records, of the numbers from 0 on.
 pub(crate) fn with_records(heap: Heap, count: u16) -> Result<Client<Guardian>, BenchError> {
@@ -28,10 +24,9 @@ pub(crate) fn with_records(heap: Heap, count: u16) -> Result<Client<Guardian>, B
 /// How many records the work begins with.
 pub(crate) fn records_of(work: Work) -> u16 {
     match work {
-        Work::Flat | Work::Nested | Work::Reads | Work::Audit => RECORDS,
+        Work::Flat | Work::Nested => RECORDS,
         Work::Commit(count) | Work::Abort(count) => count,
         Work::Chain => CHAIN_RECORDS,
-        Work::Stores => 0,
     }
 }
 
@@ -61,26 +56,8 @@ fn make_turn<K: Callee>(
         Work::Commit(count) => turn_commit(client, draws, count, turn)?,
         Work::Abort(count) => turn_abort(client, draws, count, turn)?,
         Work::Chain => turn_chain(client, turn)?,
-        Work::Audit => turn_eight(client, turn)?,
-        Work::Stores | Work::Reads => {}
     }
     Ok(0)
-}
-
-/// Stores the numbers from `from` on and below `to`, each at a place that is drawn.
-pub(crate) fn store_numbers<K: Callee>(
-    client: &mut Client<K>,
-    draws: &mut Draws,
-    a: ActionId,
-    o: ObjId,
-    from: u32,
-    to: u32,
-) -> Result<(), BenchError> {
-    for number in from..to {
-        let place = i64::from(draws.below(ITEMS)) + 1;
-        client.store(a, o, place, i64::from(number))?;
-    }
-    Ok(())
 }
 
 /// What the action sees in the records, each times its place from 1 on.
@@ -97,25 +74,6 @@ pub(crate) fn read_records<K: Callee>(
     Ok(sum)
 }
 
-/// The bases that the journal's writes leave in the records, each times its place from 1 on.
-pub(crate) fn replay_records(client: &Client<Guardian>, count: u16) -> Result<i64, BenchError> {
-    let mut sum = 0i64;
-    for number in 0..count {
-        let left = replay(client.heap, &client.callee, ObjId(u32::from(number)))?;
-        sum = sum.wrapping_add(left.wrapping_mul(i64::from(number) + 1));
-    }
-    Ok(sum)
-}
-
-// The integer in the base that the journal's writes leave in a record.
-fn replay(heap: Heap, guardian: &Guardian, o: ObjId) -> Result<i64, BenchError> {
-    let left = replay_base(heap, guardian.journal().journal(), o)?;
-    match number_in(&left) {
-        Some(number) => Ok(number),
-        None => Err(BenchError::OtherReply),
-    }
-}
-
 /// The integer of a record.
 pub(crate) fn number_in(content: &Option<Content>) -> Option<i64> {
     let Some(Content::Rec(values)) = content else {
@@ -125,20 +83,6 @@ pub(crate) fn number_in(content: &Option<Content>) -> Option<i64> {
         return None;
     };
     Some(*number)
-}
-
-/// What the action sees in the array, each times its place.
-pub(crate) fn read_array<K: Callee>(
-    client: &mut Client<K>,
-    a: ActionId,
-    o: ObjId,
-) -> Result<i64, BenchError> {
-    let mut sum = 0i64;
-    for place in 1..=ITEMS {
-        let place = i64::from(place);
-        sum = sum.wrapping_add(client.fetch(a, o, place)?.wrapping_mul(place));
-    }
-    Ok(sum)
 }
 
 /// The bases of the records, each times its place from 1 on.
@@ -162,14 +106,6 @@ pub(crate) fn add_records<K: Callee>(
     for number in 0..count {
         sum = sum.wrapping_add(client.get(a, ObjId(u32::from(number)))?);
     }
-    client.commit(a)?;
-    Ok(sum)
-}
-
-/// The base of the array, each integer times its place.
-pub(crate) fn weigh_array<K: Callee>(client: &mut Client<K>, o: ObjId) -> Result<i64, BenchError> {
-    let a = client.begin_top()?;
-    let sum = read_array(client, a, o)?;
     client.commit(a)?;
     Ok(sum)
 }
