@@ -1,22 +1,21 @@
 #!/usr/bin/env bash
 # SPDX-License-Identifier: MIT
-# Looks at the pages of the repository, in a second: what they point to is there, the maps of files and
-# the picture of the design are as their scripts write them, README.md and docs/EMBEDDING.md show the texts of
-# files that are run, and the version is the same wherever it stands. All look, and each line that is printed but the
-# count of links is a fault.
+# Looks at the pages of the repository, in a second: what they point to is there, they keep to their budgets of words,
+# the picture of the design is as its script draws it, README.md and docs/EMBEDDING.md show the texts of files that are
+# run, and the version is the same wherever it stands. All look, and each line that is printed but the count of links
+# is a fault.
 #
 #   tools/pages.sh           the status tells whether all is well
-#   tools/pages.sh --write   first writes the maps and the picture anew
+#   tools/pages.sh --write   first draws the picture anew
 set -uo pipefail
 cd "$(dirname "$0")/.."
 
 if [ "${1:-}" = --write ]; then
-    tools/maps.py
     tools/design.py
 fi
 status=0
 tools/links.py || status=1
-tools/maps.py --check || status=1
+tools/budgets.py || status=1
 tools/design.py --check || status=1
 tools/readme.py --texts || status=1
 awk '/^```$/ { shown = 0 } shown; /^```rust$/ { shown = 1 }' docs/EMBEDDING.md |
