@@ -22,16 +22,27 @@ SENTENCE_END = re.compile(r"(?<=[.?!])\)?[*\"]*\s+")
 ITEM = re.compile(r"^\s*(?:[-*]|\d+\.)\s")
 
 
+def lines():
+    """The words of each line of the table."""
+    text = (TOP / "tools/budgets.txt").read_text(encoding="utf-8")
+    return [line.split() for line in text.splitlines() if line and not line.startswith("#")]
+
+
 def budgets():
     """For each page the words that it may have, and whether its sentences are looked at."""
     found = {}
-    for line in (TOP / "tools/budgets.txt").read_text(encoding="utf-8").splitlines():
-        if not line or line.startswith("#"):
-            continue
-        most, pattern, *plain = line.split()
+    for most, pattern, *plain in (line for line in lines() if line[0] != "all"):
         pages = sorted(TOP.glob(pattern)) or [TOP / pattern]
         found |= {page: (int(most), plain == ["plain"]) for page in pages}
     return found
+
+
+def faults_together():
+    """What is wrong with pages that have a budget together."""
+    for _, most, pattern in (line for line in lines() if line[0] == "all"):
+        words = sum(len(page.read_text(encoding="utf-8").split()) for page in TOP.glob(pattern))
+        if words > int(most):
+            yield f"{pattern}: {words} words together, and at most {most} are allowed"
 
 
 def paragraphs(text):
@@ -77,7 +88,9 @@ def faults(page, most, is_plain):
 
 
 def main():
-    found = 0
+    together = list(faults_together())
+    print("".join(f"{fault}\n" for fault in together), end="")
+    found = len(together)
     for page, (most, is_plain) in sorted(budgets().items()):
         name = page.relative_to(TOP)
         if sys.argv[1:] == ["--list"] and page.exists():

@@ -1,12 +1,11 @@
 #!/usr/bin/env bash
 # SPDX-License-Identifier: MIT
 # Looks at the pages of the repository, in a second: what they point to is there, they are no longer than
-# tools/budgets.txt allows, the maps of files and the picture of the design are as their scripts write them,
-# README.md and docs/EMBEDDING.md show the texts of files that are run, and the version is the same wherever it
-# stands. All look, and each line that is printed but the count of links is a fault.
+# tools/budgets.txt allows, the picture of the design is as its script draws it, README.md and docs/EMBEDDING.md
+# show the texts of files that are run, and the version is the same wherever it stands. All look, and each line that is printed but the count of links is a fault.
 #
 #   tools/pages.sh              the status tells whether all is well
-#   tools/pages.sh --write      first writes the maps and the picture anew
+#   tools/pages.sh --write      first draws the picture anew
 #   tools/pages.sh --generate   only writes the pages that aren't committed: definitions, mistakes that are
 #                               refused, calls that may find no memory (tools/generated.py)
 set -uo pipefail
@@ -16,13 +15,11 @@ if [ "${1:-}" = --generate ]; then
     exec tools/generated.py
 fi
 if [ "${1:-}" = --write ]; then
-    tools/maps.py
     tools/design.py
 fi
 status=0
 tools/links.py || status=1
 tools/budgets.py || status=1
-tools/maps.py --check || status=1
 tools/design.py --check || status=1
 tools/readme.py --texts || status=1
 awk '/^```$/ { shown = 0 } shown; /^```rust$/ { shown = 1 }' docs/EMBEDDING.md |

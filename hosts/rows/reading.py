@@ -1,4 +1,25 @@
-"""Files of rows: their tests, rows that stand for many, and marks that stand for bytes."""
+"""Files of rows: their tests, rows that stand for many, and marks that stand for bytes.
+
+This is what all rows have in common, here, in tools/programs, and in crates/test_rows, which reads them in Rattle. A
+file says at its head what its own rows are. An empty line separates tests, and a line that begins with `#` is a
+comment. What a row gets comes from the rules, never from a run.
+
+| Line | What it is |
+|---|---|
+| `before each test` | at most once in a file: heads the rows that come first in each of the tests below it |
+| `test NAME`, `large test NAME` | heads the rows of a test; a large one is run only with ample memory |
+| `ASKED -> ANSWER` | a row; the first arrow splits it |
+| `from 1 to 63: ROW` | 63 rows: in each, `%` is the number and `^` the one below it; `from 63 to 1` counts down |
+
+| In a row | What it stands for |
+|---|---|
+| `<128 times TEXT>` | the text so many times |
+| `<from 0 to 63: TEXT>` | the text for each number, as above |
+| `<tab>`, `<space>`, `<return>`, `<feed>`, `<byte 255>` | this byte |
+
+A test's rows go to what is tested twice: with ample memory; and, except in a large test, with each allocation refused
+in turn. After a refusal nothing may have changed, and in the end a row gets the answer that it says.
+"""
 
 from __future__ import annotations
 

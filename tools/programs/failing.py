@@ -1,10 +1,22 @@
 """The programs at their work, with each allocation refused in turn, each read failing, and a writer that is full.
 
 A row's script is run by one worker and by two, listed, replayed and drawn. A library that is laid before the C
-library's (failing.c, by LD_PRELOAD) has an allocation, a read or a write fail, and counts how often one did.
+library's (failing.c, by LD_PRELOAD) has an allocation, a read or a write fail, and counts how often one did. So it
+needs a compiler for C, and programs that are linked with the C library when they start, as the kit's are.
 
     test NAME
     | TEXT                      a line of the script
+
+What fails, and what has to come of it:
+
+- All allocations; all but the first; all but the first two; and so on, on any thread, also those for the words of the
+  command line: status 4, `out of memory`, and a prefix is written.
+- Each read of standard input in turn, and each of the script's file, where a read returns at most seven bytes: status
+  5, `read fault` or `script: read fault`; nothing is written, and no read is tried again.
+- A write, where there is room for 0 bytes, 1, 2, .. (in STEPS), by an error or since it accepts nothing, where a write
+  accepts at most two bytes: status 5, `write fault`, exactly these bytes are written, and no write is tried again.
+
+With ample memory each has status 0 and writes something.
 """
 
 import atexit
