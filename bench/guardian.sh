@@ -26,9 +26,6 @@ key_of() {
         flat-turns | nested-turns | chain-turns) echo ns_per_op 1 ;;
         commit:*-turns) echo "c$(count_of "$1")" 1 ;;
         abort:*-turns) echo "a$(count_of "$1")" 1 ;;
-        stores-first) echo first_us 1000 ;;
-        stores-next) echo ns_per_next 1 ;;
-        stores-commit) echo commit_us 1000 ;;
     esac
 }
 
@@ -95,15 +92,12 @@ report() {
 mkdir -p "$top/build"
 (cd "$top/crates/argus_bench" && rt run > "$top/build/argus_bench.log")
 touch "$figures/lines"
-# W1 to W7 are the peer program's own arguments: the names that it gives its workloads.
+# W1 to W4 are the peer program's own arguments: the names that it gives its workloads.
 for _ in $(seq "$reps"); do
     beside W1 90000 flat
     beside W2 45000 nested
     beside W3 50000 commit:10 abort:10 commit:1000 abort:1000 commit:60000 abort:60000
     beside W4 5000 chain
-    beside W7 20000 stores
-    ours 500 reads
-    ours 9900 audit
 done
 printf '%-20s %12s' 'work and part' 'ns each'
 [ -z "$peers" ] || printf ' %12s %7s' 'by hand' ratio

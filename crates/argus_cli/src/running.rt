@@ -30,7 +30,9 @@ use std::thread::Threads;
 /// A script is read up to 16,777,217 bytes: one more than it may have. One worker runs the arms of
 /// a coenter one after another. Several run those of an outermost coenter at once, each on a thread
 /// of its own, and accesses wait for their locks as long as the patience lasts; what they did is
-/// then checked against the script and the journal. If the options ask for a checkpoint, one is
+/// then checked against the script and the journal. Its entries, each once, are those of a run of
+/// the script. Of two calls the one that comes earlier in the script was made earlier, unless two
+/// arms of one outermost coenter made them. If the options ask for a checkpoint, one is
 /// made after the run; if there can't be one (an action is live, or the next entry's number is too
 /// great), the journal is listed as it is.
 ///

@@ -55,7 +55,8 @@ pub fn guardians_are_listable(guardian: &Guardian)
 }
 
 /// The journal and the line alone decide why the line isn't the next one, and where: a line has at
-/// most one fault, since what each says excludes those before it.
+/// most one fault, since what each says excludes those before it. The journal's next number has to
+/// be below 2^64.
 pub fn lines_have_one_fault()
     ensures { LinesHaveOneFault }
 {
