@@ -46,5 +46,5 @@ module _ (journal : JournalView) (each : DemandedCall) (rest : List DemandedCall
 
 -- some call has a reply
 pub some_reply : (journal : JournalView) (calls : List DemandedCall) → 0 < length calls → 0 < length (replies_of journal calls)
-some_reply journal [] none = absurd none
+some_reply journal [] none = none
 some_reply journal (each ∷ calls) some = omega arith

@@ -35,7 +35,7 @@ module _ (N R : RattleType) (a : Named N.Denot) (l : Ledgered N.Denot) (g : Ghos
   locked_inside_sends = let t = inside N R a l g in
       recorded_send _ t.D t.to t.to_one (struct_send (shape t) (
         heap_field_sends,
-        (publishing_field_sends N R g s, (book_sends N l, (search sendable, tt))),
+        (publishing_field_sends N R g s, (book_sends N l, (search sendable, (search sendable, (search (sendable, std_crosses) depth 40, tt))))),
       ))
 
   pub locked_sends : IsSend (locked_row N R a l g)

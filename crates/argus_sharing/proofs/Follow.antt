@@ -127,13 +127,19 @@ published_same (Ok a) was now ok err =
 published_same (Err b) was now ok err = ap (λ (s : BoardView). s.published ++ s.pending) err.0
 
 -- a board that stays goes on, after a call that is no commit
-pub goes_on_other : (journal : JournalView) (call : PlainCall) (board : BoardView) → IsNoCommit call
+goes_on_other : (journal : JournalView) (call : PlainCall) (board : BoardView) → IsNoCommit call
     → GoesOn board board (added_by_call journal call)
 goes_on_other journal call board other = (
   ([], append-nil board.published),
   sym (ap (λ z. (board.published ++ board.pending) ++ z) (adds_none journal call other)
       ∙ append-nil (board.published ++ board.pending)),
 )
+
+-- so it does if the call was made
+pub goes_on_if : {A B : Type 0} (r : Result A B) (journal : JournalView) (call : PlainCall) (board : BoardView)
+    → IsNoCommit call → OnOk r (GoesOn board board (added_by_call journal call))
+goes_on_if (Ok a) journal call board other = goes_on_other journal call board other
+goes_on_if (Err b) journal call board other = tt
 
 -- what was published stays, behind a publish
 published_on : {A B : Type 0} (r : Result A B) (was pending now : BoardView) → pending.published ≡ was.published

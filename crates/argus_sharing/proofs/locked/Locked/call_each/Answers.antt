@@ -10,12 +10,12 @@ use Rattle.argus_sharing.specs.Locked.{LockedState}
 use Rattle.argus_sharing.proofs.CallEach.{end_more, goes_on_more, replies_more, some_reply}
 use Rattle.argus_sharing.proofs.Follow.{shared_on, stays}
 use Rattle.argus_sharing.proofs.locked.Locked.call_each.Goals as goal
-use Rattle.argus_sharing.proofs.locked.Locked.call_each.Goals.{in-Err, in-Ok-false}
+use Rattle.argus_sharing.proofs.locked.Locked.call_each.Goals.{In-Err, In-Ok-false}
 
 pub loop-each-preserved : goal.loop-each-preserved
 loop-each-preserved g c =
     let inv = c.loop-each.invariant in
-    let each = c.each-item.each in
+    let each = c.each-item.result.now in
     let i = c.loop-each.each-index in
     let rest = drop (suc i) c.args.calls.now in
     let journal = c.loop-each.self.journal in
@@ -23,7 +23,7 @@ loop-each-preserved g c =
     let all = c.args.calls.now in
     let so_far = c.loop-each.replies.items in
     let now = c.answer_next.new.replies.items in
-    let calls : drop i all ≡ each ∷ rest = drop-cons all i each c.loop-each-test.true ∙ ap (λ x. x ∷ rest) (sym c.each-item.is) in
+    let calls : drop i all ≡ each ∷ rest = drop-cons all i each c.loop-each-test.true ∙ ap (λ x. x ∷ rest) (sym (ap (λ b. b.now) c.each-item.is)) in
     let made = c.in-Ok-true.ensures in
     let met : is_met journal each ≡ true = sym made.met ∙ c.in-Ok-true.field-0-test in (
       rw made.journal (replies_more journal each rest (map plain_reply so_far) (map plain_reply now) (replies_of first all) met
