@@ -1,5 +1,6 @@
 -- Several calls: what one more call adds.
-use Rattle.std.proofs.Common.{List, [], ap, append_assoc, arith, false, length, sym, true, ℕ, suc, ◌++◌, ◌∙◌, ◌∷◌, ◌<◌, ◌≡◌}
+use Rattle.std.proofs.Common.{List, [], ap, append_assoc, arith, drop, false, get_or, length, sym, true, ℕ, suc, ◌++◌, ◌+◌, ◌∙◌, ◌∷◌, ◌<◌, ◌≡◌}
+use Rattle.std.proofs.Math.Seq.{drop-cons}
 use Rattle.std.specs.Prelude.{if◌then◌else◌}
 use Rattle.argus_board.specs.BoardView.{BoardView}
 use Rattle.argus_core.specs.ReadyCommit.{added_by_call}
@@ -48,3 +49,10 @@ module _ (journal : JournalView) (each : DemandedCall) (rest : List DemandedCall
 pub some_reply : (journal : JournalView) (calls : List DemandedCall) → 0 < length calls → 0 < length (replies_of journal calls)
 some_reply journal [] none = none
 some_reply journal (each ∷ calls) some = omega arith
+
+-- what is left behind the calls so far begins with the next one
+pub next_call : (all : List DemandedCall) (i : ℕ) (each : DemandedCall) → i < length all → each ≡ get_or all i each
+    → drop i all ≡ each ∷ drop (i + 1) all
+next_call all i each low is =
+    let more : suc i ≡ i + 1 = omega arith in
+    drop-cons all i each low ∙ ap (λ x. x ∷ drop (suc i) all) (sym is) ∙ ap (λ k. each ∷ drop k all) more
