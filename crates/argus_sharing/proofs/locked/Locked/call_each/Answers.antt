@@ -70,9 +70,11 @@ returns-in-loop-each-clause-replies g c =
       | in-Ok-false w ↦
           let calls : drop i all ≡ each ∷ rest = next_call all i each c.loop-each-test.true c.each-item.is in
           let made = w.in-Ok-false.ensures in
-          let unmet : is_met journal each ≡ false = sym made.met ∙ w.in-Ok-false.field-0-test in
-          ([], append-nil (map plain_reply now) ∙ replies_end journal each rest (map plain_reply so_far) (map plain_reply now)
-              whole unmet made.replies (ap (λ l. map plain_reply so_far ++ replies_of journal l) (sym calls) ∙ inv.0))
+          let unmet : is_met journal each ≡ false = sym made.met ∙ w.in-Ok-false.field-0-test in (
+            [],
+            append-nil (map plain_reply now) ∙ replies_end journal each rest (map plain_reply so_far) (map plain_reply now)
+                whole unmet made.replies (ap (λ l. map plain_reply so_far ++ replies_of journal l) (sym calls) ∙ inv.0),
+          )
       | in-Err w ↦
           let left = replies_of journal (drop i all) in
           (left, ap (λ items. map plain_reply items ++ left) w.in-Err.ensures.err.2 ∙ inv.0)
