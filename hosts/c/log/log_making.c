@@ -96,17 +96,35 @@ static uint32_t name_it(const char *new, const char *path, log_words *words) {
                     "%s can't be made: %s", path, strerror(errno));
 }
 
+/* A name beside the path that nobody else uses, in memory that has room for what SQLite puts behind it. */
+static char *first_name(const char *path) {
+    size_t size = strlen(path) + strlen("-new-");
+    char *name = malloc(size + (size_t)2 * SUFFIX_BYTES + sizeof "-journal");
+    if (name == NULL) return NULL;
+    sprintf(name, "%s-new-", path);
+    draw(name + size, SUFFIX_BYTES);
+    return name;
+}
+
+/* Removes this name, and what SQLite may have left beside it. */
+static void remove_all(char *name) {
+    static const char *const suffixes[] = {"", "-journal", "-wal", "-shm"};
+    char *end = name + strlen(name);
+    for (int at = 0; at < 4; at++) {
+        strcpy(end, suffixes[at]);
+        unlink(name);
+    }
+}
+
 static uint32_t make(const char *path, filling *fill, const char *from, log_words *words) {
-    char suffix[6 + 2 * SUFFIX_BYTES] = "-new-";
     struct stat found;
     if (lstat(path, &found) == 0) return log_fail(words, ARGUS_LOG_EXISTS, "a file is there: %s", path);
-    draw(suffix + 5, SUFFIX_BYTES);
-    char *new = log_path_with(path, suffix);
-    if (new == NULL) return log_fail_as_sqlite(words, NULL);
-    uint32_t status = make_new(new, fill, from, words);
-    if (status == ARGUS_DONE) status = name_it(new, path, words);
-    unlink(new);
-    free(new);
+    char *name = first_name(path);
+    if (name == NULL) return log_fail_as_sqlite(words, NULL);
+    uint32_t status = make_new(name, fill, from, words);
+    if (status == ARGUS_DONE) status = name_it(name, path, words);
+    remove_all(name);
+    free(name);
     return status;
 }
 

@@ -140,6 +140,7 @@ static int64_t prepare(bank *it, const char *path, work *what) {
     }
     bank_open(it, path);
     int64_t number = bank_number(it, ACCOUNTS) + 1;
+    if (what != write_it && what != fold_it) return number - 1;
     uint64_t entries = bank_begin_order(it, 0, number);
     if (what == write_it) return number - 1;
     want_answer(argus_log_wait(it->log, entries), ARGUS_DONE, "wait");
