@@ -6,7 +6,7 @@
 #   [ARGUS_ARCHIVE=FOLDER] tools/dist.sh [DIST]
 #
 #   DIST/lib/libargus.a             the archive, with the kit's part that maps its allocator to malloc, and with
-#                                   crates/argus_c/c/argus.c, which isn't proved
+#                                   crates/argus_c/c, which isn't proved
 #   DIST/lib/libargus.so.0          the same as a shared object, which exports argus_* alone
 #   DIST/lib/libargus.so            a link to that
 #   DIST/lib/libargus_log.a         the log in a database, of hosts/c/log, where libsqlite3 and zlib are there (Debian:
@@ -40,15 +40,19 @@ object=libargus.so.${version%%.*}
 room=$(mktemp -d)
 trap 'rm -r "$room"' EXIT
 
-# The functions of the headers that aren't in the archive: they are inline in C, and real ones for other languages.
+# The functions of the headers that aren't in the archive.
 compile_functions() {
-    cc -std=c99 -D_POSIX_C_SOURCE=200809L -O2 -fPIC -Wall -Wextra -Wpedantic -Werror -I "$headers" \
-        -c -o "$room/argus.o" "$top/crates/argus_c/c/argus.c"
+    local source
+    mkdir "$room/functions"
+    for source in "$top"/crates/argus_c/c/*.c; do
+        cc -std=c99 -D_POSIX_C_SOURCE=200809L -O2 -fPIC -Wall -Wextra -Wpedantic -Werror -I "$headers" \
+            -c -o "$room/functions/$(basename "$source" .c).o" "$source"
+    done
 }
 
 # One archive: the objects of both, as they are, and what was compiled.
 merge() {
-    "$kit/toolchain/bin/llvm-ar" qcLDs "$room/libargus.a" "$archive" "$kit/c/liblibc_c.a" "$room/argus.o"
+    "$kit/toolchain/bin/llvm-ar" qcLDs "$room/libargus.a" "$archive" "$kit/c/liblibc_c.a" "$room"/functions/*.o
 }
 
 # The shared object. Code that isn't position-independent is refused by the linker, whose words are shown.
@@ -144,7 +148,7 @@ if [ ! -f "$archive" ]; then
     exit 1
 fi
 if ! cc --version > /dev/null 2>&1; then
-    say "no cc, which compiles the functions of argus.h for other languages"
+    say "no cc, which compiles the functions of argus.h"
     exit 1
 fi
 compile_functions

@@ -67,7 +67,7 @@ log_sanitized() {
 reports_the_careless() {
     local said
     if said=$("$room/thread/host" careless 2>&1); then return 1; fi
-    grep -A 1 "WARNING: ThreadSanitizer: data race" <<< "$said" && grep "argus_begin_top" <<< "$said"
+    grep -A 1 "WARNING: ThreadSanitizer: data race" <<< "$said" && grep "argus_call" <<< "$said"
 }
 
 # Whether a guardian that finds no memory says so, and nothing worse comes of it.

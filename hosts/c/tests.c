@@ -1,4 +1,4 @@
-/* Tests of the store and of the header's inline functions. All are run, and each check that fails
+/* Tests of the store and of the header's functions. All are run, and each check that fails
  * is printed. */
 #include "clock.h"
 #include "modes.h"
@@ -256,9 +256,9 @@ static void test_names(void) {
     CHECK(strcmp(argus_status_name(ARGUS_OCCUPIED), "ARGUS_OCCUPIED") == 0);
     CHECK(strcmp(argus_status_name(32), "?") == 0);
     CHECK(strcmp(argus_signal_name(0), "?") == 0 && strcmp(argus_refusal_name(10), "?") == 0);
-    CHECK(strcmp(argus_answer_name(argus_answer_of(ARGUS_REFUSED, ARGUS_CONFLICT)), "ARGUS_CONFLICT") == 0);
-    CHECK(strcmp(argus_answer_name(argus_answer_of(ARGUS_SIGNAL, ARGUS_BOUNDS)), "ARGUS_BOUNDS") == 0);
-    CHECK(strcmp(argus_answer_name(argus_answer_of(ARGUS_ACTION, 6)), "ARGUS_ACTION") == 0);
+    CHECK(strcmp(argus_answer_name((argus_answer){ARGUS_REFUSED, ARGUS_CONFLICT}), "ARGUS_CONFLICT") == 0);
+    CHECK(strcmp(argus_answer_name((argus_answer){ARGUS_SIGNAL, ARGUS_BOUNDS}), "ARGUS_BOUNDS") == 0);
+    CHECK(strcmp(argus_answer_name((argus_answer){ARGUS_ACTION, 6}), "ARGUS_ACTION") == 0);
 }
 
 static void test_version(void) {

@@ -36,7 +36,7 @@ struct argus_log {
 };
 
 static argus_answer answer_of(uint32_t status) {
-    return argus_answer_of(status, 0);
+    return (argus_answer){status, 0};
 }
 
 /* Whether the log is open, in this process. */
@@ -109,7 +109,7 @@ static uint32_t open_both(argus_log *log, const argus_log_options *options, log_
 static uint32_t gather(argus_log *log, log_batch *batch) {
     uint64_t count = 0;
     int64_t from = log->database.end.next_entry;
-    argus_answer answer = argus_answer_of(ARGUS_TOO_SMALL, PIECE);
+    argus_answer answer = {ARGUS_TOO_SMALL, PIECE};
     while (answer.status == ARGUS_TOO_SMALL) {
         if (!log_text_reserve(&log->lines, (size_t)answer.number)) return ARGUS_NO_MEMORY;
         pthread_mutex_lock(log->lock);
@@ -278,7 +278,7 @@ static argus_answer declare(argus_log *log, const char *text, const char *shape,
 /* Finds the name, or declares its object. The guardian's mutex is held. */
 static argus_answer find_or_declare(argus_log *log, const char *text, const char *shape, int64_t *entry) {
     log_name *name = log_names_find(&log->names, text);
-    argus_answer answer = argus_answer_of(ARGUS_OBJECT, name == NULL ? 0 : name->object);
+    argus_answer answer = {ARGUS_OBJECT, name == NULL ? 0 : name->object};
     if (name == NULL) answer = declare(log, text, shape, &name);
     else if (strcmp(name->shape, shape) != 0) answer = answer_of(ARGUS_LOG_OTHER_SHAPE);
     if (answer.status == ARGUS_OBJECT) *entry = name->entry;

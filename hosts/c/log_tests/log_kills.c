@@ -10,7 +10,7 @@
 #include <sys/wait.h>
 #include <unistd.h>
 
-enum { FOLD_AFTER = 400 };
+enum { FOLD_AFTER = 60 };
 
 typedef struct client {
     bank *bank;
