@@ -3,6 +3,7 @@
 #include "argus.h"
 
 #include <pthread.h>
+#include <stdlib.h>
 
 static argus_answer argus_answer_of(uint32_t status, int64_t number) {
     argus_answer answer;
@@ -406,6 +407,53 @@ argus_answer argus_entry(argus_guardian *guardian, uint64_t entry) {
 
 argus_answer argus_shape(argus_guardian *guardian, uint32_t object) {
     return argus_tell(guardian, ARGUS_SHAPE, 0, object, 0);
+}
+
+/* The text of an object's shape, in new memory, which the caller frees; NULL at another status than ARGUS_DONE. */
+static char *shape_of(argus_guardian *held, uint32_t object, size_t *size, uint32_t *status) {
+    int64_t number;
+    uint8_t none[1];
+    char *shape;
+    *status = argus_c_tell(held, ARGUS_SHAPE, 0, object, 0, &number);
+    if (*status != ARGUS_TEXT) return NULL;
+    argus_c_reply(held, none, 0, size);
+    shape = malloc(*size);
+    *status = shape == NULL ? (uint32_t)ARGUS_NO_MEMORY : argus_c_reply(held, (uint8_t *)shape, *size, size);
+    if (*status == ARGUS_DONE) return shape;
+    free(shape);
+    return NULL;
+}
+
+/* Which of a shape's own names this is, from 0 on, as in atomic_record[balance:int,owner:struct[name:text]]; or -1. */
+static int64_t place_in(const char *shape, size_t size, const char *name) {
+    size_t length = strlen(name), at, depth = 0;
+    int64_t place = 0;
+    int begins = 0;
+    for (at = 0; at < size; at++) {
+        if (begins && size - at > length && memcmp(shape + at, name, length) == 0 && shape[at + length] == ':')
+            return place;
+        if (shape[at] == '[') depth++;
+        if (shape[at] == ']') depth--;
+        place += shape[at] == ',' && depth == 1;
+        begins = depth == 1 && (shape[at] == '[' || shape[at] == ',');
+    }
+    return -1;
+}
+
+argus_answer argus_field(argus_guardian *guardian, uint32_t object, const char *name) {
+    argus_guardian held;
+    size_t size = 0;
+    uint32_t status;
+    int64_t place;
+    char *shape;
+    if (guardian == NULL || name == NULL) return argus_answer_of(ARGUS_NULL, 0);
+    if (!argus_enter(guardian, &held)) return argus_answer_of(ARGUS_REENTERED, 0);
+    shape = shape_of(&held, object, &size, &status);
+    argus_leave(guardian, &held);
+    if (status != ARGUS_DONE) return argus_answer_of(status, 0);
+    place = place_in(shape, size, name);
+    free(shape);
+    return place < 0 ? argus_answer_of(ARGUS_NOT_THERE, 0) : argus_answer_of(ARGUS_NUMBER, place);
 }
 
 argus_answer argus_status_of(argus_guardian *guardian, uint32_t action) {

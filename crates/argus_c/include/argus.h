@@ -580,6 +580,17 @@ argus_answer argus_readers(argus_guardian *guardian, uint32_t object);
 argus_answer argus_versions(argus_guardian *guardian, uint32_t object);
 argus_answer argus_entry(argus_guardian *guardian, uint64_t entry);
 argus_answer argus_shape(argus_guardian *guardian, uint32_t object);
+
+/* The number of a record's field, or of a variant's tag, by its name in the object's shape. A program looks it up once,
+ * and keeps it:
+ *
+ *     int64_t balance = argus_field(&bank, account, "balance").number;
+ *     argus_ask(&bank, top, account, ARGUS_FIELD, balance);
+ *
+ * ARGUS_NUMBER; ARGUS_NOT_THERE if the object isn't declared, or has no such name; ARGUS_NO_MEMORY. The shape takes the
+ * place of the reply that is kept. */
+argus_answer argus_field(argus_guardian *guardian, uint32_t object, const char *name);
+
 argus_answer argus_status_of(argus_guardian *guardian, uint32_t action);
 
 /* With the number after the one that is found it leads to all live actions. */

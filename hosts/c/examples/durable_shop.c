@@ -4,7 +4,8 @@
 #include <stdio.h>
 #include <stdlib.h>
 
-enum { SEATS = 40 };
+/* How many seats one order may have; and the number of a seat's field. */
+enum { SEATS = 40, HOLDER = 0 };
 
 /* The number of an answer, which has to have this status. */
 static uint32_t expect(argus_answer answer, uint32_t status) {
@@ -18,7 +19,7 @@ static int is_free(argus_guardian *shop, uint32_t top, uint32_t seat) {
     char holder[2];
     argus_answer created = argus_alter(shop, top, seat, ARGUS_CREATE, 0, 0, "{\"\"}");
     if (created.status != ARGUS_SIGNAL) expect(created, ARGUS_DONE);
-    expect(argus_ask(shop, top, seat, ARGUS_FIELD, 0), ARGUS_VALUE);
+    expect(argus_ask(shop, top, seat, ARGUS_FIELD, HOLDER), ARGUS_VALUE);
     return argus_reply(shop, holder, sizeof holder).status == ARGUS_DONE;
 }
 
@@ -30,7 +31,7 @@ static int sell(argus_guardian *shop, argus_log *log, const uint32_t *seats, int
     for (int n = 0; n < count; n++)
         if (!is_free(shop, top, seats[n])) return expect(argus_abort(shop, top), ARGUS_DONE), 0;
     for (int n = 0; n < count; n++)
-        expect(argus_alter(shop, top, seats[n], ARGUS_SET_FIELD, 0, 0, holder), ARGUS_DONE);
+        expect(argus_alter(shop, top, seats[n], ARGUS_SET_FIELD, HOLDER, 0, holder), ARGUS_DONE);
     expect(argus_log_commit(log, top), ARGUS_DONE); /* here it is on disk */
     return 1;
 }

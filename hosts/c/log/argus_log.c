@@ -24,6 +24,7 @@ struct argus_log {
     pthread_mutex_t turn;   /* held for moments, to look at what stands here */
     pthread_cond_t written; /* signalled when a write has ended */
     int is_writing;         /* a thread has the database and what stands with it, and no other one */
+    int folds;              /* how many checkpoints want that next: until then nobody else begins to write */
     int is_open, is_broken;
     pid_t process;
     char *path; /* that has no links */
@@ -233,7 +234,7 @@ argus_answer argus_log_wait(argus_log *log, uint64_t until) {
     pthread_mutex_lock(&log->turn);
     while (status == ARGUS_DONE && log->counts.next_entry < until) {
         if (log->is_broken) status = ARGUS_LOG_IN_DOUBT;
-        else if (log->is_writing) pthread_cond_wait(&log->written, &log->turn);
+        else if (log->is_writing || log->folds > 0) pthread_cond_wait(&log->written, &log->turn);
         else status = in_turn(log, append);
     }
     if (status == ARGUS_LOG_BROKEN) status = ARGUS_LOG_IN_DOUBT;
@@ -246,8 +247,11 @@ argus_answer argus_log_checkpoint(argus_log *log) {
     if (log == NULL) return answer_of(ARGUS_NULL);
     if (!is_usable(log)) return answer_of(ARGUS_NOT_OPEN);
     pthread_mutex_lock(&log->turn);
+    log->folds++;
     while (log->is_writing) pthread_cond_wait(&log->written, &log->turn);
+    log->folds--;
     uint32_t status = log->is_broken ? (uint32_t)ARGUS_LOG_BROKEN : in_turn(log, fold_and_write);
+    pthread_cond_broadcast(&log->written);
     log->counts.checkpoints += status == ARGUS_DONE;
     pthread_mutex_unlock(&log->turn);
     return answer_of(status);

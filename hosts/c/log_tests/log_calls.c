@@ -300,15 +300,52 @@ static void *declare_both(void *argument) {
     return NULL;
 }
 
-static void run_all(client *clients, void *(*work)(void *)) {
-    pthread_t threads[THREADS];
+static void begin_all(client *clients, pthread_t *threads, void *(*work)(void *)) {
     for (int n = 0; n < THREADS; n++) want(pthread_create(&threads[n], NULL, work, &clients[n]) == 0, "a thread");
+}
+
+static void end_all(const pthread_t *threads) {
     for (int n = 0; n < THREADS; n++) pthread_join(threads[n], NULL);
+}
+
+static void *commit_once(void *argument) {
+    client *it = argument;
+    pthread_mutex_lock(&it->bank->lock);
+    uint32_t top = begin(it->bank);
+    pthread_mutex_unlock(&it->bank->lock);
+    want_answer(argus_log_commit(it->bank->log, top), ARGUS_DONE, "commit");
+    return NULL;
+}
+
+/* While another program has the database locked, all commits wait. Then they are written together, but for those that
+ * one thread had taken before. */
+static void try_together(bank *it, client *clients) {
+    pthread_t threads[THREADS];
+    sqlite3 *other;
+    uint64_t batches = argus_log_counted(it->log).batches;
+    pthread_mutex_lock(&it->lock);
+    uint64_t all = entries_of(it) + 2 * THREADS, entries = 0;
+    pthread_mutex_unlock(&it->lock);
+    want(sqlite3_open(path, &other) == SQLITE_OK, "a connection");
+    want(sqlite3_exec(other, "BEGIN IMMEDIATE", NULL, NULL, NULL) == SQLITE_OK, "a lock");
+    begin_all(clients, threads, commit_once);
+    while (entries < all) {
+        usleep(1000);
+        pthread_mutex_lock(&it->lock);
+        entries = entries_of(it);
+        pthread_mutex_unlock(&it->lock);
+    }
+    want(argus_log_counted(it->log).batches == batches, "no commit is acknowledged");
+    want(sqlite3_exec(other, "ROLLBACK", NULL, NULL, NULL) == SQLITE_OK, "the lock is given up");
+    end_all(threads);
+    sqlite3_close(other);
+    want(argus_log_counted(it->log).batches <= batches + 2, "commits have waited together");
 }
 
 static void try_threads(void) {
     bank it;
     client clients[THREADS];
+    pthread_t threads[THREADS];
     start_anew();
     bank_open(&it, path);
     uint32_t top = begin(&it);
@@ -318,15 +355,17 @@ static void try_threads(void) {
     }
     want_answer(argus_log_commit(it.log, top), ARGUS_DONE, "commit");
     argus_log_counts before = argus_log_counted(it.log);
-    run_all(clients, commit_often);
+    begin_all(clients, threads, commit_often);
+    end_all(threads);
     argus_log_counts counts = argus_log_counted(it.log);
     want(counts.entries - before.entries == 3 * THREADS * COMMITS, "all entries are in the log");
-    want(counts.batches - before.batches < THREADS * COMMITS, "commits have waited together");
+    try_together(&it, clients);
     bank_close(&it);
     bank_open(&it, path);
     for (int n = 0; n < THREADS; n++)
         want(bank_number(&it, (uint32_t)clients[n].object) == COMMITS, "each has its last commit");
-    run_all(clients, declare_both);
+    begin_all(clients, threads, declare_both);
+    end_all(threads);
     want(argus_objects(&it.guardian).number == OBJECTS + THREADS + 5, "each name has one object");
     bank_close(&it);
 }
