@@ -7,7 +7,7 @@
 #   [ARGUS_ARCHIVE=FOLDER] tools/hosts_memory.sh
 #
 # FOLDER is that of libargus_c.a, as for tools/dist.sh, which makes here what the hosts stand on.
-# It needs valgrind (Debian: valgrind) and gcc's sanitizers (Debian: gcc). The archive itself is not
+# It needs valgrind (Debian: valgrind) and gcc's sanitizers (Debian: gcc), and for the log of hosts/c SQLite and zlib. The archive itself is not
 # compiled for the sanitizers: these see its memory by malloc, and the hosts' own code. Nothing is lost,
 # and two threads in one guardian without a mutex are reported.
 set -euo pipefail
@@ -53,11 +53,21 @@ sanitized() {
         "$room/$1/host" stress 100000
 }
 
+# log_sanitized KINDS: builds the tests of logs so, and the log in them, and runs them
+log_sanitized() {
+    local mode of=$room/$1/logs
+    make -C "$top/hosts/c" OUT="$room/$1" DIST="$dist" \
+        CFLAGS="-O1 -g -fno-omit-frame-pointer -fsanitize=$1 -fno-sanitize-recover=all" log || return
+    rm -rf "$of" && mkdir "$of" || return
+    for mode in calls faults; do "$room/$1/log_tests" "$mode" "$of/$mode.db" || return; done
+    "$room/$1/log_tests" kills "$of/kills.db" 10 4
+}
+
 # Whether the thread sanitizer reports two threads in one guardian.
 reports_the_careless() {
     local said
     if said=$("$room/thread/host" careless 2>&1); then return 1; fi
-    grep -A 1 "WARNING: ThreadSanitizer: data race" <<< "$said" && grep "argus_begin_top" <<< "$said"
+    grep -A 1 "WARNING: ThreadSanitizer: data race" <<< "$said" && grep "argus_call" <<< "$said"
 }
 
 # Whether a guardian that finds no memory says so, and nothing worse comes of it.
@@ -70,11 +80,24 @@ wants_memory() {
 tried "hosts/c, address and undefined behaviour" sanitized address,undefined
 tried "hosts/c, threads" sanitized thread
 tried "hosts/c, threads without a mutex are reported" reports_the_careless
+if [ -e "$dist/lib/libargus_log.a" ]; then
+    tried "hosts/c log, address and undefined behaviour" log_sanitized address,undefined
+    tried "hosts/c log, threads" log_sanitized thread
+else
+    echo "hosts/c log: LEFT OUT: no libsqlite3-dev or zlib1g-dev"
+fi
 make -s -C "$top/hosts/c" OUT="$room/plain" DIST="$dist"
 tried "hosts/c, want of memory" wants_memory
 if ! command -v valgrind > /dev/null; then
     echo "valgrind: LEFT OUT: not installed"
     exit "$failed"
+fi
+if [ -e "$dist/lib/libargus_log.a" ]; then
+    make -s -C "$top/hosts/c" OUT="$room/plain" DIST="$dist" log
+    rm -f "$room"/plain/bank.db*
+    # Not `calls`, whose forked process leaves SQLite's connections behind, as it has to.
+    tried "hosts/c log, valgrind" under_valgrind "$room/plain/log_tests" orders "$room/plain/bank.db" 20
+    tried "hosts/c log opened again, valgrind" under_valgrind "$room/plain/log_tests" fold "$room/plain/bank.db"
 fi
 tried "hosts/c, bank, valgrind" under_valgrind "$room/plain/host" bank 20
 tried "hosts/c, stress, valgrind" under_valgrind "$room/plain/host" stress 100000

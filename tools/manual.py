@@ -45,7 +45,9 @@ def page(headers: list[str]) -> str:
     assert version and about, "the first header is argus.h"
     parts = [f'.TH ARGUS 3 "" "argus {version.group(1)}" "Argus guardian"\n.SH NAME\n']
     parts.append("argus \\- a guardian of atomic objects under nested transactions\n.SH SYNOPSIS\n")
-    parts.append(verbatim("#include <argus.h>\n\ncc program.c $(pkg-config --cflags --libs argus)"))
+    parts.append(verbatim("#include <argus.h>\n\ncc program.c $(pkg-config --cflags --libs argus)\n"))
+    if any("argus_log_open(" in it for it in headers):
+        parts.append(verbatim("\n#include <argus_log.h>\n\ncc program.c $(pkg-config --cflags --libs argus_log)"))
     parts.append(f".SH DESCRIPTION\n{verbatim(words_of(about.group(1)))}.SH NUMBERS\n")
     for text in headers:
         parts += [described(it["head"], it["said"], it["body"]) for it in ENUM.finditer(text)]

@@ -1,6 +1,6 @@
 #!/usr/bin/env bash
 # SPDX-License-Identifier: MIT
-# Debian's packages that the hosts' tests need beside a C compiler, cargo and Python: those of
+# Debian's packages that the hosts' tests need beside a C compiler, cargo and Python: those of hosts/c/log, of
 # hosts/rust/etcd and hosts/rust/host, and etcd itself; what looks at Python's types, and what the shops of
 # hosts/python stand on. Without them hosts/run leaves those tests out.
 #
@@ -12,6 +12,8 @@ set -euo pipefail
 export LC_ALL=C.UTF-8
 
 packages=(
+    # what the log of hosts/c stands on
+    libsqlite3-dev zlib1g-dev
     # nodes for the tests, and the program that looks at them
     etcd-server etcd-client
     # certificates for the tests of TLS

@@ -6,7 +6,7 @@
 #
 #   DIST/bin/{argus,replay,picture}        the programs that are there: proved, or kept by a launcher. ARGUS, REPLAY
 #                                          and PICTURE in the environment name others
-#   DIST/share/man/man3/argus.3            the manual page of argus.h
+#   DIST/share/man/man3/argus.3            the manual page of the headers
 #   DIST/share/argus/rust                  the crates argus-guardian and, in sys/, argus-guardian-sys
 #   DIST/share/doc/argus/LICENSE.kit       the kit's crates that are in all of this, with their licenses
 #   DIST/share/doc/argus/CONTENTS          each file with its SHA-256, and what isn't proved
@@ -67,7 +67,7 @@ add_crates() {
 
 add_manual() {
     mkdir -p "$dist/share/man/man3"
-    "$top/tools/manual.py" "$headers/argus.h" "$headers/argus_values.h" > "$dist/share/man/man3/argus.3"
+    "$top/tools/manual.py" "$dist"/include/*.h > "$dist/share/man/man3/argus.3"
 }
 
 add_licenses() {

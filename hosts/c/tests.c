@@ -1,4 +1,4 @@
-/* Tests of the store and of the header's inline functions. All are run, and each check that fails
+/* Tests of the store and of the header's functions. All are run, and each check that fails
  * is printed. */
 #include "clock.h"
 #include "modes.h"
@@ -256,9 +256,9 @@ static void test_names(void) {
     CHECK(strcmp(argus_status_name(ARGUS_OCCUPIED), "ARGUS_OCCUPIED") == 0);
     CHECK(strcmp(argus_status_name(32), "?") == 0);
     CHECK(strcmp(argus_signal_name(0), "?") == 0 && strcmp(argus_refusal_name(10), "?") == 0);
-    CHECK(strcmp(argus_answer_name(argus_answer_of(ARGUS_REFUSED, ARGUS_CONFLICT)), "ARGUS_CONFLICT") == 0);
-    CHECK(strcmp(argus_answer_name(argus_answer_of(ARGUS_SIGNAL, ARGUS_BOUNDS)), "ARGUS_BOUNDS") == 0);
-    CHECK(strcmp(argus_answer_name(argus_answer_of(ARGUS_ACTION, 6)), "ARGUS_ACTION") == 0);
+    CHECK(strcmp(argus_answer_name((argus_answer){ARGUS_REFUSED, ARGUS_CONFLICT}), "ARGUS_CONFLICT") == 0);
+    CHECK(strcmp(argus_answer_name((argus_answer){ARGUS_SIGNAL, ARGUS_BOUNDS}), "ARGUS_BOUNDS") == 0);
+    CHECK(strcmp(argus_answer_name((argus_answer){ARGUS_ACTION, 6}), "ARGUS_ACTION") == 0);
 }
 
 static void test_version(void) {
@@ -301,6 +301,35 @@ static void test_grammar(void) {
     CHECK(argus_close(&guardian).status == ARGUS_DONE);
 }
 
+static int is_answer(argus_answer answer, uint32_t status, int64_t number) {
+    return answer.status == status && answer.number == number;
+}
+
+/* Fields and tags by their names: those of the shape itself, and not those of types in it. */
+static void test_fields(void) {
+    static const char *const names[] = {"a", "bc", "d", "b"};
+    argus_guardian guardian = ARGUS_CLOSED, held = ARGUS_CLOSED;
+    CHECK(is_answer(argus_field(&guardian, 0, "a"), ARGUS_NOT_OPEN, 0));
+    CHECK(argus_open(&guardian).status == ARGUS_DONE);
+    CHECK(declared(&guardian, "atomic_record[a:struct[x:int,d:int],bc:oneof[n:null],d:int,b:int]") == ARGUS_OBJECT);
+    CHECK(declared(&guardian, "atomic_variant[no:null,yes:struct[no:int]]") == ARGUS_OBJECT);
+    CHECK(declared(&guardian, "atomic_array[struct[a:int]]") == ARGUS_OBJECT);
+    for (int64_t at = 0; at < 4; at++) CHECK(is_answer(argus_field(&guardian, 0, names[at]), ARGUS_NUMBER, at));
+    CHECK(is_answer(argus_field(&guardian, 1, "yes"), ARGUS_NUMBER, 1));
+    CHECK(is_answer(argus_field(&guardian, 0, "x"), ARGUS_NOT_THERE, 0));
+    CHECK(is_answer(argus_field(&guardian, 0, "c"), ARGUS_NOT_THERE, 0));
+    CHECK(is_answer(argus_field(&guardian, 0, ""), ARGUS_NOT_THERE, 0));
+    CHECK(is_answer(argus_field(&guardian, 0, "d:int"), ARGUS_NOT_THERE, 0));
+    CHECK(is_answer(argus_field(&guardian, 2, "a"), ARGUS_NOT_THERE, 0));
+    CHECK(is_answer(argus_field(&guardian, 3, "a"), ARGUS_NOT_THERE, 0));
+    CHECK(is_answer(argus_field(NULL, 0, "a"), ARGUS_NULL, 0));
+    CHECK(is_answer(argus_field(&guardian, 0, NULL), ARGUS_NULL, 0));
+    CHECK(argus_hold(&guardian, &held).status == ARGUS_DONE);
+    CHECK(is_answer(argus_field(&guardian, 0, "a"), ARGUS_REENTERED, 0));
+    CHECK(argus_release(&guardian, &held).status == ARGUS_DONE);
+    CHECK(argus_close(&guardian).status == ARGUS_DONE);
+}
+
 /* A forked process has a guardian of its own: what one process does, the other doesn't see. */
 static void test_fork(void) {
     argus_guardian guardian = ARGUS_CLOSED;
@@ -330,6 +359,7 @@ int tests(void) {
     test_names();
     test_version();
     test_grammar();
+    test_fields();
     test_upgrade(0);
     test_upgrade(1);
     test_patience();

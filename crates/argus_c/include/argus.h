@@ -3,8 +3,7 @@
  * The functions argus_c_* are those of the proved archive, from which libargus.a and libargus.so are made. That the
  * declarations below are those of its source isn't proved: hosts/declarations.py compares the texts. They take no null
  * pointer. The functions after them are what a program calls: they return ARGUS_NULL for a null pointer, and each
- * answer as a status and a number. In C all but argus_open are inline; both libraries export them all, for bindings
- * of other languages.
+ * answer as a status and a number. Nothing here is inline.
  *
  *     // Declares an account and creates it with this content. Returns 1; or says why not, and returns 0.
  *     int open_account(argus_guardian *bank, const char *content) {
@@ -73,12 +72,6 @@
 
 #ifdef __cplusplus
 extern "C" {
-#endif
-
-/* How the functions that aren't part of the proved archive are compiled: inline. The file argus.c, which goes into both
- * libraries, compiles them again, as functions that other languages can call. */
-#ifndef ARGUS_API
-#define ARGUS_API static inline
 #endif
 
 /* The version of this header. */
@@ -293,79 +286,9 @@ typedef enum argus_action_status {
 
 /* ---- What the numbers are called, for messages: a name that stands above, or "?" of a number that has none. ---- */
 
-#define ARGUS_NAMED(it) \
-    case it: \
-        return #it
-
-ARGUS_API const char *argus_signal_name(int64_t signal) {
-    switch (signal) {
-        ARGUS_NAMED(ARGUS_ABSENT);
-        ARGUS_NAMED(ARGUS_EXISTS);
-        ARGUS_NAMED(ARGUS_BOUNDS);
-        ARGUS_NAMED(ARGUS_WRONG_TAG);
-        ARGUS_NAMED(ARGUS_NEGATIVE_SIZE);
-        ARGUS_NAMED(ARGUS_LIMITS);
-    default:
-        return "?";
-    }
-}
-
-ARGUS_API const char *argus_refusal_name(int64_t refusal) {
-    switch (refusal) {
-        ARGUS_NAMED(ARGUS_NO_ACTION);
-        ARGUS_NAMED(ARGUS_OVER);
-        ARGUS_NAMED(ARGUS_SUSPENDED);
-        ARGUS_NAMED(ARGUS_NO_OBJECT);
-        ARGUS_NAMED(ARGUS_ILL_TYPED);
-        ARGUS_NAMED(ARGUS_CONFLICT);
-        ARGUS_NAMED(ARGUS_TOO_DEEP);
-        ARGUS_NAMED(ARGUS_TOO_MANY);
-        ARGUS_NAMED(ARGUS_NO_SIBLINGS);
-    default:
-        return "?";
-    }
-}
-
-ARGUS_API const char *argus_status_name(uint32_t status) {
-    switch (status) {
-        ARGUS_NAMED(ARGUS_DONE);
-        ARGUS_NAMED(ARGUS_OBJECT);
-        ARGUS_NAMED(ARGUS_ACTION);
-        ARGUS_NAMED(ARGUS_NUMBER);
-        ARGUS_NAMED(ARGUS_FLAG);
-        ARGUS_NAMED(ARGUS_VALUE);
-        ARGUS_NAMED(ARGUS_CONTENT);
-        ARGUS_NAMED(ARGUS_TEXT);
-        ARGUS_NAMED(ARGUS_SIGNAL);
-        ARGUS_NAMED(ARGUS_REFUSED);
-        ARGUS_NAMED(ARGUS_NO_MEMORY);
-        ARGUS_NAMED(ARGUS_NOT_OPEN);
-        ARGUS_NAMED(ARGUS_NOT_UTF8);
-        ARGUS_NAMED(ARGUS_BAD_TEXT);
-        ARGUS_NAMED(ARGUS_BAD_SHAPE);
-        ARGUS_NAMED(ARGUS_BAD_NUMBER);
-        ARGUS_NAMED(ARGUS_BAD_KIND);
-        ARGUS_NAMED(ARGUS_TOO_SMALL);
-        ARGUS_NAMED(ARGUS_NOT_THERE);
-        ARGUS_NAMED(ARGUS_BUSY);
-        ARGUS_NAMED(ARGUS_FULL);
-        ARGUS_NAMED(ARGUS_NULL);
-        ARGUS_NAMED(ARGUS_UNMET);
-        ARGUS_NAMED(ARGUS_NOT_BEGUN);
-        ARGUS_NAMED(ARGUS_BAD_DEMAND);
-        ARGUS_NAMED(ARGUS_NOT_AN_OPENING);
-        ARGUS_NAMED(ARGUS_NO_LINE);
-        ARGUS_NAMED(ARGUS_NOT_NEXT);
-        ARGUS_NAMED(ARGUS_NOT_SOUND);
-        ARGUS_NAMED(ARGUS_NOT_THE_REPLY);
-        ARGUS_NAMED(ARGUS_OCCUPIED);
-        ARGUS_NAMED(ARGUS_REENTERED);
-    default:
-        return "?";
-    }
-}
-
-#undef ARGUS_NAMED
+const char *argus_signal_name(int64_t signal);
+const char *argus_refusal_name(int64_t refusal);
+const char *argus_status_name(uint32_t status);
 
 /* ---- What the library exports. No pointer is null, except that of an empty text; no two overlap. ---- */
 
@@ -498,80 +421,8 @@ typedef struct argus_answer {
     int64_t number;
 } argus_answer;
 
-static inline argus_answer argus_answer_of(uint32_t status, int64_t number) {
-    argus_answer answer;
-    answer.status = status;
-    answer.number = number;
-    return answer;
-}
-
 /* What an answer says: the name of its refusal or signal if it is one, otherwise of its status. */
-ARGUS_API const char *argus_answer_name(argus_answer answer) {
-    if (answer.status == ARGUS_REFUSED) return argus_refusal_name(answer.number);
-    if (answer.status == ARGUS_SIGNAL) return argus_signal_name(answer.number);
-    return argus_status_name(answer.status);
-}
-
-/* If a program is compiled for ThreadSanitizer, each call writes its handle's mark, unchanged. So two threads that are
- * in one guardian at the same time are a race that the sanitizer sees, though the library isn't compiled for it. */
-#if defined(__SANITIZE_THREAD__)
-#define ARGUS_SANITIZES_THREADS 1
-#elif defined(__has_feature)
-#if __has_feature(thread_sanitizer)
-#define ARGUS_SANITIZES_THREADS 1
-#endif
-#endif
-
-/* Sets a mark to ARGUS_HELD, in one step, into which neither a handler nor a thread comes. Returns what it was. */
-static inline uint32_t argus_hold_mark(uint32_t *mark) {
-#ifdef ARGUS_SANITIZES_THREADS
-    volatile uint32_t *plain = mark;
-    *plain = *plain;
-#endif
-    return __atomic_exchange_n(mark, (uint32_t)ARGUS_HELD, __ATOMIC_ACQUIRE);
-}
-
-/* Moves what a handle has into one that only this call knows. Returns 0 if it is inside another call. */
-static inline int argus_enter(argus_guardian *guardian, argus_guardian *held) {
-    held->mark = argus_hold_mark(&guardian->mark);
-    if (held->mark == ARGUS_HELD) return 0;
-    held->at = guardian->at;
-    return 1;
-}
-
-/* Moves it back. */
-static inline void argus_leave(argus_guardian *guardian, const argus_guardian *held) {
-    guardian->at = held->at;
-    __atomic_store_n(&guardian->mark, held->mark, __ATOMIC_RELEASE);
-}
-
-/* The same for a guardian whose commit is ready. */
-static inline int argus_enter_ready(argus_ready *ready, argus_ready *held) {
-    held->mark = argus_hold_mark(&ready->mark);
-    if (held->mark == ARGUS_HELD) return 0;
-    held->at = ready->at;
-    return 1;
-}
-
-static inline void argus_leave_ready(argus_ready *ready, const argus_ready *held) {
-    ready->at = held->at;
-    __atomic_store_n(&ready->mark, held->mark, __ATOMIC_RELEASE);
-}
-
-/* The same for both. */
-static inline int argus_enter_both(argus_guardian *guardian, argus_guardian *held, argus_ready *ready,
-                                   argus_ready *held_ready) {
-    if (!argus_enter(guardian, held)) return 0;
-    if (argus_enter_ready(ready, held_ready)) return 1;
-    argus_leave(guardian, held);
-    return 0;
-}
-
-static inline void argus_leave_both(argus_guardian *guardian, const argus_guardian *held, argus_ready *ready,
-                                    const argus_ready *held_ready) {
-    argus_leave_ready(ready, held_ready);
-    argus_leave(guardian, held);
-}
+const char *argus_answer_name(argus_answer answer);
 
 /* Moves the guardian into another handle, `held`, for several calls on that, until argus_release. Meanwhile each call
  * on its own handle returns ARGUS_REENTERED, so that no handler comes between a call and its reply:
@@ -588,155 +439,43 @@ static inline void argus_leave_both(argus_guardian *guardian, const argus_guardi
  *     }
  *
  * ARGUS_DONE; ARGUS_REENTERED; ARGUS_NOT_OPEN; ARGUS_OCCUPIED if `held` has a guardian already. */
-ARGUS_API argus_answer argus_hold(argus_guardian *guardian, argus_guardian *held) {
-    argus_guardian moved;
-    if (guardian == NULL || held == NULL) return argus_answer_of(ARGUS_NULL, 0);
-    if (held->mark == 1) return argus_answer_of(ARGUS_OCCUPIED, 0);
-    if (!argus_enter(guardian, &moved)) return argus_answer_of(ARGUS_REENTERED, 0);
-    if (moved.mark != 1) {
-        argus_leave(guardian, &moved);
-        return argus_answer_of(ARGUS_NOT_OPEN, 0);
-    }
-    *held = moved;
-    return argus_answer_of(ARGUS_DONE, 0);
-}
+argus_answer argus_hold(argus_guardian *guardian, argus_guardian *held);
 
 /* Moves back what argus_hold has moved, also if it was closed meanwhile. ARGUS_DONE; ARGUS_OCCUPIED if the handle has
  * its guardian. */
-ARGUS_API argus_answer argus_release(argus_guardian *guardian, argus_guardian *held) {
-    argus_guardian moved;
-    if (guardian == NULL || held == NULL) return argus_answer_of(ARGUS_NULL, 0);
-    if (__atomic_load_n(&guardian->mark, __ATOMIC_RELAXED) == 1) return argus_answer_of(ARGUS_OCCUPIED, 0);
-    if (!argus_enter(held, &moved)) return argus_answer_of(ARGUS_REENTERED, 0);
-    held->mark = 0;
-    argus_leave(guardian, &moved);
-    return argus_answer_of(ARGUS_DONE, 0);
-}
+argus_answer argus_release(argus_guardian *guardian, argus_guardian *held);
 
 /* Opens a guardian without objects, actions and entries. A guardian that is open in the handle is closed once the new
- * one is made, and stays open at ARGUS_NO_MEMORY. This isn't an inline function, and several threads may call it at
- * the same time. */
+ * one is made, and stays open at ARGUS_NO_MEMORY. Several threads may call it at the same time. */
 argus_answer argus_open(argus_guardian *guardian);
 
 /* The same, but the new guardian shares with `other`, which is open, what argus_open lets all guardians share. At
  * ARGUS_NOT_OPEN the other one isn't open, or is the same handle. */
-ARGUS_API argus_answer argus_open_beside(argus_guardian *guardian, argus_guardian *other) {
-    argus_guardian held, beside;
-    uint32_t status = ARGUS_REENTERED;
-    if (guardian == NULL || other == NULL) return argus_answer_of(ARGUS_NULL, 0);
-    if (guardian == other) return argus_answer_of(ARGUS_NOT_OPEN, 0);
-    if (!argus_enter(guardian, &held)) return argus_answer_of(ARGUS_REENTERED, 0);
-    if (argus_enter(other, &beside)) {
-        status = beside.mark == 1 ? argus_c_open(&held, &beside) : (uint32_t)ARGUS_NOT_OPEN;
-        argus_leave(other, &beside);
-    }
-    argus_leave(guardian, &held);
-    return argus_answer_of(status, 0);
-}
+argus_answer argus_open_beside(argus_guardian *guardian, argus_guardian *other);
 
 /* Closes a guardian. */
-ARGUS_API argus_answer argus_close(argus_guardian *guardian) {
-    argus_guardian held;
-    uint32_t status;
-    if (guardian == NULL) return argus_answer_of(ARGUS_NULL, 0);
-    if (!argus_enter(guardian, &held)) return argus_answer_of(ARGUS_REENTERED, 0);
-    status = argus_c_close(&held);
-    argus_leave(guardian, &held);
-    return argus_answer_of(status, 0);
-}
+argus_answer argus_close(argus_guardian *guardian);
 
 /* Makes one call, with a text of this size in bytes; a size of 0 may come with a null text. */
-ARGUS_API argus_answer argus_call(argus_guardian *guardian, uint32_t kind, uint32_t action, uint32_t object,
-                                      int64_t first, int64_t second, const void *text, size_t text_size) {
-    argus_guardian held;
-    int64_t number = 0;
-    uint32_t status;
-    static const uint8_t empty[1] = {0};
-    if (guardian == NULL || (text == NULL && text_size != 0)) return argus_answer_of(ARGUS_NULL, 0);
-    if (!argus_enter(guardian, &held)) return argus_answer_of(ARGUS_REENTERED, 0);
-    status = argus_c_call(&held, kind, action, object, first, second, text == NULL ? empty : (const uint8_t *)text,
-                          text_size, &number);
-    argus_leave(guardian, &held);
-    return argus_answer_of(status, number);
-}
-
-/* Points each text that is null at an empty one. Returns how many calls come before the first that has a null text
- * with a size. */
-static inline size_t argus_texts_given(argus_listed_call *calls, size_t count) {
-    static const uint8_t empty[1] = {0};
-    size_t at;
-    for (at = 0; at < count; at++) {
-        if (calls[at].text == NULL && calls[at].text_size != 0) break;
-        if (calls[at].text == NULL) calls[at].text = empty;
-    }
-    return at;
-}
+argus_answer argus_call(argus_guardian *guardian, uint32_t kind, uint32_t action, uint32_t object,
+                        int64_t first, int64_t second, const void *text, size_t text_size);
 
 /* Makes `count` calls one after another, as argus_c_call_each does; the number is how many were made. A text of size 0
  * may be null: then it is pointed at an empty one. A null text with a size fails as ARGUS_NULL. */
-ARGUS_API argus_answer argus_call_each(argus_guardian *guardian, argus_listed_call *calls, size_t count) {
-    argus_guardian held;
-    static argus_listed_call none;
-    size_t made = 0, given;
-    uint32_t status;
-    if (guardian == NULL || (calls == NULL && count != 0)) return argus_answer_of(ARGUS_NULL, 0);
-    if (!argus_enter(guardian, &held)) return argus_answer_of(ARGUS_REENTERED, 0);
-    given = argus_texts_given(calls, count);
-    status = argus_c_call_each(&held, calls == NULL ? &none : calls, given, &made);
-    argus_leave(guardian, &held);
-    if (status == ARGUS_DONE && given < count) {
-        status = ARGUS_NULL;
-        calls[given].status = ARGUS_NULL;
-        calls[given].number = 0;
-    }
-    return argus_answer_of(status, (int64_t)made);
-}
+argus_answer argus_call_each(argus_guardian *guardian, argus_listed_call *calls, size_t count);
 
 /* Answers a question. */
-ARGUS_API argus_answer argus_tell(argus_guardian *guardian, uint32_t question, uint32_t action, uint32_t object,
-                                      uint64_t entry) {
-    argus_guardian held;
-    int64_t number = 0;
-    uint32_t status;
-    if (guardian == NULL) return argus_answer_of(ARGUS_NULL, 0);
-    if (!argus_enter(guardian, &held)) return argus_answer_of(ARGUS_REENTERED, 0);
-    status = argus_c_tell(&held, question, action, object, entry, &number);
-    argus_leave(guardian, &held);
-    return argus_answer_of(status, number);
-}
+argus_answer argus_tell(argus_guardian *guardian, uint32_t question, uint32_t action, uint32_t object,
+                        uint64_t entry);
 
 /* Aborts all live actions. */
-ARGUS_API argus_answer argus_abort_live(argus_guardian *guardian) {
-    argus_guardian held;
-    uint32_t status;
-    if (guardian == NULL) return argus_answer_of(ARGUS_NULL, 0);
-    if (!argus_enter(guardian, &held)) return argus_answer_of(ARGUS_REENTERED, 0);
-    status = argus_c_abort_live(&held);
-    argus_leave(guardian, &held);
-    return argus_answer_of(status, 0);
-}
+argus_answer argus_abort_live(argus_guardian *guardian);
 
 /* Folds the journal's entries away. */
-ARGUS_API argus_answer argus_checkpoint(argus_guardian *guardian) {
-    argus_guardian held;
-    uint32_t status;
-    if (guardian == NULL) return argus_answer_of(ARGUS_NULL, 0);
-    if (!argus_enter(guardian, &held)) return argus_answer_of(ARGUS_REENTERED, 0);
-    status = argus_c_checkpoint(&held);
-    argus_leave(guardian, &held);
-    return argus_answer_of(status, 0);
-}
+argus_answer argus_checkpoint(argus_guardian *guardian);
 
 /* Starts over, with action numbers from 0 and the same objects. */
-ARGUS_API argus_answer argus_renew(argus_guardian *guardian) {
-    argus_guardian held;
-    uint32_t status;
-    if (guardian == NULL) return argus_answer_of(ARGUS_NULL, 0);
-    if (!argus_enter(guardian, &held)) return argus_answer_of(ARGUS_REENTERED, 0);
-    status = argus_c_renew(&held);
-    argus_leave(guardian, &held);
-    return argus_answer_of(status, 0);
-}
+argus_answer argus_renew(argus_guardian *guardian);
 
 /* Takes whole lines of a journal's listing from the front of the text: `bytes` bytes and `lines` lines, all that are
  * whole at ARGUS_DONE. A size of 0 may come with a null text.
@@ -757,64 +496,22 @@ ARGUS_API argus_answer argus_renew(argus_guardian *guardian) {
  *         return argus_resumed(bank).status == ARGUS_DONE;
  *     }
  */
-ARGUS_API argus_answer argus_resume(argus_guardian *guardian, const void *text, size_t text_size, size_t *bytes,
-                                        size_t *lines) {
-    argus_guardian held;
-    int64_t number = 0;
-    uint32_t status;
-    static const uint8_t empty[1] = {0};
-    if (guardian == NULL || bytes == NULL || lines == NULL || (text == NULL && text_size != 0))
-        return argus_answer_of(ARGUS_NULL, 0);
-    if (!argus_enter(guardian, &held)) return argus_answer_of(ARGUS_REENTERED, 0);
-    status = argus_c_resume(&held, text == NULL ? empty : (const uint8_t *)text, text_size, bytes, lines, &number);
-    argus_leave(guardian, &held);
-    return argus_answer_of(status, number);
-}
+argus_answer argus_resume(argus_guardian *guardian, const void *text, size_t text_size, size_t *bytes,
+                          size_t *lines);
 
 /* Puts the guardian of what was taken in place of the one that is held; the number is how many bytes were dropped. */
-ARGUS_API argus_answer argus_resumed(argus_guardian *guardian) {
-    argus_guardian held;
-    uint64_t dropped = 0;
-    uint32_t status;
-    if (guardian == NULL) return argus_answer_of(ARGUS_NULL, 0);
-    if (!argus_enter(guardian, &held)) return argus_answer_of(ARGUS_REENTERED, 0);
-    status = argus_c_resumed(&held, &dropped);
-    argus_leave(guardian, &held);
-    return argus_answer_of(status, (int64_t)dropped);
-}
+argus_answer argus_resumed(argus_guardian *guardian);
 
 /* Puts as many whole lines of the journal into the room as fit, from this entry on; the number is their size in bytes,
  * and `count` of how many entries they are. No zero is put after them. */
-ARGUS_API argus_answer argus_lines(argus_guardian *guardian, uint64_t from, void *room, size_t room_size,
-                                       uint64_t *count) {
-    argus_guardian held;
-    size_t size = 0;
-    uint32_t status;
-    uint8_t none[1];
-    if (guardian == NULL || count == NULL || (room == NULL && room_size != 0)) return argus_answer_of(ARGUS_NULL, 0);
-    if (!argus_enter(guardian, &held)) return argus_answer_of(ARGUS_REENTERED, 0);
-    status = argus_c_lines(&held, from, room == NULL ? none : (uint8_t *)room, room_size, &size, count);
-    argus_leave(guardian, &held);
-    return argus_answer_of(status, (int64_t)size);
-}
+argus_answer argus_lines(argus_guardian *guardian, uint64_t from, void *room, size_t room_size,
+                         uint64_t *count);
 
 /* The version of the library: a program that was built with this header compares it with ARGUS_VERSION_NUMBER. */
-ARGUS_API uint32_t argus_version(void) {
-    return argus_c_version();
-}
+uint32_t argus_version(void);
 
 /* Puts the reply's text into the room; the number is its size in bytes. No zero is put after it. */
-ARGUS_API argus_answer argus_reply(argus_guardian *guardian, void *room, size_t room_size) {
-    argus_guardian held;
-    size_t size = 0;
-    uint32_t status;
-    uint8_t none[1];
-    if (guardian == NULL || (room == NULL && room_size != 0)) return argus_answer_of(ARGUS_NULL, 0);
-    if (!argus_enter(guardian, &held)) return argus_answer_of(ARGUS_REENTERED, 0);
-    status = argus_c_reply(&held, room == NULL ? none : (uint8_t *)room, room_size, &size);
-    argus_leave(guardian, &held);
-    return argus_answer_of(status, (int64_t)size);
-}
+argus_answer argus_reply(argus_guardian *guardian, void *room, size_t room_size);
 
 /* A commit in two steps, so that it is in a log before anybody can see it:
  *
@@ -836,174 +533,73 @@ ARGUS_API argus_answer argus_reply(argus_guardian *guardian, void *room, size_t 
  * then closes the guardian, which gives its memory back. */
 
 /* Makes all ready for the commit of an action. The guardian is in `ready` from then on, and its handle is closed. */
-ARGUS_API argus_answer argus_ready_commit(argus_guardian *guardian, argus_ready *ready, uint32_t action) {
-    argus_guardian held;
-    argus_ready held_ready;
-    uint32_t status;
-    if (guardian == NULL || ready == NULL) return argus_answer_of(ARGUS_NULL, 0);
-    if (!argus_enter_both(guardian, &held, ready, &held_ready)) return argus_answer_of(ARGUS_REENTERED, 0);
-    status = argus_c_ready_commit(&held, &held_ready, action);
-    argus_leave_both(guardian, &held, ready, &held_ready);
-    return argus_answer_of(status, 0);
-}
+argus_answer argus_ready_commit(argus_guardian *guardian, argus_ready *ready, uint32_t action);
 
 /* Puts the line that the commit will have into the room; the number is its size in bytes. No zero is put after it. */
-ARGUS_API argus_answer argus_ready_line(argus_ready *ready, void *room, size_t room_size) {
-    argus_ready held;
-    size_t size = 0;
-    uint32_t status;
-    uint8_t none[1];
-    if (ready == NULL || (room == NULL && room_size != 0)) return argus_answer_of(ARGUS_NULL, 0);
-    if (!argus_enter_ready(ready, &held)) return argus_answer_of(ARGUS_REENTERED, 0);
-    status = argus_c_ready_line(&held, room == NULL ? none : (uint8_t *)room, room_size, &size);
-    argus_leave_ready(ready, &held);
-    return argus_answer_of(status, (int64_t)size);
-}
+argus_answer argus_ready_line(argus_ready *ready, void *room, size_t room_size);
 
 /* Makes the commit that is ready, and gives the guardian back to the handle. */
-ARGUS_API argus_answer argus_make_ready(argus_ready *ready, argus_guardian *guardian) {
-    argus_guardian held;
-    argus_ready held_ready;
-    int64_t number = 0;
-    uint32_t status;
-    if (ready == NULL || guardian == NULL) return argus_answer_of(ARGUS_NULL, 0);
-    if (!argus_enter_both(guardian, &held, ready, &held_ready)) return argus_answer_of(ARGUS_REENTERED, 0);
-    status = argus_c_make_ready(&held_ready, &held, &number);
-    argus_leave_both(guardian, &held, ready, &held_ready);
-    return argus_answer_of(status, number);
-}
+argus_answer argus_make_ready(argus_ready *ready, argus_guardian *guardian);
 
 /* Gives the guardian back to the handle as it was. */
-ARGUS_API argus_answer argus_cancel_ready(argus_ready *ready, argus_guardian *guardian) {
-    argus_guardian held;
-    argus_ready held_ready;
-    uint32_t status;
-    if (ready == NULL || guardian == NULL) return argus_answer_of(ARGUS_NULL, 0);
-    if (!argus_enter_both(guardian, &held, ready, &held_ready)) return argus_answer_of(ARGUS_REENTERED, 0);
-    status = argus_c_cancel_ready(&held_ready, &held);
-    argus_leave_both(guardian, &held, ready, &held_ready);
-    return argus_answer_of(status, 0);
-}
+argus_answer argus_cancel_ready(argus_ready *ready, argus_guardian *guardian);
 
 /* The calls by name. A text ends at its first zero byte. */
 
-ARGUS_API argus_answer argus_declare(argus_guardian *guardian, const char *shape) {
-    if (shape == NULL) return argus_answer_of(ARGUS_NULL, 0);
-    return argus_call(guardian, ARGUS_DECLARE, 0, 0, 0, 0, shape, strlen(shape));
-}
-
-ARGUS_API argus_answer argus_begin_top(argus_guardian *guardian) {
-    return argus_call(guardian, ARGUS_BEGIN_TOP, 0, 0, 0, 0, NULL, 0);
-}
-
-ARGUS_API argus_answer argus_begin_sub(argus_guardian *guardian, uint32_t parent) {
-    return argus_call(guardian, ARGUS_BEGIN_SUB, parent, 0, 0, 0, NULL, 0);
-}
-
-ARGUS_API argus_answer argus_begin_nested(argus_guardian *guardian, uint32_t creator) {
-    return argus_call(guardian, ARGUS_BEGIN_NESTED, creator, 0, 0, 0, NULL, 0);
-}
-
-ARGUS_API argus_answer argus_commit(argus_guardian *guardian, uint32_t action) {
-    return argus_call(guardian, ARGUS_COMMIT, action, 0, 0, 0, NULL, 0);
-}
-
-ARGUS_API argus_answer argus_abort(argus_guardian *guardian, uint32_t action) {
-    return argus_call(guardian, ARGUS_ABORT, action, 0, 0, 0, NULL, 0);
-}
-
-ARGUS_API argus_answer argus_abort_others(argus_guardian *guardian, uint32_t action) {
-    return argus_call(guardian, ARGUS_ABORT_OTHERS, action, 0, 0, 0, NULL, 0);
-}
-
-ARGUS_API argus_answer argus_test_read(argus_guardian *guardian, uint32_t action, uint32_t object) {
-    return argus_call(guardian, ARGUS_TEST_READ, action, object, 0, 0, NULL, 0);
-}
-
-ARGUS_API argus_answer argus_test_write(argus_guardian *guardian, uint32_t action, uint32_t object) {
-    return argus_call(guardian, ARGUS_TEST_WRITE, action, object, 0, 0, NULL, 0);
-}
+argus_answer argus_declare(argus_guardian *guardian, const char *shape);
+argus_answer argus_begin_top(argus_guardian *guardian);
+argus_answer argus_begin_sub(argus_guardian *guardian, uint32_t parent);
+argus_answer argus_begin_nested(argus_guardian *guardian, uint32_t creator);
+argus_answer argus_commit(argus_guardian *guardian, uint32_t action);
+argus_answer argus_abort(argus_guardian *guardian, uint32_t action);
+argus_answer argus_abort_others(argus_guardian *guardian, uint32_t action);
+argus_answer argus_test_read(argus_guardian *guardian, uint32_t action, uint32_t object);
+argus_answer argus_test_write(argus_guardian *guardian, uint32_t action, uint32_t object);
 
 /* A query: ARGUS_WHOLE to ARGUS_TAG_VALUE, with its number where it takes one. */
-ARGUS_API argus_answer argus_ask(argus_guardian *guardian, uint32_t action, uint32_t object, uint32_t query,
-                                     int64_t first) {
-    if (query < ARGUS_WHOLE || query > ARGUS_TAG_VALUE) return argus_answer_of(ARGUS_BAD_KIND, 0);
-    return argus_call(guardian, query, action, object, first, 0, NULL, 0);
-}
+argus_answer argus_ask(argus_guardian *guardian, uint32_t action, uint32_t object, uint32_t query,
+                       int64_t first);
 
 /* A change: ARGUS_CREATE to ARGUS_TOUCH, with its numbers and its text where it takes them (else 0 and NULL). */
-ARGUS_API argus_answer argus_alter(argus_guardian *guardian, uint32_t action, uint32_t object, uint32_t change,
-                                       int64_t first, int64_t second, const char *text) {
-    if (change < ARGUS_CREATE || change > ARGUS_TOUCH) return argus_answer_of(ARGUS_BAD_KIND, 0);
-    return argus_call(guardian, change, action, object, first, second, text, text == NULL ? 0 : strlen(text));
-}
+argus_answer argus_alter(argus_guardian *guardian, uint32_t action, uint32_t object, uint32_t change,
+                         int64_t first, int64_t second, const char *text);
 
 /* Takes the write lock, and changes nothing. Of two topactions that have read an object, and both want to change it,
  * each is refused ARGUS_CONFLICT as long as the other one is live. So it comes before reading what will be changed. */
-ARGUS_API argus_answer argus_lock(argus_guardian *guardian, uint32_t action, uint32_t object) {
-    return argus_alter(guardian, action, object, ARGUS_TOUCH, 0, 0, NULL);
-}
+argus_answer argus_lock(argus_guardian *guardian, uint32_t action, uint32_t object);
 
 /* The questions by name. */
 
-ARGUS_API argus_answer argus_can_read(argus_guardian *guardian, uint32_t action, uint32_t object) {
-    return argus_tell(guardian, ARGUS_CAN_READ, action, object, 0);
-}
+argus_answer argus_can_read(argus_guardian *guardian, uint32_t action, uint32_t object);
+argus_answer argus_can_write(argus_guardian *guardian, uint32_t action, uint32_t object);
+argus_answer argus_objects(argus_guardian *guardian);
+argus_answer argus_actions(argus_guardian *guardian);
+argus_answer argus_entries(argus_guardian *guardian);
+argus_answer argus_base(argus_guardian *guardian, uint32_t object);
+argus_answer argus_readers(argus_guardian *guardian, uint32_t object);
+argus_answer argus_versions(argus_guardian *guardian, uint32_t object);
+argus_answer argus_entry(argus_guardian *guardian, uint64_t entry);
+argus_answer argus_shape(argus_guardian *guardian, uint32_t object);
 
-ARGUS_API argus_answer argus_can_write(argus_guardian *guardian, uint32_t action, uint32_t object) {
-    return argus_tell(guardian, ARGUS_CAN_WRITE, action, object, 0);
-}
+/* The number of a record's field, or of a variant's tag, by its name in the object's shape. A program looks it up once,
+ * and keeps it:
+ *
+ *     int64_t balance = argus_field(&bank, account, "balance").number;
+ *     argus_ask(&bank, top, account, ARGUS_FIELD, balance);
+ *
+ * ARGUS_NUMBER; ARGUS_NOT_THERE if the object isn't declared, or has no such name; ARGUS_NO_MEMORY. The shape takes the
+ * place of the reply that is kept. */
+argus_answer argus_field(argus_guardian *guardian, uint32_t object, const char *name);
 
-ARGUS_API argus_answer argus_objects(argus_guardian *guardian) {
-    return argus_tell(guardian, ARGUS_OBJECTS, 0, 0, 0);
-}
-
-ARGUS_API argus_answer argus_actions(argus_guardian *guardian) {
-    return argus_tell(guardian, ARGUS_ACTIONS, 0, 0, 0);
-}
-
-ARGUS_API argus_answer argus_entries(argus_guardian *guardian) {
-    return argus_tell(guardian, ARGUS_ENTRIES, 0, 0, 0);
-}
-
-ARGUS_API argus_answer argus_base(argus_guardian *guardian, uint32_t object) {
-    return argus_tell(guardian, ARGUS_BASE, 0, object, 0);
-}
-
-ARGUS_API argus_answer argus_readers(argus_guardian *guardian, uint32_t object) {
-    return argus_tell(guardian, ARGUS_READERS, 0, object, 0);
-}
-
-ARGUS_API argus_answer argus_versions(argus_guardian *guardian, uint32_t object) {
-    return argus_tell(guardian, ARGUS_VERSIONS, 0, object, 0);
-}
-
-ARGUS_API argus_answer argus_entry(argus_guardian *guardian, uint64_t entry) {
-    return argus_tell(guardian, ARGUS_ENTRY, 0, 0, entry);
-}
-
-ARGUS_API argus_answer argus_shape(argus_guardian *guardian, uint32_t object) {
-    return argus_tell(guardian, ARGUS_SHAPE, 0, object, 0);
-}
-
-ARGUS_API argus_answer argus_status_of(argus_guardian *guardian, uint32_t action) {
-    return argus_tell(guardian, ARGUS_ACTION_STATUS, action, 0, 0);
-}
+argus_answer argus_status_of(argus_guardian *guardian, uint32_t action);
 
 /* With the number after the one that is found it leads to all live actions. */
-ARGUS_API argus_answer argus_first_live(argus_guardian *guardian, uint32_t from) {
-    return argus_tell(guardian, ARGUS_FIRST_LIVE, from, 0, 0);
-}
+argus_answer argus_first_live(argus_guardian *guardian, uint32_t from);
 
-ARGUS_API argus_answer argus_first_entry(argus_guardian *guardian) {
-    return argus_tell(guardian, ARGUS_FIRST_ENTRY, 0, 0, 0);
-}
+argus_answer argus_first_entry(argus_guardian *guardian);
 
 /* A listing: ARGUS_LIST_BASES to ARGUS_LIST_AUDIT. */
-ARGUS_API argus_answer argus_list(argus_guardian *guardian, uint32_t listing) {
-    if (listing < ARGUS_LIST_BASES || listing > ARGUS_LIST_AUDIT) return argus_answer_of(ARGUS_BAD_KIND, 0);
-    return argus_tell(guardian, listing, 0, 0, 0);
-}
+argus_answer argus_list(argus_guardian *guardian, uint32_t listing);
 
 #ifdef __cplusplus
 }

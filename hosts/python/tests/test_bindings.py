@@ -14,7 +14,7 @@ NULL = 21
 
 
 class Bindings(unittest.TestCase):
-    """Functions that are inline in C."""
+    """Functions of the headers that are no exports of the archive."""
 
     def setUp(self):
         self.library = load()
