@@ -78,8 +78,8 @@ const KEYS = {
   End: (page) => page.choose({ count: page.run.entries.length }),
   Enter: (page) => page.choose({ action: page.run.entries[page.shown.count - 1]?.actor ?? null }),
   Escape: (page) => page.choose({ action: null }),
-  "+": (page) => page.scene.view.zoom(1.5),
-  "-": (page) => page.scene.view.zoom(1 / 1.5),
+  "+": (page) => page.scene.zoomAtMoment(1.5),
+  "-": (page) => page.scene.zoomAtMoment(1 / 1.5),
   0: (page) => page.scene.view.fit(),
   a: (page) => page.scene.view.pan(-80, 0),
   d: (page) => page.scene.view.pan(80, 0),
@@ -92,6 +92,7 @@ function listenToKeys(page, draw) {
     const isField = event.target.matches("input, select, summary, button");
     if (isField || event.ctrlKey || event.altKey || event.metaKey || !(event.key in KEYS)) return;
     event.preventDefault();
+    hideTitle();
     KEYS[event.key](page);
     draw();
   });

@@ -41,12 +41,17 @@ class Run {
     action?.entries.push(entry.at);
     entry.actor = action;
     if (entry.isRefused) this.addRefusal(entry, action);
-    else if (entry.verb === "declare") this.addObject(entry.operation, "absent", entry.at);
+    else if (entry.verb === "declare") this.declare(entry);
     else if (entry.verb.startsWith("begin_")) this.begin(entry, action);
     else if (entry.verb === "commit") this.commit(action, entry.at);
     else if (entry.verb === "abort") this.abort([action], "alone", entry.at);
     else if (entry.verb === "abort_others") this.abort(siblingsOf(action), "sibling", entry.at);
     else this.access(entry, action);
+  }
+
+  declare(entry) {
+    entry.object = this.objects.length;
+    this.addObject(entry.operation, "absent", entry.at);
   }
 
   addObject(shape, base, at) {

@@ -58,6 +58,12 @@ class Scene {
     this.view.resize(width, height);
   }
 
+  // Zooms where the chosen moment is, if that is in sight.
+  zoomAtMoment(factor) {
+    const x = this.view.x(this.shown.count - 0.5);
+    this.view.zoom(factor, x >= LEFT && x <= this.view.width ? x : undefined);
+  }
+
   fill(colour, x, y, width, height) {
     this.context.fillStyle = this.colours[colour];
     this.context.fillRect(x, y, width, height);

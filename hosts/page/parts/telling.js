@@ -48,7 +48,6 @@ function toldOfObject(run, object) {
 
 // What a call is made on, by its name.
 function objectOf(run, entry) {
-  if (entry.verb === "declare" && !entry.isRefused) return run.labelOf(numberOf(entry.reply));
   return entry.object === null ? "" : run.labelOf(entry.object);
 }
 

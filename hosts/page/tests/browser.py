@@ -100,7 +100,7 @@ class Browser:
 
 
 class Tab:
-    """A page of a file. `faults` has what its script threw, and each address that it asked for beside the file."""
+    """A page of a file, in a window of its own."""
 
     def __init__(self, browser: Browser, target: str, session: str, path: Path) -> None:
         self._browser, self._target, self._session = browser, target, session
@@ -113,10 +113,18 @@ class Tab:
 
     def reopen(self, path: Path) -> None:
         """Opens another page in its place."""
-        self._path = path
+        self.path = path
         self.call("Page.navigate", url=path.as_uri())
-        self._browser.wait_for("Page.loadEventFired", self._session)
+        self.wait_for("Page.loadEventFired")
+        self.settle()
+
+    def settle(self) -> None:
+        """Waits until the next frame is drawn."""
         self.evaluate("new Promise((done) => requestAnimationFrame(() => setTimeout(done)))")
+
+    def wait_for(self, method: str) -> Any:
+        """What the next event of this name says."""
+        return self._browser.wait_for(method, self._session)
 
     def close(self) -> None:
         self._browser.call("Target.closeTarget", targetId=self._target)
@@ -128,7 +136,7 @@ class Tab:
             if event.get("method") == "Runtime.exceptionThrown":
                 found.append(str(event["params"]["exceptionDetails"]))
             url = event.get("params", {}).get("request", {}).get("url", "")
-            if event.get("method") == "Network.requestWillBeSent" and url != self._path.as_uri():
+            if event.get("method") == "Network.requestWillBeSent" and url != self.path.as_uri():
                 found.append(url)
         return found
 
@@ -171,6 +179,9 @@ class Tab:
         """What the user prefers."""
         feature = {"name": "prefers-color-scheme", "value": "dark" if is_dark else "light"}
         self.call("Emulation.setEmulatedMedia", features=[feature])
+        # The page hears of it in the frame after the one that is under way.
+        self.settle()
+        self.settle()
 
     def screenshot(self, path: Path) -> None:
         """Writes what is seen as PNG."""

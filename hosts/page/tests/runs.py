@@ -1,0 +1,106 @@
+"""Runs that are opened as pages: journals by the program argus, and a listing whose texts are markup."""
+
+from __future__ import annotations
+
+from collections.abc import Iterator
+from pathlib import Path
+from random import Random
+
+from calling import JOURNAL, TOP, Programs
+from draft import OBJECTS, SHAPE, draft
+
+ACCOUNTS = [f"account{number}" for number in range(16)]
+# A text that would be markup, or isn't one that a page can have as it is.
+STRANGE = r'"</pre><script>document.title = 1</script> &lt; -> ' + '\r \\"quoted\\" \0 \x85 \ufffe"'
+HOSTILE = [
+    "0 declare atomic_array[text] -> o0",
+    "1 begin_top -> a0",
+    f"2 alter a0 o0 create 1[{STRANGE},{STRANGE}] -> done",
+    f"3 ask a0 o0 whole -> body 1[{STRANGE},{STRANGE}]",
+    "4 commit a0 -> done",
+]
+# One action wants what another one holds.
+CONFLICT = [
+    "0 declare atomic_record[n:int] -> o0",
+    "1 begin_top -> a0",
+    "2 begin_top -> a1",
+    "3 alter a0 o0 create {1} -> done",
+    "4 alter a1 o0 touch -> refused Conflict",
+    "5 abort a1 -> done",
+    "6 commit a0 -> done",
+]
+
+
+def as_text(lines: list[str]) -> str:
+    """The text of lines, each with its line feed."""
+    return "".join(f"{it}\n" for it in lines)
+
+
+def bank(programs: Programs, entries: int) -> str:
+    """The first so many entries of a bank's journal: topactions side by side, some of which abort, and their
+    subactions."""
+    lines = [f"declare {it} atomic_record[balance:int]" for it in ACCOUNTS] + ["enter topaction"]
+    lines += [f"create {it} {{100}}" for it in ACCOUNTS] + ["end"]
+    chance = Random(entries)
+    for _ in range(entries // 40 + 1):
+        lines += ["coenter", *(line for _ in range(4) for line in _order(chance)), "end"]
+    return front(journal(programs, as_text(lines)), entries)
+
+
+def _order(chance: Random) -> Iterator[str]:
+    """An arm: an order of some transfers."""
+    yield "topaction"
+    for _ in range(chance.randint(2, 3)):
+        source, target = chance.sample(ACCOUNTS, 2)
+        yield from ("enter action", f"get {source} balance", f"set {source} balance {chance.randint(0, 200)}")
+        yield f"set {target} balance {chance.randint(0, 200)}"
+        yield from ["abort leave", "end"] if chance.random() < 0.2 else ["end"]
+    if chance.random() < 0.1:
+        yield "abort leave"
+
+
+def by_chance(programs: Programs, seed: int) -> str:
+    """The journal of a script of some drafts, one behind the other."""
+    lines = [f"declare {it} {SHAPE}" for it in OBJECTS]
+    drafts = (draft(1000 * seed + number)[len(OBJECTS) :] for number in range(6))
+    return journal(programs, as_text(lines + [line for it in drafts for line in it]))
+
+
+def example(programs: Programs, name: str) -> str:
+    """The journal of an example script."""
+    return journal(programs, (TOP / f"examples/{name}.argus").read_text(encoding="utf-8"))
+
+
+def journal(programs: Programs, script: str) -> str:
+    """The journal of a script. ValueError if it has none."""
+    ended = programs.call("argus", JOURNAL, script.encode())
+    if ended.status or not ended.output:
+        raise ValueError(f"no journal: {ended.errors.decode()}")
+    return ended.output.decode()
+
+
+def front(listing: str, entries: int) -> str:
+    """The listing of the first so many entries, which has no opening."""
+    return as_text(listing.split("\n")[:-1][:entries])
+
+
+def stacks(programs: Programs, listing: str) -> list[str]:
+    """The lines of the listing `stacks` of the guardian that a journal leaves."""
+    ended = programs.call("replay", [b"--list", b"stacks"], listing.encode())
+    if ended.status:
+        raise ValueError(f"not replayed: {ended.errors.decode()}")
+    return ended.output.decode().split("\n")[:-1]
+
+
+def launcher(folder: Path, picture: Path) -> Path:
+    """A folder's `./picture`, whose program is this one."""
+    for name in ("picture", "tools/program.sh", "tools/page.sh", "hosts/page/parts"):
+        (folder / name).parent.mkdir(parents=True, exist_ok=True)
+        (folder / name).symlink_to(TOP / name)
+    (folder / "picture").unlink()
+    (folder / "picture").write_bytes((TOP / "picture").read_bytes())
+    (folder / "picture").chmod(0o755)
+    (folder / "crates.txt").write_text("picture: argus_usage\n", encoding="utf-8")
+    (folder / "crates/picture/out").mkdir(parents=True)
+    (folder / "crates/picture/out/picture").symlink_to(picture)
+    return folder / "picture"
