@@ -21,6 +21,7 @@ framed() {
     fi
     echo '<details><summary>The picture that the program draws</summary>'
     echo '<iframe title="The picture that the program draws" sandbox srcdoc="'
+    echo "<meta name='color-scheme' content='light dark'><style>body{margin:0}</style>"
     escaped "$room/picture" | sed 's/"/\&quot;/g'
     echo '"></iframe></details>'
 }

@@ -49,6 +49,7 @@ function drawActions(scene) {
   for (let row = first; row <= last; row++) drawRefusals(scene, row);
   drawRefusals(scene, -1);
   scene.setShown(true);
+  if (scene.shown.action) drawChosen(scene, scene.shown.action);
 }
 
 function drawRow(scene, row, draw) {
@@ -73,7 +74,6 @@ function drawAction(scene, action) {
   const width = Math.max(Math.min(view.x(lastOf(action, run)), view.width + 20) - x, 2);
   const y = view.rowTop(action.row);
   drawBar(scene, action.fate, x, y, width);
-  if (scene.shown.action === action) drawFrame(scene, x, y, width);
   const room = width - Math.max(LEFT - x, 0) - 8;
   const colour = action.fate === "committed" ? "paper" : "ink";
   const name = `a${action.number}`;
@@ -89,8 +89,14 @@ function drawName(scene, colour, fate, name, x, y) {
   scene.text(colour, name, x, y + 11);
 }
 
-function drawFrame(scene, x, y, width) {
-  scene.line("chosen", [x - 3, y - 3, x + width + 3, y - 3, x + width + 3, y + BAR + 3, x - 3, y + BAR + 3, x - 3, y - 3], [], 2.5);
+// The frame around the bar of the action that is chosen.
+function drawChosen(scene, action) {
+  const { run, view } = scene;
+  const left = Math.max(view.x(action.begin), LEFT - 20) - 3;
+  const right = Math.min(view.x(lastOf(action, run)), view.width + 20) + 3;
+  const top = view.rowTop(action.row) - 3;
+  const bottom = top + BAR + 6;
+  scene.line("chosen", [left, top, right, top, right, bottom, left, bottom, left, top], [], 2.5);
 }
 
 // What a click on a bar chooses: the action, and the entry of its life that is there.

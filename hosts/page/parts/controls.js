@@ -58,14 +58,14 @@ function hideTitle() {
   byId("title").hidden = true;
 }
 
-// The wheel scrolls; with Ctrl it zooms, at the pointer.
+// The wheel scrolls the picture, and where that is at its end the page; with Ctrl it zooms, at the pointer.
 function listenToWheel(page, canvas, draw) {
   canvas.addEventListener("wheel", (event) => {
     const { view } = page.scene;
-    event.preventDefault();
+    const [x, y] = event.shiftKey ? [event.deltaY, 0] : [event.deltaX, event.deltaY];
     if (event.ctrlKey) view.zoom(1.0015 ** -event.deltaY, event.offsetX);
-    else if (event.shiftKey) view.pan(event.deltaY, 0);
-    else view.pan(event.deltaX, event.deltaY);
+    else if (!view.pan(x, y)) return;
+    event.preventDefault();
     draw();
   }, { passive: false });
 }

@@ -1,25 +1,18 @@
 // `Filter`: which entries, actions and objects of a run are shown: those of some objects, of an action and all that it
 // began, or of a status.
 
-const STATUSES = {
-  committed: "committed",
-  alone: "aborted by itself",
-  ancestor: "aborted with an ancestor",
-  sibling: "aborted by a sibling",
-  live: "live at the end",
-};
-
 class Filter {
   constructor(run, objects, action, status) {
     this.faults = [];
     this.status = status;
     this.objects = this.objectsNamed(run, objects);
     const within = this.actionsWithin(run, action);
-    const using = this.objects && actionsUsing(this.objects);
     const refused = status === "refused" && actionsRefused(run);
     const hasStatus = (it) => !status || (refused ? refused.has(it) : it.fate === status);
-    const isShown = (it) => (!within || within.has(it)) && (!using || using.has(it)) && hasStatus(it);
-    this.actions = new Set(run.actions.filter(isShown));
+    // Those that the fields for actions leave, and of these those that have to do with the objects.
+    this.meant = new Set(run.actions.filter((it) => (!within || within.has(it)) && hasStatus(it)));
+    const using = this.objects && actionsUsing(run, this.objects);
+    this.actions = using ? new Set([...this.meant].filter((it) => using.has(it))) : this.meant;
     this.isOpen = !within && !using && !status;
     this.hasActions = Boolean(within || status);
   }
@@ -57,7 +50,7 @@ class Filter {
     if (this.isOpen) return true;
     if (this.objects && !this.objects.has(run.objects[entry.object])) return false;
     if (this.status === "refused" && !entry.isRefused) return false;
-    return !this.hasActions || this.actions.has(entry.actor);
+    return !this.hasActions || this.meant.has(entry.actor);
   }
 }
 
@@ -66,8 +59,11 @@ function numberNamed(name, letter) {
   return new RegExp(`^${letter}?\\d+$`).test(name) ? Number(name.replace(letter, "")) : -1;
 }
 
-function actionsUsing(objects) {
-  return new Set([...objects].flatMap((it) => it.accesses.map((access) => access.action)));
+// The actions that had a lock on one of these objects, or were refused an access to one.
+function actionsUsing(run, objects) {
+  const holders = [...objects].flatMap((it) => it.holds.map((hold) => hold.action));
+  const refused = run.entries.filter((it) => it.isRefused && objects.has(run.objects[it.object]));
+  return new Set([...holders, ...refused.map((it) => it.actor)]);
 }
 
 function actionsRefused(run) {

@@ -8,10 +8,10 @@ class Page {
     this.filter = new Filter(run, "", "", "");
     this.entries = run.entries;
     this.tables = {
-      entries: new Table(byId("entries"), "Entries", [["Entry", "12%"], ["Action", "11%"], ["Object", "17%"], ["Call", "38%"], ["Reply", "22%"]]),
-      state: new Table(byId("state"), "What the objects held", [["Object", "28%"], ["What", "24%"], ["Content", "48%"]]),
-      serial: new Table(byId("serial"), "Serial order", [["Number", "16%"], ["Action", "16%"], ["Entry", "16%"], ["Changed", "52%"]]),
-      chosen: new Table(byId("chosen"), "Entries of the action", [["Entry", "14%"], ["Call", "56%"], ["Reply", "30%"]]),
+      entries: new Table(byId("entries"), "Entries", { Entry: 12, Action: 11, Object: 17, Call: 38, Reply: 22 }),
+      state: new Table(byId("state"), "What the objects held", { Object: 28, What: 24, Content: 48 }),
+      serial: new Table(byId("serial"), "Serial order", { Number: 16, Action: 16, Entry: 16, Changed: 52 }),
+      chosen: new Table(byId("chosen"), "Entries of the action", { Entry: 14, Call: 56, Reply: 30 }),
     };
     byId("size").textContent = sizeOf(run);
     byId("moment").max = run.entries.length;
@@ -57,7 +57,8 @@ class Page {
   showEntries() {
     const current = firstWhere(this.entries, 0, (it) => it.at >= this.shown.count - 1);
     const isThere = this.entries[current]?.at === this.shown.count - 1;
-    this.tables.entries.show(this.entries.length, (place) => this.entryRow(this.entries[place]), isThere ? current : -1);
+    const rowAt = (place) => this.entryRow(this.entries[place]);
+    this.tables.entries.show(this.entries.length, rowAt, isThere ? current : -1);
   }
 
   entryRow(entry) {

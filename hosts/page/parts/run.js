@@ -71,7 +71,7 @@ class Run {
     if (refusal.why === "Conflict" && object && action) {
       const writes = WRITES.has(entry.verb);
       const inWay = (hold) => (writes || hold.writes) && !isAncestor(hold.action, action);
-      refusal.against = [...object.held].find(inWay)?.action ?? null;
+      refusal.against = firstOf(object.held, inWay)?.action ?? null;
     }
     const row = action ? action.row : -1;
     if (!this.refusedInRow.has(row)) this.refusedInRow.set(row, []);
@@ -167,6 +167,14 @@ class Run {
   labelOf(object) {
     return object in this.names ? `${this.names[object]} (o${object})` : `o${object}`;
   }
+}
+
+// The first of these that is so; the others aren't looked at.
+function firstOf(these, isSo) {
+  for (const it of these) {
+    if (isSo(it)) return it;
+  }
+  return undefined;
 }
 
 function isAncestor(upper, lower) {

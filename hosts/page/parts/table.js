@@ -6,25 +6,25 @@ const ROW_HEIGHT = 22;
 const MOST_LETTERS = 2000;
 
 class Table {
+  // A table with this name, in this place; its heads, each with its part of the width in hundredths.
   constructor(place, name, heads) {
     this.place = place;
-    this.heads = heads;
     this.rows = { count: 0, of: null, current: -1 };
-    place.append(this.head(name));
+    place.append(this.head(name, heads));
     place.addEventListener("scroll", () => this.draw());
     new ResizeObserver(() => this.draw()).observe(place);
   }
 
-  head(name) {
+  head(name, heads) {
     const table = element("table");
     table.setAttribute("aria-label", name);
     const line = element("tr");
-    this.heads.forEach(([text, width]) => {
+    for (const [text, width] of Object.entries(heads)) {
       const cell = element("th", text);
       cell.scope = "col";
-      cell.style.width = width;
+      cell.style.width = `${width}%`;
       line.append(cell);
-    });
+    }
     const head = element("thead");
     head.append(line);
     this.body = element("tbody");

@@ -43,8 +43,13 @@ class View {
     this.clamp();
   }
 
+  // The scale at which the whole run is in sight, however narrow the window is.
   leastScale() {
-    return Math.min((this.width - LEFT - 30) / Math.max(this.run.entries.length, 1), WIDEST);
+    return Math.min(this.room() / Math.max(this.run.entries.length, 1), WIDEST);
+  }
+
+  room() {
+    return Math.max(this.width - LEFT - 30, 50);
   }
 
   fit() {
@@ -53,8 +58,7 @@ class View {
 
   clamp() {
     this.scale = Math.min(Math.max(this.scale, this.leastScale()), WIDEST);
-    const shown = (this.width - LEFT - 30) / this.scale;
-    this.left = Math.max(0, Math.min(this.left, this.run.entries.length - shown));
+    this.left = Math.max(0, Math.min(this.left, this.run.entries.length - this.room() / this.scale));
     this.top = Math.max(0, Math.min(this.top, this.whole - (this.height - TOP)));
   }
 
@@ -65,10 +69,13 @@ class View {
     this.clamp();
   }
 
+  // Moves by so many pixels; whether it could.
   pan(x, y) {
+    const { left, top } = this;
     this.left += x / this.scale;
     this.top += y;
     this.clamp();
+    return this.left !== left || this.top !== top;
   }
 
   // Brings an entry into sight, and a row where one is given.

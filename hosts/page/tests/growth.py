@@ -26,7 +26,7 @@ ARRAY = "0 declare atomic_array[int] -> o0"
 
 
 def tests() -> Iterator[Test]:
-    for shape in (live, readers, waiting, nested, queue, commits, objects):
+    for shape in (live, readers, waiting, wanted, nested, queue, commits, objects):
         yield f"{shape.__name__}: {shape.__doc__}", partial(grows, shape)
 
 
@@ -45,6 +45,14 @@ def waiting(at: int) -> str:
     if at == 2:
         return "alter a0 o0 create 1[] -> done"
     return f"begin_top -> a{at // 2}" if at % 2 else f"alter a{at // 2 - 1} o0 touch -> refused Conflict"
+
+
+def wanted(at: int) -> str:
+    """An object that many read, and as many are refused."""
+    number = (at - 1) // 2
+    if at % 2:
+        return f"begin_top -> a{number}"
+    return f"alter a{number} o0 touch -> refused Conflict" if number % 2 else f"test_read a{number} o0 -> flag true"
 
 
 def nested(at: int) -> str:

@@ -26,6 +26,9 @@ def tests() -> Iterator[Test]:
     yield "filter of both", partial(
         filtered, {"objects": "o0 o1", "action": "a5"}, lambda line: re.search(r"alter a[67]\b", line)
     )
+    yield "filter of an object and what was refused", partial(
+        filtered, {"objects": "o1", "status": "alone"}, lambda line: re.search(r"a3 o1|a5 o1", line)
+    )
     yield "filter of nothing that is there", faulty_filter
 
 
@@ -138,8 +141,8 @@ def zoom(pages: Pages) -> str:
 def drag(pages: Pages) -> str:
     """Dragging moves the picture, and chooses nothing."""
     tab = pages.open(bank(pages.programs, 528))
-    tab.press("+")
-    tab.press("+")
+    for key in ("Home", "+", "+"):
+        tab.press(key)
     left, moment = tab.evaluate("page.scene.view.left"), text_of(tab, "when")
     one, other = on_canvas(tab, "900", "100"), on_canvas(tab, "500", "100")
     tab.drag(*one, *other)

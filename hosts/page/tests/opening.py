@@ -2,14 +2,15 @@
 
 from __future__ import annotations
 
+import subprocess
 import time
 from collections.abc import Iterator
 from functools import partial
 
 from argus_guardian.page import page_of
-from calling import JOURNAL
+from calling import JOURNAL, TOP
 from lines import lines_of
-from pages import Pages, Tab, Test, unlike
+from pages import Pages, Tab, Test, rows_of, unlike
 from runs import HOSTILE, as_text, bank, example
 
 # So many entries, and the seconds of a processor that a page's thread may take until it is drawn.
@@ -26,6 +27,7 @@ def tests() -> Iterator[Test]:
     yield "texts that would be markup", lambda pages: with_lines(pages, as_text(HOSTILE))
     for entries in (MOST_DRAWN, MOST_DRAWN + 1):
         yield f"the program's picture, of {entries} entries", partial(framed, entries)
+    yield "the page of examples/bank.argus", recipe
     yield "a page without its scripts", unscripted
     yield "a page that Python joins", joined
 
@@ -86,7 +88,19 @@ def framed(entries: int, pages: Pages) -> str:
     frame = tab.evaluate('document.querySelector("#picture iframe")?.srcdoc ?? ""')
     tab.close()
     picture = pages.programs.call("picture", (), listing.encode()).output.decode()
-    return unlike("the picture", picture if entries <= MOST_DRAWN else "", frame.removeprefix("\n"))
+    wanted = picture if entries <= MOST_DRAWN else ""
+    return unlike("the picture", wanted, frame[frame.index("<svg") :] if frame else "")
+
+
+def recipe(pages: Pages) -> str:
+    """Whether an example's page comes of the command line that it says, and has the serial order of its topactions."""
+    script = (TOP / "examples/bank.argus").read_text(encoding="utf-8")
+    command = next(line.removeprefix("#   ") for line in script.splitlines() if line.startswith("#   "))
+    subprocess.run(["sh", "-c", command], cwd=pages.top, check=True)
+    tab = pages.browser.open(pages.top / "run.html")
+    order = [["1", "a0", "9"], ["2", "a1", "27"], ["3", "a3", "37"]]
+    got = [it[:3] for it in rows_of(tab, "serial")]
+    return unlike("serial order", order, got) or of_tab(pages, tab, example(pages.programs, "bank"))
 
 
 def unscripted(pages: Pages) -> str:

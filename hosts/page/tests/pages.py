@@ -11,7 +11,7 @@ from typing import Any
 
 from browser import Browser, Tab
 from calling import Programs
-from runs import launcher
+from runs import make_launchers
 
 # What the table of contents shows, as the lines of the listing `stacks`.
 SHOWN = """[...document.querySelectorAll("#state tbody tr:not(.spacer)")].map((row) => {
@@ -30,7 +30,8 @@ class Pages:
     made: int = 0
 
     def __post_init__(self) -> None:
-        self.picture = launcher(self.folder / "launcher", self.programs.paths["picture"])
+        self.top = self.folder / "launchers"
+        make_launchers(self.top, self.programs)
 
     def page(self, listing: str, script: str = "") -> Path:
         """The page that `./picture --html` makes of a listing, with the names of a script's objects."""
@@ -41,7 +42,7 @@ class Pages:
             named.write_text(script, encoding="utf-8")
             words = ["--script", str(named)]
         with path.open("wb") as file:
-            command = [str(self.picture), "--html", *words]
+            command = [str(self.top / "picture"), "--html", *words]
             subprocess.run(command, input=listing.encode(), stdout=file, check=True)
         return path
 

@@ -2,6 +2,7 @@
 
 from __future__ import annotations
 
+import shutil
 from collections.abc import Iterator
 from pathlib import Path
 from random import Random
@@ -92,15 +93,13 @@ def stacks(programs: Programs, listing: str) -> list[str]:
     return ended.output.decode().split("\n")[:-1]
 
 
-def launcher(folder: Path, picture: Path) -> Path:
-    """A folder's `./picture`, whose program is this one."""
-    for name in ("picture", "tools/program.sh", "tools/page.sh", "hosts/page/parts"):
+def make_launchers(folder: Path, programs: Programs) -> None:
+    """Makes a folder's `./argus` and `./picture`, whose programs are these."""
+    for name in ("tools/program.sh", "tools/page.sh", "hosts/page/parts", "examples"):
         (folder / name).parent.mkdir(parents=True, exist_ok=True)
         (folder / name).symlink_to(TOP / name)
-    (folder / "picture").unlink()
-    (folder / "picture").write_bytes((TOP / "picture").read_bytes())
-    (folder / "picture").chmod(0o755)
-    (folder / "crates.txt").write_text("picture: argus_usage\n", encoding="utf-8")
-    (folder / "crates/picture/out").mkdir(parents=True)
-    (folder / "crates/picture/out/picture").symlink_to(picture)
-    return folder / "picture"
+    (folder / "crates.txt").write_text("argus: argus_usage\npicture: argus_usage\n", encoding="utf-8")
+    for name in ("argus", "picture"):
+        shutil.copy(TOP / name, folder)
+        (folder / f"crates/{name}/out").mkdir(parents=True)
+        (folder / f"crates/{name}/out/{name}").symlink_to(programs.paths[name])

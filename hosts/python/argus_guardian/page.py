@@ -12,8 +12,14 @@ _MARKS = {"&": "&amp;", "<": "&lt;", "\r": "&#13;", "\0": "<wbr>"}
 
 
 def page_of(listing: str, names: Iterable[str] = ()) -> str:
-    """The page of a journal's listing, with its objects called by these names, in the order of their numbers."""
-    data = {"listing": _escaped(listing), "names": _escaped("".join(f"{it}\n" for it in names)), "picture": ""}
+    """The page of a journal's listing, with its objects called by these names, in the order of their numbers.
+
+    ValueError if a line feed is in a name.
+    """
+    called = list(names)
+    if any("\n" in it for it in called):
+        raise ValueError("a line feed is in a name")
+    data = {"listing": _escaped(listing), "names": _escaped("".join(f"{it}\n" for it in called)), "picture": ""}
     return "".join(_put(line, data) for line in _part("page.html").splitlines(keepends=True))
 
 

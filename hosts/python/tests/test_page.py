@@ -51,6 +51,10 @@ class Pages(unittest.TestCase):
         self.assertIn('\n<pre id="names" hidden>\nqueue\n</pre>\n', self.page(names=["queue"]))
         self.assertIn('\n<pre id="names" hidden>\n</pre>\n', self.page())
 
+    def test_a_name_is_one_line(self) -> None:
+        with self.assertRaisesRegex(ValueError, "a line feed is in a name"):
+            self.guardian.show(self.path, ["one\ntwo"])
+
     def test_it_is_whole(self) -> None:
         page = self.page()
         self.assertTrue(page.startswith("<!DOCTYPE html>\n") and page.endswith("</html>\n"))
