@@ -32,7 +32,8 @@ function entryOf(line, at) {
   const arrow = placeOfArrow(line);
   const [number, call] = firstWord(line.slice(0, arrow));
   const [verb, rest] = firstWord(call);
-  const entry = { at, number, line, verb, call, reply: line.slice(arrow + 4), action: null, object: null, operation: "" };
+  const entry = { at, number, line, verb, call, reply: line.slice(arrow + 4) };
+  Object.assign(entry, { action: null, actor: null, object: null, operation: "" });
   entry.isRefused = entry.reply.startsWith("refused ");
   if (verb === "declare") entry.operation = rest;
   else if (rest !== "") readNames(entry, rest);

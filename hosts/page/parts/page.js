@@ -83,8 +83,9 @@ class Page {
   }
 
   serialRow(action) {
-    const changed = [...action.holds.values()].filter((it) => it.writes).map((it) => this.run.labelOf(it.object.number));
-    const cells = [String(action.order), `a${action.number}`, this.run.entries[action.end].number, changed.join(" ")];
+    const written = [...action.holds.values()].filter((it) => it.writes);
+    const changed = written.map((it) => this.run.labelOf(it.object.number)).join(" ");
+    const cells = [String(action.order), `a${action.number}`, this.run.entries[action.end].number, changed];
     return { cells, pick: () => this.chooseAction(action) };
   }
 

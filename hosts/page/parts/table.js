@@ -33,7 +33,7 @@ class Table {
     return table;
   }
 
-  // Shows so many rows. Of a place `of` says the cells, and what is done when it is clicked; one row is the current one.
+  // Shows so many rows, of which one may be the current one. Of a place `of` says the cells, and what a click does.
   show(count, of, current = -1) {
     this.rows = { count, of, current };
     this.table.setAttribute("aria-rowcount", count + 1);

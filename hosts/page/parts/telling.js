@@ -39,7 +39,8 @@ function toldOfCommit(run, action) {
 function toldOfRefusal(run, refusal) {
   const { action, against, entry, object } = refusal;
   if (!against || !action) return [entry.line];
-  return [`a${action.number} has a conflict over ${run.labelOf(object.number)}, held by a${against.number}`, entry.line];
+  const over = `over ${run.labelOf(object.number)}, held by a${against.number}`;
+  return [`a${action.number} has a conflict ${over}`, entry.line];
 }
 
 function toldOfObject(run, object) {

@@ -91,7 +91,8 @@ def rows(pages: Pages) -> str:
 def slider(pages: Pages) -> str:
     """The slider, drawn to the middle and moved by its own keys."""
     listing, tab = transfer(pages)
-    box = tab.evaluate('(({x, y, width, height}) => [x, y + height / 2, width])(byId("moment").getBoundingClientRect())')
+    place = "(({x, y, width, height}) => [x, y + height / 2, width])"
+    box = tab.evaluate(f'{place}(byId("moment").getBoundingClientRect())')
     tab.drag(box[0] + box[2] - 8, box[1], box[0] + box[2] / 2, box[1])
     count = tab.evaluate('Number(byId("moment").value)')
     fault = held(pages, tab, listing, count) or ("" if 12 <= count <= 15 else f"drawn to {count}\n")
@@ -115,7 +116,8 @@ def keys(pages: Pages) -> str:
 
 def names_drawn(tab: Tab) -> str:
     """The strip of the picture that has the names of objects, as a text."""
-    return tab.evaluate("String(page.scene.context.getImageData(0, TOP, LEFT, 400).data.reduce((a, b) => (a * 31 + b) % 1e9))")
+    data = "page.scene.context.getImageData(0, TOP, LEFT, 400).data"
+    return tab.evaluate(f"String({data}.reduce((a, b) => (a * 31 + b) % 1e9))")
 
 
 def zoom(pages: Pages) -> str:

@@ -41,7 +41,8 @@ def opened(entries: int, seconds: float, pages: Pages) -> str:
     began = time.monotonic()
     tab.reopen(path)
     took = taken(tab) - before
-    print(f"page: {entries} entries are drawn after {took:.2f} s of a processor, {time.monotonic() - began:.2f} s in all")
+    whole = time.monotonic() - began
+    print(f"page: {entries} entries are drawn after {took:.2f} s of a processor, {whole:.2f} s in all")
     late = f"{took:.2f} s of a processor, of {seconds}\n" if took > seconds else ""
     return late + of_tab(pages, tab, listing)
 
