@@ -10,17 +10,27 @@ from calling import TOP
 from pages import Pages, Tab, Test, move_to, on_bar, on_canvas, rows_of, shown, text_of, unlike
 from runs import CONFLICT, as_text, bank, example, front, stacks
 
-TRANSFER = TOP / "examples/transfer.argus"
 SEAT = "declare seat atomic_record[n:int]\n"
 # The entries of examples/transfer.argus by its third subaction, whose second access is refused.
 THIRD = ["10", "11", "12", "13"]
+# The texts of the picture.
+DRAWN = """(() => {
+    const drawn = [];
+    page.scene.text = (_, text) => drawn.push(text);
+    page.draw();
+    delete page.scene.text;
+    return drawn;
+})()"""
 
 
 def tests() -> Iterator[Test]:
-    for tried in (bar, refusal, commit, rows, slider, keys, zoom, drag, title):
+    for tried in (bar, nothing, refusal, commit, nested, rows, slider, keys, zoom, drag, title):
         yield tried.__name__, tried
     yield "filter of objects", partial(filtered, {"objects": "bob"}, lambda line: " o1" in line)
     yield "filter of an action", partial(filtered, {"action": "a1"}, lambda line: re.search(r"\ba[1-4]\b", line))
+    yield "filter of an action and what it began", partial(
+        filtered, {"action": "a0"}, lambda line: re.search(r"\ba[0-3]\b", line), example_of="arms"
+    )
     yield "filter of a status", partial(filtered, {"status": "ancestor"}, lambda line: re.search(r"\ba[67]\b", line))
     yield "filter of refused calls", partial(filtered, {"status": "refused"}, lambda line: "refused" in line)
     yield "filter of both", partial(
@@ -32,10 +42,10 @@ def tests() -> Iterator[Test]:
     yield "filter of nothing that is there", faulty_filter
 
 
-def transfer(pages: Pages) -> tuple[str, Tab]:
-    """The listing of the example, and its page."""
-    listing = example(pages.programs, "transfer")
-    return listing, pages.open(listing, TRANSFER.read_text(encoding="utf-8"))
+def opened(pages: Pages, name: str = "transfer") -> tuple[str, Tab]:
+    """The listing of an example, and its page."""
+    listing = example(pages.programs, name)
+    return listing, pages.open(listing, (TOP / f"examples/{name}.argus").read_text(encoding="utf-8"))
 
 
 def held(pages: Pages, tab: Tab, listing: str, count: int) -> str:
@@ -53,21 +63,29 @@ def chosen(tab: Tab, life: str, entries: list[str]) -> str:
 
 def bar(pages: Pages) -> str:
     """A click on a bar chooses its action, and the moment that is there."""
-    listing, tab = transfer(pages)
+    listing, tab = opened(pages)
     tab.click(*on_bar(tab, 3, 11.4))
     return chosen(tab, "a3: a subaction of a1, aborted by itself", THIRD) or held(pages, tab, listing, 12)
 
 
+def nothing(pages: Pages) -> str:
+    """A click where nothing is chooses the moment alone."""
+    listing, tab = opened(pages)
+    tab.click(*on_bar(tab, 3, 11.4))
+    tab.click(*on_canvas(tab, "page.scene.view.x(9.6)", "page.scene.view.rowTop(1) + 7"))
+    return held(pages, tab, listing, 10) or unlike("entries", [], rows_of(tab, "chosen"))
+
+
 def refusal(pages: Pages) -> str:
     """A click on a refused call chooses its action, and the moment behind it."""
-    listing, tab = transfer(pages)
+    listing, tab = opened(pages)
     tab.click(*on_bar(tab, 3, 12))
     return chosen(tab, "a3: a subaction of a1, aborted by itself", THIRD) or held(pages, tab, listing, 13)
 
 
 def commit(pages: Pages) -> str:
     """A click on a number of the serial order chooses the topaction."""
-    listing, tab = transfer(pages)
+    listing, tab = opened(pages)
     tab.click(*on_canvas(tab, "page.scene.view.x(18)", "33"))
     life = "a1: a topaction, committed, number 2 in the serial order"
     orders = [it[:3] for it in rows_of(tab, "serial")]
@@ -78,9 +96,15 @@ def commit(pages: Pages) -> str:
     )
 
 
+def nested(pages: Pages) -> str:
+    """A nested topaction has its number in the serial order."""
+    _, tab = opened(pages, "arms")
+    return unlike("order", [["1", "a3", "12", ""], ["2", "a0", "13", "seat (o0)"]], rows_of(tab, "serial"))
+
+
 def rows(pages: Pages) -> str:
     """Clicks on rows of tables."""
-    listing, tab = transfer(pages)
+    listing, tab = opened(pages)
     click = 'document.querySelectorAll("#{} tbody tr:not(.spacer)")[{}].click()'
     tab.evaluate(click.format("serial", 0))
     fault = chosen(tab, "a0: a topaction, committed, number 1 in the serial order", ["2", "3", "4", "5"])
@@ -90,7 +114,7 @@ def rows(pages: Pages) -> str:
 
 def slider(pages: Pages) -> str:
     """The slider, drawn to the middle and moved by its own keys."""
-    listing, tab = transfer(pages)
+    listing, tab = opened(pages)
     place = "(({x, y, width, height}) => [x, y + height / 2, width])"
     box = tab.evaluate(f'{place}(byId("moment").getBoundingClientRect())')
     tab.drag(box[0] + box[2] - 8, box[1], box[0] + box[2] / 2, box[1])
@@ -102,7 +126,7 @@ def slider(pages: Pages) -> str:
 
 def keys(pages: Pages) -> str:
     """Keys where no field has the focus."""
-    listing, tab = transfer(pages)
+    listing, tab = opened(pages)
     counts = {"Home": 0, "ArrowRight": 1, "End": 27, "ArrowLeft": 26}
     for key, count in counts.items():
         tab.press(key)
@@ -155,14 +179,19 @@ def drag(pages: Pages) -> str:
 def title(pages: Pages) -> str:
     """What is said where one points: a conflict names its object, and who holds it."""
     tab = pages.open(as_text(CONFLICT), SEAT)
-    tab.move(*on_bar(tab, 1, 4))
-    told = "a1 has a conflict over seat (o0), held by a0\n4 alter a1 o0 touch -> refused Conflict"
-    return unlike("title", told, text_of(tab, "title")) or unlike("hidden", False, tab.evaluate('byId("title").hidden'))
+    tab.move(*on_bar(tab, 2, 7))
+    told = "a2 has a conflict over seat (o0), held by a1\n7 alter a2 o0 touch -> refused Conflict"
+    hidden = tab.evaluate('byId("title").hidden')
+    drawn = tab.evaluate(DRAWN)
+    missing = [it for it in ("Conflict seat", "seat (o0)", "a0", "a1", "1", "2", "{1}") if it not in drawn]
+    return unlike("title", (told, False), (text_of(tab, "title"), hidden)) or unlike("not drawn", [], missing)
 
 
-def filtered(fields: dict[str, str], is_wanted: Callable[[str], object], pages: Pages) -> str:
+def filtered(
+    fields: dict[str, str], is_wanted: Callable[[str], object], pages: Pages, example_of: str = "transfer"
+) -> str:
     """The entries that a filter leaves, those that are wanted; and that all are back without it."""
-    listing, tab = transfer(pages)
+    listing, tab = opened(pages, example_of)
     for place, text in fields.items():
         tab.evaluate(f'byId("{place}").value = "{text}"; byId("{place}").dispatchEvent(new Event("input"))')
     wanted = [line for line in listing.splitlines() if is_wanted(line)]
@@ -174,13 +203,13 @@ def filtered(fields: dict[str, str], is_wanted: Callable[[str], object], pages: 
     return (
         unlike("entries", wanted, got)
         or unlike("rows", str(len(wanted) + 1), str(count))
-        or unlike("all", 27, tab.evaluate("page.entries.length"))
+        or unlike("all", listing.count("\n"), tab.evaluate("page.entries.length"))
         or ("" if wanted else f"nothing is wanted: {told}\n")
     )
 
 
 def faulty_filter(pages: Pages) -> str:
     """What is said of names that aren't there."""
-    _, tab = transfer(pages)
+    _, tab = opened(pages)
     tab.evaluate('byId("objects").value = "eve"; byId("action").value = "a9"; page.applyFilter()')
     return unlike("faults", "no object eve, no action a9", text_of(tab, "faults"))

@@ -12,6 +12,9 @@ from runs import bank, example
 
 # What is seen where a pixel of the picture is, as red, green and blue.
 PIXEL = "[...page.scene.context.getImageData({}, {}, 1, 1).data].slice(0, 3)"
+# How many rows a table says that it has, and which one the first is, behind the heads.
+ROWS = """[["table", "aria-rowcount"], ["tbody tr:not(.spacer)", "aria-rowindex"]].map(
+    ([place, name]) => document.querySelector(`#entries ${place}`).getAttribute(name))"""
 LIGHT, DARK = [255, 255, 255], [21, 24, 29]
 
 
@@ -60,7 +63,7 @@ def heard(pages: Pages) -> str:
         unlike("fields without a name", [], nameless)
         or unlike("tables", wanted, tables)
         or unlike("the moment", "Behind entry 13: 13 commit a0 -> done", text)
-        or unlike("rows", "15", tab.evaluate('document.querySelector("#entries table").getAttribute("aria-rowcount")'))
+        or unlike("rows", ["15", "2"], tab.evaluate(ROWS))
     )
 
 

@@ -20,15 +20,39 @@ HOSTILE = [
     f"3 ask a0 o0 whole -> body 1[{STRANGE},{STRANGE}]",
     "4 commit a0 -> done",
 ]
-# One action wants what another one holds.
+# One action wants what another one holds; an earlier one held it, too.
 CONFLICT = [
     "0 declare atomic_record[n:int] -> o0",
     "1 begin_top -> a0",
     "2 begin_top -> a1",
-    "3 alter a0 o0 create {1} -> done",
-    "4 alter a1 o0 touch -> refused Conflict",
-    "5 abort a1 -> done",
-    "6 commit a0 -> done",
+    "3 begin_top -> a2",
+    "4 alter a0 o0 create {1} -> done",
+    "5 commit a0 -> done",
+    "6 ask a1 o0 whole -> body {1}",
+    "7 alter a2 o0 touch -> refused Conflict",
+    "8 abort a2 -> done",
+    "9 commit a1 -> done",
+]
+# What no script does: a nested topaction outlives the action that began it. And arrays that don't begin at 0 or 1.
+BY_HAND = [
+    "0 declare atomic_array[text] -> o0",
+    "1 begin_top -> a0",
+    "2 begin_sub a0 -> a1",
+    "3 begin_nested a1 -> a2",
+    '4 alter a2 o0 create 3["a -> b","c,d","]","}","f"] -> done',
+    "5 abort a0 -> done",
+    "6 alter a2 o0 trim 4 3 -> done",
+    "7 alter a2 o0 store 5 \"\\\"\" -> done",
+    "8 alter a2 o0 set_low -7 -> done",
+    "9 alter a2 o0 addl \"e\" -> done",
+    '10 alter a2 o0 remh -> val "}"',
+    '11 alter a2 o0 reml -> val "e"',
+    "12 alter a2 o0 store 9 \"\" -> signal bounds",
+    "13 commit a2 -> done",
+    "14 begin_top -> a3",
+    "15 begin_nested a3 -> a4",
+    '16 alter a4 o0 addh "g" -> done',
+    "17 abort a3 -> done",
 ]
 
 
