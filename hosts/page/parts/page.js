@@ -120,11 +120,10 @@ class Page {
   }
 }
 
-// The entries of an action: its begin, its calls, and that by which it ended.
+// The entries of an action: its begin, its calls, and that by which it ended, which may be another one's.
 function entriesOf(action, run) {
-  const own = action.entries;
-  const isEnded = action.end !== null && own[own.length - 1] !== action.end;
-  return [...own, ...(isEnded ? [action.end] : [])].map((at) => run.entries[at]);
+  const places = new Set(action.end === null ? action.entries : [...action.entries, action.end]);
+  return [...places].sort((one, other) => one - other).map((at) => run.entries[at]);
 }
 
 function shortLine(line) {

@@ -73,7 +73,8 @@ class Run {
       const inWay = (hold) => (writes || hold.writes) && !isAncestor(hold.action, action);
       refusal.against = firstOf(object.held, inWay)?.action ?? null;
     }
-    const row = action ? action.row : -1;
+    // The row of an action that is over may be another one's.
+    const row = action?.end === null ? action.row : -1;
     if (!this.refusedInRow.has(row)) this.refusedInRow.set(row, []);
     this.refusedInRow.get(row).push(refusal);
   }

@@ -8,7 +8,7 @@ from functools import partial
 
 from calling import TOP
 from pages import Pages, Tab, Test, move_to, on_bar, on_canvas, rows_of, shown, text_of, unlike
-from runs import CONFLICT, as_text, bank, example, front, stacks
+from runs import BY_HAND, CONFLICT, as_text, bank, example, front, stacks
 
 SEAT = "declare seat atomic_record[n:int]\n"
 # The entries of examples/transfer.argus by its third subaction, whose second access is refused.
@@ -24,7 +24,7 @@ DRAWN = """(() => {
 
 
 def tests() -> Iterator[Test]:
-    for tried in (bar, nothing, refusal, commit, nested, rows, slider, keys, zoom, drag, title):
+    for tried in (bar, nothing, refusal, commit, nested, rows, late, slider, keys, zoom, drag, title):
         yield tried.__name__, tried
     yield "filter of objects", partial(filtered, {"objects": "bob"}, lambda line: " o1" in line)
     yield "filter of an action", partial(filtered, {"action": "a1"}, lambda line: re.search(r"\ba[1-4]\b", line))
@@ -185,6 +185,18 @@ def title(pages: Pages) -> str:
     drawn = tab.evaluate(DRAWN)
     missing = [it for it in ("Conflict seat", "seat (o0)", "a0", "a1", "1", "2", "{1}") if it not in drawn]
     return unlike("title", (told, False), (text_of(tab, "title"), hidden)) or unlike("not drawn", [], missing)
+
+
+def late(pages: Pages) -> str:
+    """Calls of an action that is over, or was never begun, stand above all rows; an action has its own."""
+    tab = pages.open(as_text(BY_HAND))
+    told = []
+    for at in (18, 19):
+        tab.move(*on_canvas(tab, f"page.scene.view.x({at})", "page.scene.view.rowTop(-1) + 7"))
+        told.append(text_of(tab, "title"))
+    tab.evaluate("page.choose({ action: page.run.actions[1] })")
+    life = "a1: a subaction of a0, undone with an ancestor"
+    return unlike("titles", BY_HAND[18:], told) or chosen(tab, life, ["2", "3", "5", "18"])
 
 
 def filtered(

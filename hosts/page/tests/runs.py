@@ -53,6 +53,8 @@ BY_HAND = [
     "15 begin_nested a3 -> a4",
     '16 alter a4 o0 addh "g" -> done',
     "17 abort a3 -> done",
+    "18 commit a1 -> refused Over",
+    "19 ask a9 o0 size -> refused NoAction",
 ]
 
 
