@@ -8,7 +8,6 @@
 #                                          and PICTURE in the environment name others
 #   DIST/share/man/man3/argus.3            the manual page of argus.h
 #   DIST/share/argus/rust                  the crates argus-guardian and, in sys/, argus-guardian-sys
-#   DIST/share/argus/page                  the parts of the page that shows a run, which the crate takes in
 #   DIST/share/doc/argus/LICENSE.kit       the kit's crates that are in all of this, with their licenses
 #   DIST/share/doc/argus/CONTENTS          each file with its SHA-256, and what isn't proved
 #   DIST/argus-VERSION-linux-x86_64.tar.gz all of that, with its SHA-256 in a file beside it
@@ -53,13 +52,12 @@ add_programs() {
     done
 }
 
-# The crates, without what only this repository's tests have, and the page that one of them has.
+# The crates, without what only this repository's tests have.
 add_crates() {
     local into=$dist/share/argus/rust
-    rm -rf "$into" "$dist/share/argus/page"
-    mkdir -p "$into/sys" "$dist/share/argus/page"
-    cp -r "$top/hosts/page/parts" "$dist/share/argus/page"
-    cp -r "$top"/hosts/rust/{Cargo.toml,README.md,src,examples} "$into"
+    rm -rf "$into"
+    mkdir -p "$into/sys"
+    cp -rL "$top"/hosts/rust/{Cargo.toml,README.md,src,page,examples} "$into"
     cp -r "$top"/hosts/rust/sys/{Cargo.toml,build.rs,src} "$into/sys"
     # A test is no part of what is handed on.
     sed -i '/^\[\[test\]\]$/,/^$/d' "$into/Cargo.toml"
@@ -151,9 +149,7 @@ make_wheel() {
     if [ "$(printf '%s\n' 2.17 "$(glibc_of "$dist/lib/libargus.so")" | sort -V | tail -n 1)" = 2.17 ]; then
         platform=manylinux_2_17_x86_64
     fi
-    mkdir "$room/page"
-    cp -r "$top/hosts/python" "$room/python"
-    cp -r "$top/hosts/page/parts" "$room/page"
+    cp -rL "$top/hosts/python" "$room/python"
     cp "$dist"/share/doc/argus/LICENSE* "$room/python"
     if ! (cd "$room/python" && ARGUS_LIB_DIR=$dist/lib "$python" setup.py -q bdist_wheel --plat-name "$platform" \
         --dist-dir "$dist") > "$room/words" 2>&1; then

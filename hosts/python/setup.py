@@ -25,7 +25,6 @@ except ImportError:
         raise SystemExit("setuptools is older than 70.1, and so needs the package wheel beside it") from None
 
 NAME = "libargus.so.0"
-PARTS = Path(__file__).resolve().parents[1] / "page/parts"
 
 
 def library() -> Path:
@@ -41,14 +40,13 @@ def library() -> Path:
 
 
 class BuildWithLibrary(build_py):
-    """Puts the library, and the parts of the page that shows a run, beside the modules."""
+    """Puts the library beside the modules."""
 
     def run(self) -> None:
         super().run()
         into = Path(self.build_lib) / "argus_guardian"
         into.mkdir(parents=True, exist_ok=True)
         shutil.copyfile(library(), into / NAME)
-        shutil.copytree(PARTS, into / "page_parts", dirs_exist_ok=True)
 
 
 class WheelOfMachine(bdist_wheel):

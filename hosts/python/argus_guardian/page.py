@@ -43,10 +43,8 @@ def _put(line: str, data: dict[str, str]) -> str:
 
 
 def _part(name: str) -> str:
-    """A part of the template, which pip puts beside this module; in a clone it lies in hosts/page/parts."""
-    here = Path(__file__).resolve().parent
-    places = here / "page_parts", *(above / "page/parts" for above in list(here.parents)[1:2])
-    return next(place for place in places if place.is_dir()).joinpath(name).read_text(encoding="utf-8")
+    """A part of the template. In a clone these are those of hosts/page."""
+    return Path(__file__).with_name("page_parts").joinpath(name).read_text(encoding="utf-8")
 
 
 def _escaped(text: str) -> str:
