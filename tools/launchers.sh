@@ -1,7 +1,7 @@
 #!/usr/bin/env bash
 # SPDX-License-Identifier: MIT
-# Tries ./argus, ./replay and ./picture: files that are named, what is said of them, help without a build, and the
-# builds that are kept. For these a copy of the launchers has a maker in place of the kit: it does what the file
+# Tries ./argus, ./replay and ./picture: files that are named, what is said of them, help without a build, pages, and
+# the builds that are kept. For these a copy of the launchers has a maker in place of the kit: it does what the file
 # `meanwhile` says, and copies the program that is there. The last line is 'N passed, M failed', and the status tells
 # whether any failed.
 #
@@ -44,9 +44,10 @@ unread() {
 
 # A folder with the launchers, whose builds are copies of this program or, without one, fail: copy_of FOLDER [PROGRAM]
 copy_of() {
-    mkdir -p "$1/tools" "$1/build/unproved" "$1"/crates/{argus,replay,picture,argus_usage}/src
+    mkdir -p "$1/tools" "$1/build/unproved" "$1/hosts/page" "$1"/crates/{argus,replay,picture,argus_usage}/src
     cp "$top"/{argus,replay,picture} "$1"
-    cp -r "$top"/tools/{program.sh,kept.sh,help} "$1/tools"
+    cp -r "$top"/tools/{program.sh,page.sh,kept.sh,help} "$1/tools"
+    cp -r "$top/hosts/page/parts" "$1/hosts/page"
     cp "$top/crates/argus_usage/src/command.rt" "$1/crates/argus_usage/src"
     printf '%s: argus_usage\n' argus replay picture > "$1/crates.txt"
     echo '// one' > "$1/crates/argus/src/main.rt"
@@ -117,6 +118,42 @@ of_files() {
     tried 0 '0 begin_top -> a0' 'faulty: line 2: NotTheReply: done' kept/replay faulty --prefix --list=journal
     tried 0 "$("$picture" --script "$top/docs/first.argus" < journal)" '' \
         kept/picture --script "$top/docs/first.argus" journal
+}
+
+# The lines that the page of a listing has: lines_of_page WORD..
+lines_of_page() {
+    kept/picture --html "$@" > run.html && "$top/hosts/page/lines.py" run.html
+}
+
+# The names of objects that the page of a listing has: names_of_page WORD..
+names_of_page() {
+    kept/picture --html "$@" | sed -n '/^<pre id="names"/,/^<.pre>/p' | sed '1d;$d'
+}
+
+# A page is made of what the program draws; its faults, its words and its statuses are those of the program.
+of_pages() {
+    printf '0 no line\n' > 'no listing'
+    mkdir folder_for_rooms
+    local -x TMPDIR=$room/folder_for_rooms
+    tried 0 "$(cat journal)" '' lines_of_page journal
+    tried 0 "$(cat journal)" '' sh -c "kept/picture --html < journal > run.html && '$top/hosts/page/lines.py' run.html"
+    tried 0 '' '' lines_of_page /dev/null
+    tried 0 account '' names_of_page --script "$top/docs/first.argus" journal
+    tried 0 account '' names_of_page "--script=$top/docs/first.argus" journal
+    tried 0 account '' names_of_page journal --script <(cat "$top/docs/first.argus")
+    tried 0 '' '' names_of_page journal
+    tried 3 '' 'no listing: line 1: NoLine at 2' kept/picture --html 'no listing'
+    tried 3 '' 'line 1: NoLine at 2' sh -c "kept/picture --html < 'no listing'"
+    tried 3 '' 'script: o0: OtherShape' kept/picture --html --script "$top/examples/visitors.argus" journal
+    tried 5 '' 'script: read fault' kept/picture --html --script nothing journal
+    tried 5 '' '/: read fault' kept/picture --html /
+    tried 5 '' 'read fault' sh -c 'kept/picture --html < /'
+    tried 5 '' 'write fault' unread kept/picture --html journal
+    tried 2 '' "$("$picture" --list 2>&1)" kept/picture --html --list journal
+    tried 2 '' "$("$picture" --script --html 2>&1)" kept/picture --script --html journal
+    tried 0 "$("$picture" --help)" '' kept/picture --html --help
+    tried 2 '' "$("$argus" --html 2>&1)" kept/argus --html
+    tried 0 '' '' find "$TMPDIR" -mindepth 1
 }
 
 of_kept_builds() {
@@ -224,6 +261,7 @@ for program in replay picture; do
 done
 kept/argus < /dev/null 2> /dev/null
 of_files
+of_pages
 of_kept_builds
 of_calls_at_once
 of_failures

@@ -1,8 +1,8 @@
 #!/usr/bin/env bash
 # SPDX-License-Identifier: MIT
 # Debian's packages that the hosts' tests need beside a C compiler, cargo and Python: those of hosts/c/log, of
-# hosts/rust/etcd and hosts/rust/host, and etcd itself; what looks at Python's types, and what the shops of
-# hosts/python stand on. Without them hosts/run leaves those tests out.
+# hosts/rust/etcd and hosts/rust/host, and etcd itself; what looks at Python's types, what the shops of
+# hosts/python stand on, and the browser that opens pages of runs. Without them hosts/run leaves those tests out.
 #
 #   tools/packages.sh             prints the packages that are missing, one a line; status 1 if any is
 #   tools/packages.sh --install   installs those, by apt-get, as root
@@ -28,6 +28,8 @@ packages=(
     pkg-config
     # types of Python, and the shops
     mypy python3-aiohttp
+    # the browser of hosts/page
+    chromium
 )
 
 if ! command -v dpkg-query > /dev/null; then

@@ -269,13 +269,13 @@ find_program() {
     case $* in -V | --version) say "this build isn't proved" ;; esac
 }
 
-# Runs the program on the file. What it says of a line then names the file, too.
-run_on_file() {
+# Runs the program on standard input. What it says of a line then names the file, if there is one, too.
+run_on_input() {
     status=0
     exec 3>&1
-    errors=$("$program" "$@" < "$file" 2>&1 >&3 3>&-) || status=$?
+    errors=$("$program" "$@" 2>&1 >&3 3>&-) || status=$?
     [ -z "$errors" ] || printf '%s\n' "$errors" | while IFS= read -r line; do
-        case $line in line\ * | 'read fault') line="$file: $line" ;; esac
+        case $line in line\ * | 'read fault') line="${file:+$file: }$line" ;; esac
         printf '%s\n' "$line" >&2
     done
     exit "$status"
@@ -289,11 +289,19 @@ start() {
         return
     fi
     file=
+    html=
     takes_value=
     for word; do
         shift
         case $word in
             --list | --patience | --script | --workers) takes_value=yes ;;
+            --html)
+                if [ "$name$takes_value" = picture ]; then
+                    html=yes
+                    continue
+                fi
+                takes_value=
+                ;;
             -* | '') takes_value= ;;
             *)
                 if [ -z "$takes_value$file" ]; then
@@ -310,6 +318,10 @@ start() {
         exit 5
     fi
     find_program "$@"
-    if [ -n "$file" ]; then run_on_file "$@"; fi
+    if [ -n "$html" ] && ! asks_for_text "$@"; then
+        write_page "$@"
+        return
+    fi
+    if [ -n "$file" ]; then run_on_input "$@" < "$file"; fi
     exec "$program" "$@"
 }

@@ -57,7 +57,7 @@ add_crates() {
     local into=$dist/share/argus/rust
     rm -rf "$into"
     mkdir -p "$into/sys"
-    cp -r "$top"/hosts/rust/{Cargo.toml,README.md,src,examples} "$into"
+    cp -rL "$top"/hosts/rust/{Cargo.toml,README.md,src,page,examples} "$into"
     cp -r "$top"/hosts/rust/sys/{Cargo.toml,build.rs,src} "$into/sys"
     # A test is no part of what is handed on.
     sed -i '/^\[\[test\]\]$/,/^$/d' "$into/Cargo.toml"
@@ -149,7 +149,7 @@ make_wheel() {
     if [ "$(printf '%s\n' 2.17 "$(glibc_of "$dist/lib/libargus.so")" | sort -V | tail -n 1)" = 2.17 ]; then
         platform=manylinux_2_17_x86_64
     fi
-    cp -r "$top/hosts/python" "$room/python"
+    cp -rL "$top/hosts/python" "$room/python"
     cp "$dist"/share/doc/argus/LICENSE* "$room/python"
     if ! (cd "$room/python" && ARGUS_LIB_DIR=$dist/lib "$python" setup.py -q bdist_wheel --plat-name "$platform" \
         --dist-dir "$dist") > "$room/words" 2>&1; then

@@ -2,6 +2,7 @@
 
 from __future__ import annotations
 
+import os
 import random
 import threading
 import time
@@ -277,6 +278,18 @@ class Guardian(Calling):
         if self._dropped:
             self._abort_dropped()
         return self._archive.lines(entry, size)
+
+
+    def show(self, path: str | os.PathLike[str], names: Iterable[str] = ()) -> None:
+        """Writes a page to this file in which a browser shows what the journal says, objects under these names.
+
+        The page has the journal's lines and a script that draws them, and needs no network. What that draws isn't
+        proved. A later call writes the page anew, at once: who opens it meanwhile finds a whole one.
+        """
+        # Most programs don't need it.
+        from .page import page_of, write_page
+
+        write_page(path, page_of(self.list("journal"), names))
 
 
 def _end_of(status: int, answers: list[Any], array: Any) -> errors.ArgusError | None:

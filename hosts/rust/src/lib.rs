@@ -54,6 +54,7 @@ mod not_ready;
 mod obj_id;
 mod object;
 mod owner;
+mod page;
 mod query;
 mod questions;
 mod reader;
