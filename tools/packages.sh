@@ -1,6 +1,6 @@
 #!/usr/bin/env bash
 # SPDX-License-Identifier: MIT
-# Debian's packages that the hosts' tests need beside a C compiler, cargo and Python: those of
+# Debian's packages that the hosts' tests need beside a C compiler, cargo and Python: those of hosts/rust,
 # hosts/rust/etcd and hosts/rust/host, and etcd itself; what looks at Python's types, and what the shops of
 # hosts/python stand on. Without them hosts/run leaves those tests out.
 #
@@ -18,9 +18,11 @@ packages=(
     openssl
     # networks of the hosts' own, in which they are unplugged
     iproute2
-    # the crates that hosts/rust/etcd is built of
+    # the crates that hosts/rust is built of with its feature sqlite, and the system's SQLite
+    librust-rusqlite-dev librust-crc32fast-dev libsqlite3-dev
+    # those of hosts/rust/etcd
     librust-base64-dev librust-curl-dev librust-serde-json-dev "librust-serde+serde-derive-dev"
-    # those of hosts/rust/host beside them
+    # those of hosts/rust/host beside these
     librust-clap-dev librust-clap-derive-dev librust-httparse-dev librust-signal-hook-dev librust-subtle-dev
     # how the crate of libcurl finds it
     pkg-config

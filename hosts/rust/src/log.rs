@@ -67,6 +67,16 @@ mod head;
 mod journal_queue;
 #[cfg(feature = "logged")]
 mod line_source;
+#[cfg(feature = "sqlite")]
+mod log_making;
+#[cfg(feature = "sqlite")]
+mod log_opening;
+#[cfg(feature = "sqlite")]
+mod log_options;
+#[cfg(feature = "sqlite")]
+mod log_rows;
+#[cfg(feature = "sqlite")]
+mod log_wal;
 #[cfg(feature = "logged")]
 mod logged;
 #[cfg(feature = "logged")]
@@ -85,17 +95,23 @@ mod seal;
 mod segment_head;
 mod segment_list;
 mod segment_reader;
+#[cfg(feature = "sqlite")]
+mod sqlite_log;
 mod step;
 mod storage;
 
 pub use batch::Batch;
-pub use batch_log::{BatchLog, EntryLines, Opening};
+pub use batch_log::{BatchLog, EntryLines, ObjectName, Opening};
 pub use damage::{Damage, Defect, LineError};
 pub use failure::Failure;
 pub use file_log::{FileLog, FileLogOptions};
 pub use folder::Folder;
 pub use found::{Found, Torn};
 pub use found_log::FoundLog;
+#[cfg(feature = "logged")]
+pub use group::LogCounts;
+#[cfg(feature = "sqlite")]
+pub use log_options::{LogFound, LogOptions};
 #[cfg(feature = "logged")]
 pub use logged::Logged;
 #[cfg(feature = "logged")]
@@ -105,8 +121,10 @@ pub use logged_error::LoggedError;
 #[cfg(feature = "logged")]
 pub use logged_opening::{LoggedOptions, Recovered};
 pub use memory_storage::MemoryStorage;
-pub use open_error::OpenError;
+pub use open_error::{LogFault, OpenError};
 #[cfg(feature = "logged")]
 pub use recovery::Recovery;
+#[cfg(feature = "sqlite")]
+pub use sqlite_log::SqliteLog;
 pub use step::Step;
 pub use storage::Storage;

@@ -1,4 +1,4 @@
-//! `BatchLog`: what keeps a guardian's entries; `EntryLines`, `Opening`: what it is given.
+//! `BatchLog`: what keeps a guardian's entries; `EntryLines`, `ObjectName`, `Opening`: what it is given.
 
 use crate::log::failure::Failure;
 
@@ -38,6 +38,18 @@ pub struct EntryLines {
     first: u64,
     count: u64,
     text: String,
+    names: Vec<ObjectName>,
+}
+
+/// The name of an object, which a log keeps together with the entry that declares it.
+#[derive(Debug, Clone, PartialEq, Eq)]
+pub struct ObjectName {
+    /// The object's number.
+    pub number: u32,
+    /// Its name, which no other object has.
+    pub name: String,
+    /// The shape that it is declared with.
+    pub shape: String,
 }
 
 impl EntryLines {
@@ -53,7 +65,28 @@ impl EntryLines {
             return None;
         }
         let count = line_feeds(text.as_bytes());
-        Some(EntryLines { first, count, text })
+        Some(EntryLines {
+            first,
+            count,
+            text,
+            names: Vec::new(),
+        })
+    }
+
+    // With these names.
+    pub(crate) fn with_names(self, names: Vec<ObjectName>) -> EntryLines {
+        EntryLines { names, ..self }
+    }
+
+    /// The names of objects that are declared by these entries, or by earlier ones. Only a log in a database gets some.
+    ///
+    /// ```
+    /// use argus_guardian::log::EntryLines;
+    /// assert!(EntryLines::default().names().is_empty());
+    /// ```
+    #[must_use]
+    pub fn names(&self) -> &[ObjectName] {
+        &self.names
     }
 
     /// The number of the first line's entry.

@@ -11,6 +11,24 @@ use std::io;
 use std::sync::atomic::{AtomicBool, Ordering};
 use std::sync::{Mutex, MutexGuard, PoisonError};
 use std::thread::{self, Thread};
+use std::time::{Duration, Instant};
+
+/// What a log has done since it was opened.
+#[derive(Debug, Clone, Copy, PartialEq, Eq, Default)]
+pub struct LogCounts {
+    /// How many batches it has written.
+    pub batches: u64,
+    /// How many entries these had.
+    pub entries: u64,
+    /// How many bytes their lines had.
+    pub bytes: u64,
+    /// How often it has begun again with an opening.
+    pub checkpoints: u64,
+    /// How long it took to write and sync all that.
+    pub time: Duration,
+    /// How many calls were in doubt at their end.
+    pub in_doubt: u64,
+}
 
 /// Commits that wait for the log together. A thread that waits and finds no other one writing takes all lines that the
 /// log hasn't got, and writes them for all; calls go on meanwhile.
@@ -19,6 +37,7 @@ pub(crate) struct Group {
     queue: Mutex<JournalQueue>,
     progress: Mutex<Progress>,
     is_broken: AtomicBool,
+    counts: Mutex<LogCounts>,
 }
 
 // A thread that panics is one that was writing, and `WriteTurn` says that the log has failed.
@@ -34,7 +53,13 @@ impl Group {
             queue: Mutex::new(JournalQueue::from(next)),
             progress: Mutex::new(Progress::at(next)),
             is_broken: AtomicBool::new(false),
+            counts: Mutex::default(),
         }
+    }
+
+    /// What the log has done.
+    pub(crate) fn counts(&self) -> LogCounts {
+        *locked(&self.counts)
     }
 
     /// What has to be taken. The guardian's mutex has to be held.
@@ -57,7 +82,10 @@ impl Group {
             let turn = locked(&self.progress).turn(goal);
             match turn {
                 Turn::Done => return Ok(()),
-                Turn::Failed(failure) => return Err(failure),
+                Turn::Failed(failure) => {
+                    locked(&self.counts).in_doubt += 1;
+                    return Err(failure);
+                }
                 Turn::Park => thread::park(),
                 Turn::Write => self.write(shared),
             }
@@ -78,13 +106,32 @@ impl Group {
         let piece =
             piece.map_err(|error| Failure::new(Step::TakeLines, io::Error::other(error)))?;
         let mut log = locked(&self.log);
+        let started = Instant::now();
         match &piece {
             Some(Piece::Lines(lines)) => log.append(lines)?,
             Some(Piece::Opening(opening)) => log.restart(opening)?,
             None => return Ok(None),
         }
+        self.count(piece.as_ref(), started.elapsed());
         let is_opening = matches!(piece, Some(Piece::Opening(_)));
         Ok(piece.map(|it| (it.next(), is_opening)))
+    }
+
+    fn count(&self, piece: Option<&Piece>, time: Duration) {
+        let mut counts = locked(&self.counts);
+        counts.time += time;
+        match piece {
+            Some(Piece::Lines(lines)) => {
+                counts.batches += 1;
+                counts.entries += lines.next() - lines.first();
+                counts.bytes += lines.text().len() as u64;
+            }
+            Some(Piece::Opening(opening)) => {
+                counts.checkpoints += 1;
+                counts.bytes += opening.text().len() as u64;
+            }
+            None => {}
+        }
     }
 }
 

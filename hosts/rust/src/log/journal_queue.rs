@@ -4,7 +4,7 @@ use crate::Listing;
 use crate::checkpoint_error::CheckpointError;
 use crate::error::Error;
 use crate::guardian::Guardian;
-use crate::log::batch_log::{EntryLines, Opening};
+use crate::log::batch_log::{EntryLines, ObjectName, Opening};
 use crate::log::progress::Goal;
 use crate::shared::Shared;
 use std::collections::VecDeque;
@@ -43,6 +43,8 @@ pub(crate) struct JournalQueue {
     folds: u64,
     // Whether the opening of the last fold hasn't been taken yet.
     owes_opening: bool,
+    // Names, each with the number of entries that there have to be before it counts.
+    names: Vec<(u64, ObjectName)>,
     room: Vec<u8>,
 }
 
@@ -54,8 +56,14 @@ impl JournalQueue {
             pieces: VecDeque::new(),
             folds: 0,
             owes_opening: false,
+            names: Vec::new(),
             room: vec![0; PIECE],
         }
+    }
+
+    /// An object that was declared just now, as the last one of so many entries, has this name.
+    pub(crate) fn name(&mut self, entries: u64, name: ObjectName) {
+        self.names.push((entries, name));
     }
 
     /// The next piece. `None`: the log has all.
@@ -72,6 +80,9 @@ impl JournalQueue {
         let lines = guardian.lines_in(&mut self.room, self.next)?;
         self.next = lines.next();
         if !lines.is_empty() {
+            let named = self.names.iter().take_while(|it| it.0 <= self.next);
+            let named = self.names.drain(..named.count()).map(|it| it.1);
+            let lines = lines.with_names(named.collect());
             self.pieces.push_back(Piece::Lines(lines));
         }
         Ok(())

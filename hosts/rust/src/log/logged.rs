@@ -5,9 +5,9 @@ use crate::content::Content;
 use crate::error::Error;
 use crate::guardian::Guardian;
 use crate::listing::Listing;
-use crate::log::batch_log::BatchLog;
+use crate::log::batch_log::{BatchLog, ObjectName};
 use crate::log::failure::Failure;
-use crate::log::group::Group;
+use crate::log::group::{Group, LogCounts};
 use crate::log::logged_action::LoggedAction;
 use crate::log::logged_error::LoggedError;
 use crate::log::progress::Goal;
@@ -16,9 +16,16 @@ use crate::retrying::{MayConflict, waits};
 use crate::shared::Shared;
 use crate::shared_action::SharedAction;
 use crate::{ActionId, ObjId};
+use std::collections::HashMap;
 use std::iter;
+use std::sync::atomic::{AtomicU64, Ordering};
+use std::sync::{Mutex, PoisonError};
 use std::thread;
 use std::time::Duration;
+
+// How long a checkpoint that a log makes by itself holds back topactions; and after how many entries it tries again.
+const PATIENCE: Duration = Duration::from_millis(100);
+const AGAIN: u64 = 10_000;
 
 /// A guardian that threads share, and whose journal's entries go to a log.
 ///
@@ -98,6 +105,18 @@ use std::time::Duration;
 pub struct Logged {
     pub(crate) shared: Shared,
     pub(crate) group: Group,
+    // The numbers of objects by their names, if the log keeps any.
+    names: Option<Mutex<HashMap<String, u32>>>,
+    // After so many entries it makes a checkpoint by itself.
+    checkpoint_after: Option<u64>,
+    // The number of the first entry since the last checkpoint; and that before which no other one is tried.
+    begins: AtomicU64,
+    again_at: AtomicU64,
+    // The database, and what was found there.
+    #[cfg(feature = "sqlite")]
+    pub(crate) path: Option<std::path::PathBuf>,
+    #[cfg(feature = "sqlite")]
+    pub(crate) found: crate::log::log_options::LogFound,
 }
 
 impl Logged {
@@ -125,9 +144,45 @@ impl Logged {
         patience: Duration,
     ) -> Logged {
         Logged {
+            names: None,
+            checkpoint_after: None,
+            begins: AtomicU64::new(guardian.first_entry()),
+            again_at: AtomicU64::new(0),
+            #[cfg(feature = "sqlite")]
+            path: None,
+            #[cfg(feature = "sqlite")]
+            found: crate::log::log_options::LogFound::default(),
             shared: Shared::new(guardian, patience),
             group: Group::new(log, next),
         }
+    }
+
+    /// The same, which makes a checkpoint by itself after so many entries, and when half of the numbers for actions
+    /// are used; `None`: never. A commit of a topaction makes it, after its own entries are in the log; at most for 0.1
+    /// seconds it holds back other topactions. If actions stay live for longer, a later commit tries again.
+    ///
+    /// ```
+    /// # use argus_guardian::log::{FileLog, Logged, MemoryStorage};
+    /// # let log = FileLog::read(MemoryStorage::default(), |_| Ok(())).expect("read").begin().expect("begun");
+    /// # let patience = std::time::Duration::ZERO;
+    /// # let logged = Logged::over(argus_guardian::Guardian::new()?, Box::new(log), patience);
+    /// let logged = logged.with_checkpoints(Some(10));
+    /// for _ in 0..5 {
+    ///     logged.topaction()?.commit()?;
+    /// }
+    /// assert_eq!(logged.counts().checkpoints, 1);
+    /// # Ok::<(), argus_guardian::log::LoggedError>(())
+    /// ```
+    #[must_use]
+    pub fn with_checkpoints(mut self, after: Option<u64>) -> Logged {
+        self.checkpoint_after = after;
+        self
+    }
+
+    // From now on it keeps names.
+    #[cfg(feature = "sqlite")]
+    pub(crate) fn keep_names(&mut self, names: HashMap<String, u32>) {
+        self.names = Some(Mutex::new(names));
     }
 
     // The guardian, unless the log is broken.
@@ -236,6 +291,43 @@ impl Logged {
         // Not while the mutex is held, which would call the iterator.
         let shapes: Vec<&str> = shapes.into_iter().collect();
         self.acknowledged(|guardian| shapes.iter().map(|shape| guardian.declare(shape)).collect())
+    }
+
+    /// Finds the object of this name; if there is none, declares one of this shape. Its number and its name are
+    /// acknowledged. So a program keeps names, and no numbers, from one start to the next.
+    ///
+    /// # Errors
+    ///
+    /// As for [`declare`](Self::declare); [`LoggedError::OtherShape`]; [`LoggedError::NoNames`] if the log isn't in a
+    /// database.
+    pub fn declare_named(&self, name: &str, shape: &str) -> Result<ObjId, LoggedError> {
+        let shared = self.shared()?;
+        let names = self.names.as_ref().ok_or(LoggedError::NoNames)?;
+        let mut names = names.lock().unwrap_or_else(PoisonError::into_inner);
+        if let Some(number) = names.get(name) {
+            let number = ObjId::numbered(*number);
+            let (id, has) =
+                shared.lend(|it| Ok::<_, Error>((it.object(number)?.id(), it.shape(number)?)))?;
+            return if has == shape {
+                Ok(id)
+            } else {
+                Err(LoggedError::OtherShape(has))
+            };
+        }
+        let (id, entries) = shared.lend(|guardian| {
+            let id = guardian.declare(shape)?;
+            let entries = guardian.entries();
+            let name = ObjectName {
+                number: id.number(),
+                name: name.to_owned(),
+                shape: shape.to_owned(),
+            };
+            self.group.queue().name(entries, name);
+            Ok::<_, Error>((id, entries))
+        })?;
+        self.wait(entries)?;
+        names.insert(name.to_owned(), id.number());
+        Ok(id)
     }
 
     /// The object's base, which is acknowledged; `None` if it has no content yet.
@@ -427,8 +519,46 @@ impl Logged {
     pub fn checkpoint_waiting(&self, patience: Duration) -> Result<(), LoggedError> {
         let fold = |guardian: &Guardian| self.group.queue().fold(guardian);
         let goal: Result<Goal, CheckpointError> = self.shared()?.fold_waiting(patience, fold);
-        let waited = self.group.wait(&self.shared, goal?);
+        let goal = goal?;
+        self.begins.store(goal.entry, Ordering::Relaxed);
+        let waited = self.group.wait(&self.shared, goal);
         waited.map_err(LoggedError::InDoubt)
+    }
+
+    // After the commit of a topaction with this number, which is in the log with all entries before this one: so what
+    // comes of the checkpoint isn't reported. A later one tries again.
+    fn checkpoint_if_due(&self, entries: u64, action: u32) {
+        let Some(after) = self.checkpoint_after else {
+            return;
+        };
+        let grown = entries.saturating_sub(self.begins.load(Ordering::Relaxed));
+        if grown < after && action < Guardian::MAX_ACTIONS / 2 {
+            return;
+        }
+        let again_at = self.again_at.load(Ordering::Relaxed);
+        let next = entries + AGAIN.min(after);
+        let claimed = |at: &AtomicU64| {
+            at.compare_exchange(again_at, next, Ordering::Relaxed, Ordering::Relaxed)
+        };
+        if entries >= again_at && claimed(&self.again_at).is_ok() {
+            let _ = self.checkpoint_waiting(PATIENCE);
+        }
+    }
+
+    /// What the log has done since it was opened.
+    ///
+    /// ```
+    /// # use argus_guardian::log::{FileLog, Logged, MemoryStorage};
+    /// # let log = FileLog::read(MemoryStorage::default(), |_| Ok(())).expect("read").begin().expect("begun");
+    /// # let patience = std::time::Duration::ZERO;
+    /// # let logged = Logged::over(argus_guardian::Guardian::new()?, Box::new(log), patience);
+    /// logged.topaction()?.commit()?;
+    /// assert_eq!((logged.counts().batches, logged.counts().entries), (1, 2));
+    /// # Ok::<(), argus_guardian::log::LoggedError>(())
+    /// ```
+    #[must_use]
+    pub fn counts(&self) -> LogCounts {
+        self.group.counts()
     }
 
     /// Why the log is broken, if it is.
@@ -449,6 +579,12 @@ impl Logged {
     // Commits an outer action, and returns when that is in the log.
     pub(crate) fn commit(&self, action: SharedAction<'_>) -> Result<(), LoggedError> {
         self.shared()?;
-        self.wait(action.commit_counted()?)
+        let (number, is_top) = (action.id().number(), !action.is_nested());
+        let entries = action.commit_counted()?;
+        self.wait(entries)?;
+        if is_top {
+            self.checkpoint_if_due(entries, number);
+        }
+        Ok(())
     }
 }

@@ -29,6 +29,10 @@ pub enum LoggedError {
     InDoubt(Failure),
     /// The log had failed earlier: the call wasn't made.
     Broken(Failure),
+    /// The object of that name has this shape, and not the one that was asked for.
+    OtherShape(String),
+    /// The log keeps no names: it isn't in a database.
+    NoNames,
 }
 
 impl LoggedError {
@@ -50,6 +54,8 @@ impl fmt::Display for LoggedError {
             LoggedError::Guardian(error) => write!(f, "{error}"),
             LoggedError::InDoubt(failure) => write!(f, "in doubt: {failure}"),
             LoggedError::Broken(failure) => write!(f, "not called: {failure}"),
+            LoggedError::OtherShape(shape) => write!(f, "the object has the shape {shape}"),
+            LoggedError::NoNames => f.write_str("the log keeps no names"),
         }
     }
 }

@@ -17,6 +17,13 @@ impl Scratch {
         Scratch(above.unwrap_or_else(std::env::temp_dir).join(name))
     }
 
+    /// One that is there.
+    pub fn made(name: &str) -> Scratch {
+        let scratch = Scratch::new(name);
+        fs::create_dir_all(scratch.path()).expect("made");
+        scratch
+    }
+
     pub fn path(&self) -> &Path {
         &self.0
     }
