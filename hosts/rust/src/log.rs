@@ -75,6 +75,8 @@ mod log_opening;
 mod log_options;
 #[cfg(feature = "sqlite")]
 mod log_rows;
+#[cfg(feature = "logged")]
+mod log_sum;
 #[cfg(feature = "sqlite")]
 mod log_wal;
 #[cfg(feature = "logged")]
@@ -112,6 +114,8 @@ pub use found_log::FoundLog;
 pub use group::LogCounts;
 #[cfg(feature = "sqlite")]
 pub use log_options::{LogFound, LogOptions};
+#[cfg(feature = "logged")]
+pub use log_sum::log_sum;
 #[cfg(feature = "logged")]
 pub use logged::Logged;
 #[cfg(feature = "logged")]

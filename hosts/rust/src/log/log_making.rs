@@ -1,27 +1,39 @@
 //! How a database is made that is whole before it has its name: a new log, and a copy of one.
 
 use crate::log::log_rows::{
-    APPLICATION, FORMAT, check_pages, head_of, new_name, read_rows, summed, tables,
+    APPLICATION, FORMAT, check_pages, head_of, new_name, read_rows, tables,
 };
+use crate::log::log_sum::log_sum;
 use crate::log::open_error::{LogFault, OpenError};
 use crate::log::sqlite_log::{connected, make_durable};
 use rusqlite::backup::{Backup, StepResult};
 use rusqlite::{Connection, OpenFlags};
 use std::fs::{self, File};
 use std::io::{self, ErrorKind};
-use std::path::{Path, PathBuf};
+use std::path::{Path, PathBuf, absolute};
 
-/// Makes an empty log.
-pub(crate) fn make_log(path: &Path) -> Result<(), OpenError> {
-    make(path, |database| {
+/// Makes an empty log. Where it is.
+pub(crate) fn make_log(path: &Path) -> Result<PathBuf, OpenError> {
+    let path = resolved(path)?;
+    make(&path, |database| {
         let (name, version) = (new_name()?, env!("CARGO_PKG_VERSION"));
-        let sum = summed(&name, 0, 0, b"");
+        let sum = log_sum(&name, 0, 0, b"");
         Ok(database.execute_batch(&format!(
             "BEGIN IMMEDIATE; PRAGMA application_id={APPLICATION}; PRAGMA user_version={FORMAT}; {} \
              INSERT INTO log VALUES (0, '{name}', '{version}', 0, 0, 0, {sum}); COMMIT;",
             tables()
         ))?)
-    })
+    })?;
+    Ok(path)
+}
+
+/// The file itself: SQLite puts the WAL beside that, where the path is a link to it.
+pub(crate) fn resolved(path: &Path) -> Result<PathBuf, OpenError> {
+    let found = match path.canonicalize() {
+        Err(error) if error.kind() == ErrorKind::NotFound => absolute(path),
+        found => found,
+    };
+    found.map_err(|error| LogFault::Unreadable.because(format!("{}: {error}", path.display())))
 }
 
 /// Copies the log as it is at one moment, and compares the copy's rows.

@@ -117,8 +117,10 @@ fn read_log(path: &Path, wanted: &LogOptions) -> Result<ReadLog, OpenError> {
     let found = LogFound {
         name: head.name.clone(),
         batches,
-        entries: u64::try_from(head.next_entry - first).unwrap_or(0),
+        entries: head.next_entry - first,
         next: guardian.entries(),
+        objects: guardian.objects(),
+        epoch: head.epoch,
         aborted: 0,
     };
     Ok(ReadLog {
@@ -171,7 +173,7 @@ fn compare(head: &Head, wanted: &LogOptions, alone: Option<&Head>) -> Result<(),
         let words = format!("the log's name is {name}, and that of the one that is wanted {other}");
         return Err(LogFault::OtherLog.because(words));
     }
-    if u64::try_from(next).is_ok_and(|it| it < wanted.at_least) {
+    if next < wanted.at_least {
         let words = format!(
             "the log has {next} entries, and had {}: it is an older copy",
             wanted.at_least

@@ -1,12 +1,11 @@
 //! `LogOptions`: how a log in a database is opened or made; `LogFound`: what was there.
 
-use crate::log::log_making::{copy_log, make_log};
+use crate::log::log_making::{copy_log, make_log, resolved};
 use crate::log::log_opening::{check_log, open_log};
 use crate::log::logged::Logged;
 use crate::log::open_error::{LogFault, OpenError};
 use crate::shared::Shared;
-use std::io;
-use std::path::{Path, PathBuf};
+use std::path::Path;
 use std::time::Duration;
 
 /// How a log in a database is opened or made.
@@ -58,6 +57,10 @@ pub struct LogFound {
     pub entries: u64,
     /// The number of the next entry.
     pub next: u64,
+    /// How many objects are declared.
+    pub objects: u32,
+    /// How often it had been opened to be written.
+    pub epoch: u64,
     /// How many entries it took to abort the actions that were live when the log ended.
     pub aborted: u64,
 }
@@ -88,7 +91,7 @@ impl LogOptions {
     ///
     /// As for [`open`](Self::open); [`LogFault::Exists`] if a file is there.
     pub fn create(&self, path: impl AsRef<Path>) -> Result<Logged, OpenError> {
-        make_log(&resolved(path.as_ref())?)?;
+        make_log(path.as_ref())?;
         self.open(path)
     }
 
@@ -103,9 +106,9 @@ impl LogOptions {
             Err(OpenError::Database(LogFault::NoLog, _)) => {}
             opened => return opened,
         }
-        match make_log(&resolved(path.as_ref())?) {
+        match make_log(path.as_ref()) {
             // Another process was quicker.
-            Ok(()) | Err(OpenError::Database(LogFault::Exists, _)) => self.open(path),
+            Ok(_) | Err(OpenError::Database(LogFault::Exists, _)) => self.open(path),
             Err(error) => Err(error),
         }
     }
@@ -138,13 +141,5 @@ impl Logged {
             Some(from) => copy_log(from, &resolved(path.as_ref())?),
             None => Err(LogFault::NoLog.because("the log isn't in a database")),
         }
-    }
-}
-
-// The file itself: SQLite puts the WAL beside that, where the path is a link to it.
-fn resolved(path: &Path) -> Result<PathBuf, OpenError> {
-    match path.canonicalize() {
-        Err(error) if error.kind() == io::ErrorKind::NotFound => Ok(std::path::absolute(path)?),
-        found => Ok(found?),
     }
 }

@@ -1,6 +1,7 @@
 //! The rows of a log: their tables, the chain of their sums, and how they are read and compared, one after another.
 
 use crate::log::batch_log::line_feeds;
+use crate::log::log_sum::log_sum;
 use crate::log::open_error::{LogFault, OpenError};
 use rusqlite::types::ValueRef;
 use rusqlite::{Connection, Row};
@@ -29,18 +30,10 @@ pub(crate) fn tables() -> String {
 #[derive(Debug, Clone, PartialEq, Eq)]
 pub(crate) struct Head {
     pub(crate) name: String,
-    pub(crate) epoch: i64,
+    pub(crate) epoch: u64,
     pub(crate) is_open: i64,
-    pub(crate) next_entry: i64,
-    pub(crate) sum: i64,
-}
-
-/// A link of the chain: of a batch after the sum before it; of the opening, whose sum before it is 0.
-pub(crate) fn summed(name: &str, first: i64, before: i64, text: &[u8]) -> i64 {
-    let mut hasher = crc32fast::Hasher::new();
-    hasher.update(format!("{name} {first} {before}\n").as_bytes());
-    hasher.update(text);
-    i64::from(hasher.finalize())
+    pub(crate) next_entry: u64,
+    pub(crate) sum: u32,
 }
 
 /// A random name, of 32 hexadecimal digits.
@@ -121,20 +114,20 @@ pub(crate) fn read_rows(
     database: &Connection,
     head: &Head,
     mut take: impl FnMut(&str, &[u8]) -> Result<(), OpenError>,
-) -> Result<(i64, u64), OpenError> {
+) -> Result<(u64, u64), OpenError> {
     let opening = opening_of(database)?;
     let begins = entry_of(&opening)?;
     if !opening.is_empty() {
         take("the opening", &opening)?;
     }
-    let mut sum = summed(&head.name, begins, 0, &opening);
+    let mut sum = log_sum(&head.name, begins, 0, &opening);
     let (mut entry, mut batches) = (begins, 0);
     let mut statement = database.prepare("SELECT first, lines, sum FROM batch ORDER BY first")?;
     let mut rows = statement.query([])?;
     while let Some(row) = rows.next()? {
-        let (first, lines, has) = (row.get(0)?, bytes_in(row, 1)?, row.get::<_, i64>(2)?);
+        let (first, lines, has) = (row.get(0)?, bytes_in(row, 1)?, row.get::<_, u32>(2)?);
         check_place(first, entry, lines)?;
-        sum = summed(&head.name, first, sum, lines);
+        sum = log_sum(&head.name, first, sum, lines);
         if has != sum {
             let words = format!(
                 "batch {first} hasn't the sum that it says: it was changed, or what is before it"
@@ -142,7 +135,7 @@ pub(crate) fn read_rows(
             return Err(LogFault::RowChanged.because(words));
         }
         take(&format!("batch {first}"), lines)?;
-        entry += i64::try_from(line_feeds(lines)).unwrap_or(i64::MAX) + 1;
+        entry += line_feeds(lines) + 1;
         batches += 1;
     }
     check_end(head, entry, sum)?;
@@ -168,7 +161,7 @@ fn opening_of(database: &Connection) -> Result<Vec<u8>, OpenError> {
 }
 
 // The number of the entry before which it stands, as in `opening entries 9 actions 2`.
-fn entry_of(opening: &[u8]) -> Result<i64, OpenError> {
+fn entry_of(opening: &[u8]) -> Result<u64, OpenError> {
     if opening.is_empty() {
         return Ok(0);
     }
@@ -182,7 +175,7 @@ fn entry_of(opening: &[u8]) -> Result<i64, OpenError> {
 }
 
 // The number that a text begins with, if its first word is one.
-fn number_in(text: &[u8]) -> Option<i64> {
+fn number_in(text: &[u8]) -> Option<u64> {
     let word = text.split(|it| matches!(it, b' ' | b'\n')).next()?;
     let digits = std::str::from_utf8(word).ok()?;
     digits
@@ -192,7 +185,7 @@ fn number_in(text: &[u8]) -> Option<i64> {
 }
 
 // Whether this batch comes next, and its lines are in their place.
-fn check_place(first: i64, entry: i64, lines: &[u8]) -> Result<(), OpenError> {
+fn check_place(first: u64, entry: u64, lines: &[u8]) -> Result<(), OpenError> {
     let begins = number_in(lines).unwrap_or(first);
     let (fault, words) = if first > entry {
         let last = first - 1;
@@ -218,7 +211,7 @@ fn check_place(first: i64, entry: i64, lines: &[u8]) -> Result<(), OpenError> {
     Err(fault.because(words))
 }
 
-fn check_end(head: &Head, entry: i64, sum: i64) -> Result<(), OpenError> {
+fn check_end(head: &Head, entry: u64, sum: u32) -> Result<(), OpenError> {
     let next = head.next_entry;
     if entry < next {
         let words = format!(

@@ -2,7 +2,11 @@
 
 use crate::log::batch_log::{BatchLog, EntryLines, Opening};
 use crate::log::failure::Failure;
-use crate::log::log_rows::{Head, summed};
+use crate::log::log_making::make_log;
+use crate::log::log_opening::open_log;
+use crate::log::log_options::LogOptions;
+use crate::log::log_rows::Head;
+use crate::log::log_sum::log_sum;
 use crate::log::open_error::OpenError;
 use crate::log::step::Step;
 pub(crate) use rusqlite::config::DbConfig::SQLITE_DBCONFIG_NO_CKPT_ON_CLOSE as KEEPS_WAL;
@@ -62,6 +66,30 @@ pub struct SqliteLog {
 }
 
 impl SqliteLog {
+    /// Makes a log, for a program that writes a journal's lines into it itself. An opening may come first.
+    ///
+    /// # Errors
+    ///
+    /// As for [`LogOptions::create`](crate::log::LogOptions::create).
+    ///
+    /// ```
+    /// use argus_guardian::log::{BatchLog, LogOptions, Opening, SqliteLog};
+    /// # let path = std::env::temp_dir().join(format!("argus-lines-{}", std::process::id()));
+    /// let opening = "opening entries 4 actions 1\nopening o0 atomic_record[n:int] {5}\n";
+    /// let mut log = SqliteLog::create(&path)?;
+    /// log.restart(&Opening::new(4, opening.into()).expect("whole lines"))?;
+    /// drop(log);
+    /// let found = LogOptions::default().check(&path)?;
+    /// assert_eq!((found.next, found.objects), (4, 1));
+    /// # std::fs::remove_file(&path).expect("removed");
+    /// # std::fs::remove_file(path.with_file_name(format!("argus-lines-{}-owner", std::process::id()))).expect("removed");
+    /// # Ok::<(), argus_guardian::log::OpenError>(())
+    /// ```
+    pub fn create(path: impl AsRef<Path>) -> Result<SqliteLog, OpenError> {
+        let path = make_log(path.as_ref())?;
+        Ok(open_log(&path, &LogOptions::default())?.0)
+    }
+
     /// Makes the log this process's: from now on whoever had it before is refused.
     pub(crate) fn take_over(
         writing: Connection,
@@ -141,7 +169,7 @@ impl SqliteLog {
     // That this entry is the next one.
     fn check_next(&self, entry: u64) -> io::Result<()> {
         let next = self.head.next_entry;
-        if u64::try_from(next) == Ok(entry) {
+        if entry == next {
             return Ok(());
         }
         Err(io::Error::other(format!(
@@ -153,8 +181,8 @@ impl SqliteLog {
         self.check_next(lines.first())?;
         let text = lines.text().strip_suffix('\n').unwrap_or(lines.text());
         let first = self.head.next_entry;
-        let sum = summed(&self.head.name, first, self.head.sum, text.as_bytes());
-        let next_entry = first + i64::try_from(lines.next() - lines.first()).unwrap_or(i64::MAX);
+        let sum = log_sum(&self.head.name, first, self.head.sum, text.as_bytes());
+        let next_entry = lines.next();
         let head = Head {
             next_entry,
             sum,
@@ -172,10 +200,14 @@ impl SqliteLog {
     }
 
     fn replace(&mut self, opening: &Opening) -> Result<(), OpenError> {
-        self.check_next(opening.next())?;
+        if self.head.next_entry > 0 {
+            self.check_next(opening.next())?;
+        }
         let text = opening.text().strip_suffix('\n').unwrap_or(opening.text());
-        let sum = summed(&self.head.name, self.head.next_entry, 0, text.as_bytes());
+        let next_entry = opening.next();
+        let sum = log_sum(&self.head.name, next_entry, 0, text.as_bytes());
         let head = Head {
+            next_entry,
             sum,
             ..self.head.clone()
         };
