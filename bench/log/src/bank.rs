@@ -91,15 +91,19 @@ pub fn database_in(folder: &Path) -> PathBuf {
     folder.join("bank.db")
 }
 
-/// A guardian with the accounts alone, whose log is in a folder that isn't there yet.
-pub fn logged_in(folder: &Path) -> Result<Logged, Box<dyn error::Error>> {
-    fs::create_dir(folder)?;
-    let options = LogOptions {
+/// A log that makes no checkpoint by itself.
+pub fn options() -> LogOptions {
+    LogOptions {
         patience: PATIENCE,
         checkpoint_after: None,
         ..LogOptions::default()
-    };
-    let logged = options.create(database_in(folder))?;
+    }
+}
+
+/// A guardian with the accounts alone, whose log is in a folder that isn't there yet.
+pub fn logged_in(folder: &Path) -> Result<Logged, Box<dyn error::Error>> {
+    fs::create_dir(folder)?;
+    let logged = options().create(database_in(folder))?;
     set_up(&logged)?;
     Ok(logged)
 }

@@ -1,10 +1,10 @@
 //! What it takes to read a log, to make its guardian again, and how long a log is.
 
 use crate::act::Act;
-use crate::bank::{ACCOUNTS, carry_out, database_in, logged_in};
+use crate::bank::{ACCOUNTS, carry_out, database_in, logged_in, options};
 use crate::orders::Order;
 use argus_guardian::Listing;
-use argus_guardian::log::{LogOptions, LoggedError};
+use argus_guardian::log::LoggedError;
 use std::error::Error;
 use std::fs;
 use std::path::Path;
@@ -17,8 +17,7 @@ const CLIENTS: u32 = 16;
 /// those of the lines alone, the times are in seconds, first by the clock and then on the processor, where the system
 /// counts that.
 pub fn run(folder: &Path) -> Result<(), Box<dyn Error>> {
-    let options = LogOptions::default();
-    let (logged, opened) = timed(|| Ok(options.open(database_in(folder))?))?;
+    let (logged, opened) = timed(|| Ok(options().open(database_in(folder))?))?;
     let found = logged.found();
     assert_eq!(found.aborted, 0);
     println!(

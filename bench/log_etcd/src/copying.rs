@@ -1,9 +1,9 @@
 //! A log in a database, copied into etcd, and read there.
 
-use crate::bank::{PATIENCE, database_in};
+use crate::bank::{self, PATIENCE, database_in};
 use crate::reading::timed;
 use argus_guardian::Listing;
-use argus_guardian::log::{BatchLog, EntryLines, LogOptions};
+use argus_guardian::log::{BatchLog, EntryLines};
 use argus_guardian_etcd::{Campaign, EtcdLog, EtcdOptions, Follower};
 use std::error::Error;
 use std::path::Path;
@@ -15,7 +15,7 @@ const BATCH: usize = 256 * 1024;
 pub fn copy(options: &EtcdOptions, folder: &str) -> Result<(), Box<dyn Error>> {
     let leadership = Campaign::begin(options, "bench")?.wait()?;
     let mut log = EtcdLog::open(options, leadership.clone(), |_| Ok(()))?;
-    let logged = LogOptions::default().open(database_in(Path::new(folder)))?;
+    let logged = bank::options().open(database_in(Path::new(folder)))?;
     let mut texts = vec![String::new()];
     for line in logged.list(Listing::Journal)?.split_inclusive('\n') {
         match texts.last_mut() {

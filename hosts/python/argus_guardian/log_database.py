@@ -19,8 +19,8 @@ from .log_rows import Head, head_of, summed
 BUSY_SECONDS = 5.0
 _MOVE = "UPDATE log SET next_entry=?, sum=?, is_open=?, epoch=?, version=? WHERE epoch=? AND next_entry=? AND sum=?"
 _EMPTIED = [("DELETE FROM batch", [()]), ("DELETE FROM opening", [()])]
-# What is there keeps its name.
-_BASES = (
+# An object keeps the name that it has.
+_OBJECT = (
     "INSERT INTO object (number, shape, base) VALUES (?, ?, ?)"
     " ON CONFLICT (number) DO UPDATE SET shape = excluded.shape, base = excluded.base"
 )
@@ -161,7 +161,7 @@ class LogDatabase:
         text = "\n".join(opening).encode()
         end, rows = self.end_of(batches, End(first, summed(self.name, first, 0, text)))
         lines = ("INSERT INTO opening VALUES (?, ?)", list(enumerate(opening)))
-        objects = (_BASES, _objects(opening))
+        objects = (_OBJECT, _objects(opening))
         self._change(end, [*_EMPTIED, lines, objects, _inserted(rows)])
 
     def _change(self, end: End, deeds: list[tuple[str, list[Any]]], epoch: int | None = None) -> None:

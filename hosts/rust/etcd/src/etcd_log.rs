@@ -13,7 +13,7 @@ use crate::log_reader::LogReader;
 use crate::parts::parts;
 use crate::position::Position;
 use crate::transaction::Transaction;
-use argus_guardian::log::{BatchLog, EntryLines, Failure, LineError, Opening, Step};
+use argus_guardian::log::{BatchLog, EntryLines, Failure, LineError, Opening};
 use serde_json::json;
 use std::io;
 use std::sync::Arc;
@@ -130,7 +130,8 @@ impl EtcdLog {
     /// ```
     #[must_use]
     pub fn next(&self) -> u64 {
-        self.head.entry
+        let LogHead { entry, .. } = self.head;
+        entry
     }
 
     /// The log with this head, all of which the leader has read. Batches that don't count are deleted: those before
@@ -188,19 +189,16 @@ impl EtcdLog {
     // Does it, unless the log is broken; a failure breaks it.
     fn unless_broken(
         &mut self,
-        step: Step,
         what: impl FnOnce(&mut Self) -> Result<(), EtcdError>,
     ) -> Result<(), Failure> {
         if let Some(failure) = &self.broken {
             return Err(failure.clone());
         }
-        what(self).map_err(|error| self.break_by(step, io::Error::other(error)))
+        what(self).map_err(|error| self.break_by(io::Error::other(error)))
     }
 
-    fn break_by(&mut self, step: Step, error: io::Error) -> Failure {
-        let failure = Failure::new(step, error);
-        self.broken = Some(failure.clone());
-        failure
+    fn break_by(&mut self, error: io::Error) -> Failure {
+        self.broken.insert(error.into()).clone()
     }
 
     // That this entry is the next one.
@@ -211,7 +209,7 @@ impl EtcdLog {
         }
         let words = format!("entry {entry} where {next} is the next one");
         let error = io::Error::new(io::ErrorKind::InvalidInput, words);
-        Err(self.break_by(Step::TakeLines, error))
+        Err(self.break_by(error))
     }
 
     fn append_part(&mut self, text: &str) -> Result<(), EtcdError> {
@@ -356,13 +354,13 @@ impl BatchLog for EtcdLog {
     fn append(&mut self, lines: &EntryLines) -> Result<(), Failure> {
         self.check_next(lines.first())?;
         let size = self.client.options().batch;
-        self.unless_broken(Step::WriteBatch, |log| {
+        self.unless_broken(|log| {
             parts(lines.text(), size).try_for_each(|part| log.append_part(part))
         })
     }
 
     fn restart(&mut self, opening: &Opening) -> Result<(), Failure> {
         self.check_next(opening.next())?;
-        self.unless_broken(Step::Other, |log| log.put_opening(opening))
+        self.unless_broken(|log| log.put_opening(opening))
     }
 }

@@ -69,9 +69,10 @@ fn open_etcd(
         return Err(why.into());
     }
     let (logged, aborted) = Logged::resumed(guardian, Box::new(log), Shared::PATIENCE)?;
+    let opened = opened(logged, leadership.epoch(), entries, aborted);
     Ok(OpenGuardian {
-        leadership: Some(leadership.clone()),
-        ..opened(logged, leadership.epoch(), entries, aborted)
+        leadership: Some(leadership),
+        ..opened
     })
 }
 

@@ -5,7 +5,6 @@ use crate::checkpoint_error::CheckpointError;
 use crate::error::Error;
 use crate::guardian::Guardian;
 use crate::log::batch_log::{EntryLines, ObjectName, Opening};
-use crate::log::progress::Goal;
 use crate::shared::Shared;
 use std::collections::VecDeque;
 
@@ -15,21 +14,30 @@ const PIECE: usize = 256 * 1024;
 // What each line of an opening begins with, and no entry's line.
 const OPENING: &str = "opening ";
 
+/// What a thread waits for: that all entries before this one are in the log, and so many openings.
+#[derive(Debug, Clone, Copy, PartialEq, Eq)]
+pub(crate) struct Goal {
+    pub(crate) entry: u64,
+    pub(crate) openings: u64,
+}
+
+impl Goal {
+    /// All entries before this one.
+    pub(crate) fn entry(entry: u64) -> Goal {
+        Goal { entry, openings: 0 }
+    }
+
+    /// Whether the other goal is reached when this one is.
+    pub(crate) fn includes(self, other: Goal) -> bool {
+        other.entry <= self.entry && other.openings <= self.openings
+    }
+}
+
 /// What goes to the log next.
 #[derive(Debug)]
 pub(crate) enum Piece {
     Lines(EntryLines),
     Opening(Opening),
-}
-
-impl Piece {
-    /// The number of the first entry after it.
-    pub(crate) fn next(&self) -> u64 {
-        match self {
-            Piece::Lines(lines) => lines.next(),
-            Piece::Opening(opening) => opening.next(),
-        }
-    }
 }
 
 /// What has been taken out of a guardian's journal, and what of that the log hasn't got yet. It is used only while the
@@ -77,12 +85,12 @@ impl JournalQueue {
 
     // Takes as many lines as fit into a piece.
     fn take(&mut self, guardian: &Guardian) -> Result<(), Error> {
-        let lines = guardian.lines_in(&mut self.room, self.next)?;
+        let mut lines = lines_in(guardian, &mut self.room, self.next)?;
         self.next = lines.next();
         if !lines.is_empty() {
             let named = self.names.iter().take_while(|it| it.0 <= self.next);
             let named = self.names.drain(..named.count()).map(|it| it.1);
-            let lines = lines.with_names(named.collect());
+            lines.names = named.collect();
             self.pieces.push_back(Piece::Lines(lines));
         }
         Ok(())
@@ -123,4 +131,21 @@ impl JournalQueue {
             openings: self.folds,
         })
     }
+}
+
+// The lines of the entries from this number on, as many as fit into the room; at least one, if there are any, for
+// which the room is made larger.
+fn lines_in(guardian: &Guardian, room: &mut Vec<u8>, from: u64) -> Result<EntryLines, Error> {
+    let mut lines = guardian.lines(from, room)?;
+    if lines.count == 0 && lines.size > 0 {
+        let more = lines.size.saturating_sub(room.len());
+        room.try_reserve(more).map_err(|_| Error::OutOfMemory)?;
+        room.resize(lines.size, 0);
+        lines = guardian.lines(from, room)?;
+    }
+    let text = room.get(..lines.size).map(<[u8]>::to_vec);
+    let text = text.and_then(|it| String::from_utf8(it).ok());
+    let read = text.and_then(|it| EntryLines::new(from, it));
+    read.filter(|it| it.next() - from == lines.count)
+        .ok_or(Error::OtherAnswer)
 }

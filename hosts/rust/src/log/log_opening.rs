@@ -1,12 +1,11 @@
 //! Opens a log in a database. It is read first, and nothing is changed if anything is wrong with it.
 
 use crate::guardian::Guardian;
-use crate::log::damage::LineError;
 use crate::log::log_options::{LogFound, LogOptions};
 use crate::log::log_rows::{Head, check_format, check_pages, head_of, is_name, read_rows};
 use crate::log::log_wal::{HEADER, check_wal};
 use crate::log::open_error::{LogFault, OpenError};
-use crate::log::recovery::Recovery;
+use crate::log::recovery::{LineError, Recovery};
 use crate::log::sqlite_log::{KEEPS_WAL, SqliteLog, connected, make_durable};
 use crate::{Error, ObjId};
 use rusqlite::{Connection, OpenFlags, params};
@@ -16,14 +15,12 @@ use std::io::Read;
 use std::path::{Path, PathBuf};
 use std::time::Duration;
 
-/// The numbers of objects by their names.
-pub(crate) type Names = HashMap<String, u32>;
-
 /// A log that was read, with its guardian.
 pub(crate) struct ReadLog {
     pub(crate) head: Head,
     pub(crate) guardian: Guardian,
-    pub(crate) names: Names,
+    /// The numbers of objects by their names.
+    pub(crate) names: HashMap<String, u32>,
     pub(crate) found: LogFound,
 }
 
@@ -113,12 +110,18 @@ fn read_log(path: &Path, wanted: &LogOptions) -> Result<ReadLog, OpenError> {
     let guardian = recovery
         .into_guardian()
         .map_err(|error| not_taken("the opening", error))?;
+    let (taken, next) = (guardian.entries(), head.next_entry);
+    if taken != next {
+        let words = format!("by the lines entry {taken} comes next, and by `log` entry {next}");
+        return Err(LogFault::OtherReply.because(words));
+    }
     let names = names_in(&reading, &guardian)?;
     let found = LogFound {
+        path: path.to_owned(),
         name: head.name.clone(),
         batches,
         entries: head.next_entry - first,
-        next: guardian.entries(),
+        next,
         objects: guardian.objects(),
         epoch: head.epoch,
         aborted: 0,
@@ -217,11 +220,11 @@ fn not_taken(what: &str, error: LineError) -> OpenError {
 }
 
 // The objects that have names, each with the shape that it was declared with.
-fn names_in(database: &Connection, guardian: &Guardian) -> Result<Names, OpenError> {
+fn names_in(database: &Connection, guardian: &Guardian) -> Result<HashMap<String, u32>, OpenError> {
     let mut select =
         database.prepare("SELECT name, number, shape FROM object WHERE name IS NOT NULL")?;
     let rows = select.query_map(params![], |row| Ok((row.get(0)?, row.get(1)?, row.get(2)?)))?;
-    let mut names = Names::new();
+    let mut names = HashMap::new();
     for row in rows {
         let (name, number, shape): (String, u32, String) = row?;
         if number >= guardian.objects() || guardian.shape(ObjId::numbered(number))? != shape {

@@ -1,11 +1,13 @@
 //! `LogOptions`: how a log in a database is opened or made; `LogFound`: what was there.
 
+use crate::guardian::Guardian;
 use crate::log::log_making::{copy_log, make_log, resolved};
 use crate::log::log_opening::{check_log, open_log};
 use crate::log::logged::Logged;
 use crate::log::open_error::{LogFault, OpenError};
 use crate::shared::Shared;
-use std::path::Path;
+use std::path::{Path, PathBuf};
+use std::sync::Mutex;
 use std::time::Duration;
 
 /// How a log in a database is opened or made.
@@ -49,6 +51,8 @@ impl Default for LogOptions {
 /// What was found in a log, and done, when it was opened.
 #[derive(Debug, Clone, PartialEq, Eq, Default)]
 pub struct LogFound {
+    /// The database; empty if the log isn't in one.
+    pub path: PathBuf,
     /// The log's name, which was drawn when it was made: its copies have the same.
     pub name: String,
     /// How many batches it had, beside its opening.
@@ -77,12 +81,16 @@ impl LogOptions {
         let resumed = Logged::resumed(read.guardian, Box::new(log), self.patience)?;
         let (mut logged, aborted) = resumed;
         logged.found = LogFound {
+            path,
             aborted,
             ..read.found
         };
-        logged.path = Some(path);
-        logged.keep_names(read.names);
-        Ok(logged.with_checkpoints(self.checkpoint_after))
+        logged.names = Some(Mutex::new(read.names));
+        logged.checkpoint_after = self.checkpoint_after;
+        // No action is live yet. Later there may be no number left for one that commits.
+        let used = Guardian::MAX_ACTIONS - logged.actions_left();
+        logged.checkpoint_if_due(logged.entries(), used);
+        Ok(logged)
     }
 
     /// Makes a log, and opens it.
@@ -124,6 +132,33 @@ impl LogOptions {
 }
 
 impl Logged {
+    /// Opens the log that is there; it never makes one. [`LogOptions::open`] has other options.
+    ///
+    /// # Errors
+    ///
+    /// As there.
+    pub fn open(path: impl AsRef<Path>) -> Result<Logged, OpenError> {
+        LogOptions::default().open(path)
+    }
+
+    /// Makes a log, and opens it: [`LogOptions::create`].
+    ///
+    /// # Errors
+    ///
+    /// As there.
+    pub fn create(path: impl AsRef<Path>) -> Result<Logged, OpenError> {
+        LogOptions::default().create(path)
+    }
+
+    /// Opens the log that is there; if there is none, makes one: [`LogOptions::open_or_create`].
+    ///
+    /// # Errors
+    ///
+    /// As there.
+    pub fn open_or_create(path: impl AsRef<Path>) -> Result<Logged, OpenError> {
+        LogOptions::default().open_or_create(path)
+    }
+
     /// What was found in the log when it was opened.
     #[must_use]
     pub fn found(&self) -> &LogFound {
@@ -137,9 +172,9 @@ impl Logged {
     /// [`OpenError::Database`]: [`LogFault::Exists`] if a file is there; [`LogFault::NoLog`] if the log isn't in a
     /// database.
     pub fn backup(&self, path: impl AsRef<Path>) -> Result<(), OpenError> {
-        match &self.path {
-            Some(from) => copy_log(from, &resolved(path.as_ref())?),
-            None => Err(LogFault::NoLog.because("the log isn't in a database")),
+        if self.found.path.as_os_str().is_empty() {
+            return Err(LogFault::NoLog.because("the log isn't in a database"));
         }
+        copy_log(&self.found.path, &resolved(path.as_ref())?)
     }
 }

@@ -12,12 +12,11 @@ use std::fmt;
 /// Why a call of a logged guardian failed.
 ///
 /// ```
-/// use argus_guardian::log::{Failure, LoggedError, Step};
-/// let failure = Failure::new(Step::SyncBatch, std::io::Error::other("no disk"));
-/// assert_eq!(
-///     LoggedError::InDoubt(failure).to_string(),
-///     "in doubt: the log couldn't sync a batch: no disk"
-/// );
+/// use argus_guardian::{Refusal, log::LoggedError};
+/// let failure = std::io::Error::other("no disk").into();
+/// let words = "in doubt: the log couldn't be written: no disk";
+/// assert_eq!(LoggedError::InDoubt(failure).to_string(), words);
+/// assert!(LoggedError::from(Refusal::Conflict).is_conflict());
 /// ```
 #[derive(Debug, Clone)]
 #[non_exhaustive]
@@ -37,11 +36,6 @@ pub enum LoggedError {
 
 impl LoggedError {
     /// Whether it is a refusal with `Conflict`: abort the topaction, and begin it again.
-    ///
-    /// ```
-    /// use argus_guardian::{Refusal, log::LoggedError};
-    /// assert!(LoggedError::from(Refusal::Conflict).is_conflict());
-    /// ```
     #[must_use]
     pub fn is_conflict(&self) -> bool {
         matches!(self, LoggedError::Guardian(error) if error.is_conflict())

@@ -1,31 +1,18 @@
 //! `OpenError`: why a log wasn't opened; `LogFault`: what is wrong with a database.
 
 use crate::Error;
-use crate::log::damage::Damage;
 use crate::log::failure::Failure;
 use std::error;
 use std::fmt;
 use std::io;
 
-/// Why a log wasn't opened. At [`OpenError::Broken`], and where the guardian couldn't abort what was live, what is torn
-/// may have been cut off already, and leftovers removed. Otherwise its files are unchanged.
-///
-/// ```
-/// use argus_guardian::log::OpenError;
-/// assert_eq!(OpenError::Locked.to_string(), "another process has the log");
-/// ```
+/// Why a log wasn't opened. At [`OpenError::Database`] nothing in it has changed.
 #[derive(Debug)]
 #[non_exhaustive]
 pub enum OpenError {
-    /// Another process has the log, or another part of this one.
-    Locked,
-    /// The log isn't as it was written, and no torn write has left it so.
-    Damaged(Damage),
-    /// The files couldn't be read.
-    Storage(io::Error),
     /// What is wrong with the database, and where, in words.
     Database(LogFault, String),
-    /// The log was read, but couldn't be begun.
+    /// The log was read, but the first append failed.
     Broken(Failure),
     /// The guardian couldn't be made, or couldn't abort what was live.
     Guardian(Error),
@@ -36,8 +23,7 @@ pub enum OpenError {
 /// ```
 /// use argus_guardian::log::{LogFault, OpenError};
 /// # #[cfg(feature = "sqlite")] {
-/// use argus_guardian::log::LogOptions;
-/// let error = LogOptions::default().open("/nowhere/bank.db").expect_err("no log is there");
+/// let error = argus_guardian::log::Logged::open("/nowhere/bank.db").expect_err("no log is there");
 /// assert!(matches!(error, OpenError::Database(LogFault::NoLog, _)));
 /// # }
 /// ```
@@ -90,9 +76,6 @@ impl LogFault {
 impl fmt::Display for OpenError {
     fn fmt(&self, f: &mut fmt::Formatter<'_>) -> fmt::Result {
         match self {
-            OpenError::Locked => f.write_str("another process has the log"),
-            OpenError::Damaged(damage) => write!(f, "the log is damaged: {damage}"),
-            OpenError::Storage(error) => write!(f, "the log can't be read: {error}"),
             OpenError::Database(_, words) => f.write_str(words),
             OpenError::Broken(failure) => write!(f, "{failure}"),
             OpenError::Guardian(error) => write!(f, "the guardian can't go on: {error}"),
@@ -102,15 +85,9 @@ impl fmt::Display for OpenError {
 
 impl error::Error for OpenError {}
 
-impl From<Damage> for OpenError {
-    fn from(damage: Damage) -> OpenError {
-        OpenError::Damaged(damage)
-    }
-}
-
 impl From<io::Error> for OpenError {
     fn from(error: io::Error) -> OpenError {
-        OpenError::Storage(error)
+        OpenError::Database(LogFault::Unreadable, error.to_string())
     }
 }
 

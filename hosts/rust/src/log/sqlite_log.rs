@@ -8,7 +8,6 @@ use crate::log::log_options::LogOptions;
 use crate::log::log_rows::Head;
 use crate::log::log_sum::log_sum;
 use crate::log::open_error::OpenError;
-use crate::log::step::Step;
 pub(crate) use rusqlite::config::DbConfig::SQLITE_DBCONFIG_NO_CKPT_ON_CLOSE as KEEPS_WAL;
 use rusqlite::{Connection, ErrorCode, OpenFlags, params};
 use std::path::Path;
@@ -150,7 +149,6 @@ impl SqliteLog {
     // Does it, unless the log is broken; a failure breaks it, and rolls back, so that others may write.
     fn unless_broken(
         &mut self,
-        step: Step,
         what: impl FnOnce(&mut Self) -> Result<(), OpenError>,
     ) -> Result<(), Failure> {
         if let Some(failure) = &self.broken {
@@ -161,7 +159,7 @@ impl SqliteLog {
                 // It is broken anyway.
                 let _ = database.execute_batch("ROLLBACK");
             }
-            let failure = Failure::new(step, io::Error::other(error.to_string()));
+            let failure = io::Error::other(error.to_string()).into();
             self.broken.insert(failure).clone()
         })
     }
@@ -251,11 +249,14 @@ impl SqliteLog {
 
 impl BatchLog for SqliteLog {
     fn append(&mut self, lines: &EntryLines) -> Result<(), Failure> {
-        self.unless_broken(Step::WriteBatch, |log| log.append_batch(lines))
+        if lines.is_empty() {
+            return Ok(());
+        }
+        self.unless_broken(|log| log.append_batch(lines))
     }
 
     fn restart(&mut self, opening: &Opening) -> Result<(), Failure> {
-        self.unless_broken(Step::WriteBatch, |log| log.replace(opening))
+        self.unless_broken(|log| log.replace(opening))
     }
 }
 

@@ -1,8 +1,9 @@
 //! Who has a log: two processes, forked ones, and programs that read and write beside them.
 
-use crate::bank::{OPTIONS, carry_out, last_of, number, open_bank};
+use crate::bank::{carry_out, last_of, number};
 use crate::child::Child;
 use crate::faults::{Made, with};
+use crate::opened_bank::{OPTIONS, open_bank};
 use argus_guardian::log::{LogFault, LogOptions, Logged, LoggedError, OpenError};
 use rusqlite::Connection;
 use std::os::unix::process::CommandExt;
@@ -12,7 +13,7 @@ use std::time::Duration;
 use std::{fs, thread};
 
 fn is_locked(made: &Made) -> bool {
-    let opened = LogOptions::default().open(&made.path);
+    let opened = Logged::open(&made.path);
     matches!(opened, Err(OpenError::Database(LogFault::Locked, _)))
 }
 

@@ -1,8 +1,9 @@
 //! What is wrong with a log's database: each fault is told by its own name, and nothing is changed then.
 
-use crate::bank::{CLIENTS, carry_out, last_of, number, open_bank};
+use crate::bank::{CLIENTS, carry_out, last_of, number};
+use crate::opened_bank::open_bank;
 use crate::scratch::Scratch;
-use argus_guardian::log::{LogFault, LogOptions, Logged, OpenError};
+use argus_guardian::log::{BatchLog, LogFault, LogOptions, Logged, OpenError, Opening, SqliteLog};
 use rusqlite::Connection;
 use std::collections::BTreeMap;
 use std::fs;
@@ -127,9 +128,7 @@ fn no_log() {
     made.refuse(LogFault::NoLog, "no log is there");
     assert!(made.files().is_empty());
     fs::create_dir(&made.path).expect("made");
-    let error = LogOptions::default()
-        .open(&made.path)
-        .expect_err("a folder");
+    let error = Logged::open(&made.path).expect_err("a folder");
     assert!(
         matches!(error, OpenError::Database(LogFault::NotALog, _)),
         "{error}"
@@ -154,16 +153,14 @@ fn no_log_of_a_guardian() {
         .status()
         .expect("made");
     assert!(pipe.success());
-    let error = LogOptions::default().open(&made.path).expect_err("a pipe");
+    let error = Logged::open(&made.path).expect_err("a pipe");
     assert!(error.to_string().contains("isn't a file"), "{error}");
 }
 
 #[test]
 fn one_that_is_there_isnt_made_again() {
     let made = Made::bank();
-    let error = LogOptions::default()
-        .create(&made.path)
-        .expect_err("it is there");
+    let error = Logged::create(&made.path).expect_err("it is there");
     assert!(
         matches!(error, OpenError::Database(LogFault::Exists, _)),
         "{error}"
@@ -408,6 +405,27 @@ fn another_reply_than_the_guardians() {
 }
 
 #[test]
+fn an_opening_that_isnt_whole_is_named() {
+    for (opening, words) in [
+        (
+            "opening entries 2 actions 1\nopening o0 atomic_record[to:atomic] {@1}\n",
+            "the opening refers to objects that aren't there",
+        ),
+        (
+            "opening entries 2 actions 1\nopening o1 atomic_record[n:int] {1}\n",
+            "it isn't the next line of an opening",
+        ),
+    ] {
+        let made = Made::empty();
+        let mut log = SqliteLog::create(&made.path).expect("made");
+        let opening = Opening::new(2, opening.to_owned()).expect("whole lines");
+        log.restart(&opening).expect("written");
+        drop(log);
+        made.refuse(LogFault::OtherReply, words);
+    }
+}
+
+#[test]
 fn a_page_has_rotted() {
     let made = Made::bank();
     let mut content = fs::read(&made.path).expect("read");
@@ -432,7 +450,7 @@ fn any_byte_is_another_one() {
         changed[draw % content.len()] ^= 1 << (state >> 20 & 7);
         fs::write(&made.path, changed).expect("written");
         // Pages have bytes that count for nothing: then nothing is missing.
-        match LogOptions::default().open(&made.path) {
+        match Logged::open(&made.path) {
             Ok(bank) => assert_eq!(number(&bank, last_of(0)).expect("told"), ORDERS - 1),
             Err(OpenError::Database(fault, _)) if fault != LogFault::Unreadable => refused += 1,
             Err(error) => panic!("{error}"),

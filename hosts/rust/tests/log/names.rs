@@ -1,7 +1,7 @@
 //! Objects that a log knows by their names.
 
 use crate::faults::Made;
-use argus_guardian::log::{LogFault, LogOptions, Logged, LoggedError};
+use argus_guardian::log::{LogFault, Logged, LoggedError, OpenError};
 use argus_guardian::{Change, Error, ObjId};
 use std::thread;
 use std::time::Duration;
@@ -9,9 +9,7 @@ use std::time::Duration;
 const SHAPE: &str = "atomic_record[n:int]";
 
 fn open(made: &Made) -> Logged {
-    LogOptions::default()
-        .open_or_create(&made.path)
-        .expect("opened")
+    Logged::open_or_create(&made.path).expect("opened")
 }
 
 #[test]
@@ -85,6 +83,22 @@ fn another_shape_is_refused() {
     logged
         .declare_named("list", "atomic_array[int]")
         .expect("declared");
+}
+
+#[test]
+fn a_log_that_isnt_in_a_database_keeps_none() {
+    let logged = Logged::in_memory().expect("made");
+    let error = logged
+        .declare_named("account", SHAPE)
+        .expect_err("no names");
+    assert!(matches!(error, LoggedError::NoNames), "{error}");
+    let made = Made::empty();
+    let error = logged.backup(&made.path).expect_err("no database");
+    assert!(
+        matches!(error, OpenError::Database(LogFault::NoLog, _)),
+        "{error}"
+    );
+    assert!(!made.path.exists());
 }
 
 #[test]

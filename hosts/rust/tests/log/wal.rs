@@ -1,7 +1,8 @@
 //! What is wrong with the WAL of a log whose process was killed.
 
-use crate::bank::{carry_out, open_bank};
+use crate::bank::carry_out;
 use crate::faults::{Made, ORDERS, with};
+use crate::opened_bank::open_bank;
 use argus_guardian::log::{LogFault, Logged};
 use std::fs;
 use std::ops::Range;
