@@ -2,9 +2,9 @@
 # SPDX-License-Identifier: MIT
 # Prints what a log costs: the bank's orders a second, and how long half of them and all but a hundredth take at the
 # most, in milliseconds: in memory; with a sync for each commit; with commits that wait together; replicated, over
-# three nodes of etcd on this machine; and in SQLite (WAL, synchronous FULL) with a savepoint for each transfer.
-# Medians of interleaved runs. Then, of logs of 100,000 and of 1,000,000 entries, the bytes of an entry, what it takes
-# to read them, and what it takes to open them: to make the guardian again; in files, and copied into etcd.
+# three nodes of etcd on this machine; and SQLite doing the same orders itself (WAL, synchronous FULL) with a savepoint
+# for each transfer. Medians of interleaved runs. Then, of logs of 100,000 and of 1,000,000 entries, the bytes of an
+# entry, and what it takes to open them: to make the guardian again; in a database, and copied into etcd.
 # Nothing is compared with a limit: the figures are the machine's, and above all its disk's.
 #
 #   [REPS=3] [TIME=2] [MOST=330] [ROOM=FOLDER] [ENTRIES='100000 1000000'] bench/log.sh
@@ -165,14 +165,13 @@ measure_reading() {
     done
 }
 
-# log ENTRIES BATCHES BYTES READ OPENED READ OPENED, etcd ENTRIES READ OPENED READ OPENED
+# log ENTRIES BATCHES BYTES OPENED OPENED, etcd ENTRIES READ OPENED READ OPENED
 print_log() {
     local file=$room/log-$1
     if [ ! -f "$file" ]; then return; fi
     awk '{ printf "%d entries in %d batches: %.1f bytes an entry in their lines\n", $2, $3, $4 / $2 }' \
         <(head -n 1 "$file")
-    echo "  in files: read in $(median "$file" 5) s, opened in $(median "$file" 6) s;" \
-        "on the processor $(median "$file" 7) s and $(median "$file" 8) s"
+    echo "  in a database: opened in $(median "$file" 5) s; on the processor $(median "$file" 6) s"
     file=$room/etcd-$1
     if [ ! -f "$file" ]; then return; fi
     echo "  in etcd: read in $(median "$file" 3) s, led in $(median "$file" 4) s;" \

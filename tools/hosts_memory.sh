@@ -103,7 +103,8 @@ tried "hosts/c, bank, valgrind" under_valgrind "$room/plain/host" bank 20
 tried "hosts/c, stress, valgrind" under_valgrind "$room/plain/host" stress 100000
 if cargo --version > /dev/null 2>&1; then
     export CARGO_TARGET_DIR=$room/rust
-    cargo build --offline --quiet --release --manifest-path "$top/hosts/rust/Cargo.toml" --example bank
+    cargo --config "$top/hosts/rust/debian.toml" build --offline --quiet --release \
+        --manifest-path "$top/hosts/rust/Cargo.toml" --example bank
     tried "hosts/rust, bank, valgrind" under_valgrind "$room/rust/release/examples/bank" 20
 else
     echo "hosts/rust: LEFT OUT: no cargo"

@@ -1,7 +1,7 @@
 #!/usr/bin/env bash
 # SPDX-License-Identifier: MIT
 # Debian's packages that the hosts' tests need beside a C compiler, cargo and Python: those of hosts/c/log, of
-# hosts/rust/etcd and hosts/rust/host, and etcd itself; what looks at Python's types, what the shops of
+# hosts/rust, its etcd and its host, and etcd itself; what looks at Python's types, what the shops of
 # hosts/python stand on, and the browser that opens pages of runs. Without them hosts/run leaves those tests out.
 #
 #   tools/packages.sh             prints the packages that are missing, one a line; status 1 if any is
@@ -20,9 +20,11 @@ packages=(
     openssl
     # networks of the hosts' own, in which they are unplugged
     iproute2
-    # the crates that hosts/rust/etcd is built of
+    # the crates that hosts/rust is built of with its feature sqlite, and the system's SQLite
+    librust-rusqlite-dev librust-crc32fast-dev sqlite3
+    # those of hosts/rust/etcd
     librust-base64-dev librust-curl-dev librust-serde-json-dev "librust-serde+serde-derive-dev"
-    # those of hosts/rust/host beside them
+    # those of hosts/rust/host beside these
     librust-clap-dev librust-clap-derive-dev librust-httparse-dev librust-signal-hook-dev librust-subtle-dev
     # how the crate of libcurl finds it
     pkg-config

@@ -3,15 +3,15 @@
 use crate::act::Act;
 use crate::figures::Figures;
 use crate::orders::{BALANCE, Order};
-use argus_guardian::log::{FileLog, Folder, Logged, LoggedError};
+use argus_guardian::log::{LogOptions, Logged, LoggedError};
 use argus_guardian::{CheckpointError, Content, Guardian, ObjId, Shared};
-use std::error;
-use std::path::Path;
+use std::path::{Path, PathBuf};
 use std::str::FromStr;
 use std::sync::Mutex;
 use std::sync::atomic::{AtomicU64, Ordering};
 use std::thread;
 use std::time::{Duration, Instant};
+use std::{error, fs};
 
 pub const ACCOUNTS: u32 = 1000;
 pub const PATIENCE: Duration = Duration::from_secs(100);
@@ -86,10 +86,24 @@ fn with_accounts() -> Result<Guardian, Box<dyn error::Error>> {
     Ok(guardian)
 }
 
-/// A log over a guardian with nothing in it, in a folder that isn't there yet.
+/// The database in a folder.
+pub fn database_in(folder: &Path) -> PathBuf {
+    folder.join("bank.db")
+}
+
+/// A log that makes no checkpoint by itself.
+pub fn options() -> LogOptions {
+    LogOptions {
+        patience: PATIENCE,
+        checkpoint_after: None,
+        ..LogOptions::default()
+    }
+}
+
+/// A guardian with the accounts alone, whose log is in a folder that isn't there yet.
 pub fn logged_in(folder: &Path) -> Result<Logged, Box<dyn error::Error>> {
-    let log = FileLog::read(Folder::open(folder)?, |_| Ok(()))?.begin()?;
-    let logged = Logged::over(Guardian::new()?, Box::new(log), PATIENCE);
+    fs::create_dir(folder)?;
+    let logged = options().create(database_in(folder))?;
     set_up(&logged)?;
     Ok(logged)
 }

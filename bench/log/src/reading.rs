@@ -1,9 +1,10 @@
 //! What it takes to read a log, to make its guardian again, and how long a log is.
 
 use crate::act::Act;
-use crate::bank::{ACCOUNTS, carry_out, logged_in};
+use crate::bank::{ACCOUNTS, carry_out, database_in, logged_in, options};
 use crate::orders::Order;
-use argus_guardian::log::{FileLog, Folder, Logged, LoggedError};
+use argus_guardian::Listing;
+use argus_guardian::log::LoggedError;
 use std::error::Error;
 use std::fs;
 use std::path::Path;
@@ -12,15 +13,20 @@ use std::time::Instant;
 
 const CLIENTS: u32 = 16;
 
-/// Reads a log, and opens it. One line: `log ENTRIES BATCHES BYTES READ OPENED READ OPENED`: the bytes are those of
-/// the lines alone, the times are in seconds, first by the clock and then on the processor, where the system counts
-/// that.
+/// Opens a log: each of its calls is made again. One line: `log ENTRIES BATCHES BYTES OPENED OPENED`: the bytes are
+/// those of the lines alone, the times are in seconds, first by the clock and then on the processor, where the system
+/// counts that.
 pub fn run(folder: &Path) -> Result<(), Box<dyn Error>> {
-    let ((entries, batches, bytes), read) = timed(|| read(folder))?;
-    let ((), opened) = timed(|| open(folder, entries))?;
+    let (logged, opened) = timed(|| Ok(options().open(database_in(folder))?))?;
+    let found = logged.found();
+    assert_eq!(found.aborted, 0);
     println!(
-        "log {entries} {batches} {bytes} {:.4} {:.4} {:.4} {:.4}",
-        read.clock, opened.clock, read.processor, opened.processor
+        "log {} {} {} {:.4} {:.4}",
+        found.entries,
+        found.batches,
+        logged.list(Listing::Journal)?.len(),
+        opened.clock,
+        opened.processor
     );
     Ok(())
 }
@@ -70,21 +76,5 @@ pub fn write(folder: &Path, entries: u64) -> Result<(), Box<dyn Error>> {
         ended.collect::<Result<(), LoggedError>>()
     })?;
     logged.barrier()?;
-    Ok(())
-}
-
-fn read(folder: &Path) -> Result<(u64, u64, usize), Box<dyn Error>> {
-    let mut bytes = 0;
-    let found = FileLog::read(Folder::open(folder)?, |batch| {
-        bytes += batch.lines.len();
-        Ok(())
-    })?;
-    Ok((found.found().next, found.found().batches, bytes))
-}
-
-// Until the guardian takes calls: each of the log's is made again.
-fn open(folder: &Path, entries: u64) -> Result<(), Box<dyn Error>> {
-    let (logged, opened) = Logged::open(folder)?;
-    assert_eq!((opened.found.next, logged.entries()), (entries, entries));
     Ok(())
 }

@@ -1,8 +1,9 @@
-//! A log in files, copied into etcd, and read there.
+//! A log in a database, copied into etcd, and read there.
 
-use crate::bank::PATIENCE;
+use crate::bank::{self, PATIENCE, database_in};
 use crate::reading::timed;
-use argus_guardian::log::{BatchLog, EntryLines, FileLog, Folder};
+use argus_guardian::Listing;
+use argus_guardian::log::{BatchLog, EntryLines};
 use argus_guardian_etcd::{Campaign, EtcdLog, EtcdOptions, Follower};
 use std::error::Error;
 use std::path::Path;
@@ -14,14 +15,14 @@ const BATCH: usize = 256 * 1024;
 pub fn copy(options: &EtcdOptions, folder: &str) -> Result<(), Box<dyn Error>> {
     let leadership = Campaign::begin(options, "bench")?.wait()?;
     let mut log = EtcdLog::open(options, leadership.clone(), |_| Ok(()))?;
+    let logged = bank::options().open(database_in(Path::new(folder)))?;
     let mut texts = vec![String::new()];
-    FileLog::read(Folder::open(Path::new(folder))?, |batch| {
+    for line in logged.list(Listing::Journal)?.split_inclusive('\n') {
         match texts.last_mut() {
-            Some(text) if text.len() < BATCH => text.push_str(batch.lines),
-            _ => texts.push(batch.lines.to_owned()),
+            Some(text) if text.len() < BATCH => text.push_str(line),
+            _ => texts.push(line.to_owned()),
         }
-        Ok(())
-    })?;
+    }
     for text in texts {
         let lines = EntryLines::new(log.next(), text).ok_or("no whole lines")?;
         log.append(&lines)?;

@@ -5,12 +5,12 @@
 //!     log-etcd-bench read ENDPOINTS PREFIX
 //!
 //! `bench/log.sh` runs it. The endpoints have commas between them. A prefix is one under which there is no log yet;
-//! that of `read` is one to which `copy` has copied a log in files.
+//! that of `read` is one to which `copy` has copied a log in a database.
 
-#[allow(dead_code, reason = "a log in files needs more of it")]
+#[allow(dead_code, reason = "a log in a database needs more of it")]
 #[path = "../../log/src/act.rs"]
 mod act;
-#[allow(dead_code, reason = "a log in files needs more of it")]
+#[allow(dead_code, reason = "a log in a database needs more of it")]
 #[path = "../../log/src/bank.rs"]
 mod bank;
 mod copying;
@@ -18,7 +18,7 @@ mod copying;
 mod figures;
 #[path = "../../../hosts/rust/tests/log/orders.rs"]
 mod orders;
-#[allow(dead_code, reason = "a log in files needs more of it")]
+#[allow(dead_code, reason = "a log in a database needs more of it")]
 #[path = "../../log/src/reading.rs"]
 mod reading;
 

@@ -1,9 +1,9 @@
 //! Payments that may be sent again: each is carried out once, whatever becomes of the process in between.
 //!
-//!     cargo run --release --features logged --example orders -- FOLDER < PAYMENTS
+//!     cargo run --release --features sqlite --example orders -- DATABASE < PAYMENTS
 //!
 //! A line `CLIENT NUMBER AMOUNT` of standard input is a payment of one of eight clients (0 to 7), which number theirs
-//! 1, 2, 3 and so on. A line is printed once its payment is on disk in FOLDER; the last line has the balance. Kill it,
+//! 1, 2, 3 and so on. A line is printed once its payment is on disk in DATABASE; the last line has the balance. Kill it,
 //! and send the same lines again.
 
 use argus_guardian::log::{Logged, LoggedAction, LoggedError};
@@ -84,8 +84,8 @@ fn pay(bank: &Logged, payment: &Payment) -> Result<PaymentOutcome, LoggedError> 
 }
 
 // Declares and creates what isn't there: a crash may have come in the middle of it.
-fn open(folder: &str) -> Result<Logged, Box<dyn Error>> {
-    let (bank, _) = Logged::open(folder)?;
+fn open(path: &str) -> Result<Logged, Box<dyn Error>> {
+    let bank = Logged::open_or_create(path)?;
     let missing = bank.objects()?..=CLIENTS;
     bank.declare_each(missing.map(|_| "atomic_record[number:int]"))?;
     if bank.base(BALANCE)?.is_none() {
@@ -101,10 +101,10 @@ fn open(folder: &str) -> Result<Logged, Box<dyn Error>> {
 
 fn main() -> Result<(), Box<dyn Error>> {
     let words: Vec<String> = env::args().skip(1).collect();
-    let [folder] = &words[..] else {
-        return Err("orders FOLDER < PAYMENTS".into());
+    let [path] = &words[..] else {
+        return Err("orders DATABASE < PAYMENTS".into());
     };
-    let bank = open(folder)?;
+    let bank = open(path)?;
     for line in io::stdin().lock().lines() {
         let payment: Payment = line?.parse()?;
         let words = match pay(&bank, &payment)? {

@@ -48,7 +48,7 @@ mod guardian;
 mod line_fault;
 mod lineage;
 mod listing;
-#[cfg(all(feature = "log", unix))]
+#[cfg(all(feature = "logged", unix))]
 pub mod log;
 mod not_ready;
 mod obj_id;

@@ -429,6 +429,12 @@ impl<'s> SharedAction<'s> {
         Ok(())
     }
 
+    // Whether it is a nested topaction.
+    #[cfg(all(feature = "logged", unix))]
+    pub(crate) fn is_nested(&self) -> bool {
+        self.is_nested
+    }
+
     // Commits. Returns how many entries the journal has had up to this commit.
     #[cfg(all(feature = "logged", unix))]
     pub(crate) fn commit_counted(self) -> Result<u64, Error> {

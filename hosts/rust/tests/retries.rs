@@ -1,7 +1,7 @@
 //! Topactions that are tried again.
 
 #[cfg(all(feature = "logged", unix))]
-use argus_guardian::log::{Logged, LoggedError, LoggedOptions, MemoryStorage};
+use argus_guardian::log::{Logged, LoggedError};
 use argus_guardian::{
     Change, Error, Guardian, MayConflict, ObjId, Refusal, Shared, SharedAction, Value,
 };
@@ -113,11 +113,7 @@ fn boxed_errors_say_whether_they_are_conflicts() {
 // A record is locked at the first try, and free at the second. How many tries it takes to lock it.
 #[cfg(all(feature = "logged", unix))]
 fn tries_until_free<E: From<LoggedError> + MayConflict>() -> Result<u32, E> {
-    let options = LoggedOptions {
-        patience: Duration::ZERO,
-        ..LoggedOptions::default()
-    };
-    let (logged, _) = Logged::open_in(MemoryStorage::default(), options).expect("opened");
+    let logged = Logged::in_memory().expect("made");
     let record = logged.declare("atomic_record[n:int]")?;
     let holder = logged.topaction()?;
     holder.lock(record)?;

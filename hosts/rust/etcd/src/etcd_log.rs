@@ -1,6 +1,7 @@
 //! `EtcdLog`: a log in etcd, which only the leader writes.
 
 use crate::answers::{NoContent, TransactionAnswer};
+use crate::batch::{Batch, line_feeds, summed_lines};
 use crate::client::Client;
 use crate::etcd_error::EtcdError;
 use crate::etcd_options::EtcdOptions;
@@ -12,13 +13,10 @@ use crate::log_reader::LogReader;
 use crate::parts::parts;
 use crate::position::Position;
 use crate::transaction::Transaction;
-use argus_guardian::log::{Batch, BatchLog, EntryLines, Failure, LineError, Opening, Step};
+use argus_guardian::log::{BatchLog, EntryLines, Failure, LineError, Opening};
 use serde_json::json;
 use std::io;
 use std::sync::Arc;
-
-// The version of the product, which each batch names.
-const VERSION: &str = env!("CARGO_PKG_VERSION");
 
 // So many batches are deleted at once: etcd does nothing else meanwhile.
 const DELETED: u64 = 1000;
@@ -53,8 +51,9 @@ pub struct EtcdLog {
     client: Client,
     keys: Keys,
     leadership: Leadership,
-    // `None` where the log has no head yet.
-    head: Option<LogHead>,
+    // `None` where etcd has no head yet, and what that will be.
+    held: Option<LogHead>,
+    head: LogHead,
     // That of the last transaction.
     revision: i64,
     broken: Option<Failure>,
@@ -131,7 +130,7 @@ impl EtcdLog {
     /// ```
     #[must_use]
     pub fn next(&self) -> u64 {
-        let LogHead { entry, .. } = self.at();
+        let LogHead { entry, .. } = self.head;
         entry
     }
 
@@ -151,13 +150,14 @@ impl EtcdLog {
             client,
             keys,
             leadership,
-            head,
+            held: head,
+            head: head.unwrap_or_else(LogHead::drawn),
             revision: 0,
             broken: None,
         };
         let head = LogHead {
             epoch: log.leadership.epoch(),
-            ..log.at()
+            ..log.head
         };
         log.begin_at(head)?;
         Ok(log)
@@ -176,72 +176,70 @@ impl EtcdLog {
             .delete(&self.keys.batch(0), &begins)
             .put(&put.key, &put.value);
         self.transact(transaction, Some(&put))?;
-        self.head = Some(head);
+        self.moved(head);
         Ok(())
     }
 
-    // What comes next.
-    fn at(&self) -> LogHead {
-        self.head.unwrap_or_default()
+    // etcd has this head now.
+    fn moved(&mut self, head: LogHead) {
+        self.held = Some(head);
+        self.head = head;
     }
 
     // Does it, unless the log is broken; a failure breaks it.
     fn unless_broken(
         &mut self,
-        step: Step,
         what: impl FnOnce(&mut Self) -> Result<(), EtcdError>,
     ) -> Result<(), Failure> {
         if let Some(failure) = &self.broken {
             return Err(failure.clone());
         }
-        what(self).map_err(|error| self.break_by(step, io::Error::other(error)))
+        what(self).map_err(|error| self.break_by(io::Error::other(error)))
     }
 
-    fn break_by(&mut self, step: Step, error: io::Error) -> Failure {
-        let failure = Failure::new(step, error);
-        self.broken = Some(failure.clone());
-        failure
+    fn break_by(&mut self, error: io::Error) -> Failure {
+        self.broken.insert(error.into()).clone()
     }
 
     // That this entry is the next one.
     fn check_next(&mut self, entry: u64) -> Result<(), Failure> {
-        let next = self.at().entry;
+        let next = self.head.entry;
         if entry == next || self.broken.is_some() {
             return Ok(());
         }
         let words = format!("entry {entry} where {next} is the next one");
         let error = io::Error::new(io::ErrorKind::InvalidInput, words);
-        Err(self.break_by(Step::TakeLines, error))
+        Err(self.break_by(error))
     }
 
     fn append_part(&mut self, text: &str) -> Result<(), EtcdError> {
-        let at = self.at();
-        let entries = line_feeds(text);
-        let put = self.batch(at.next, at.entry, entries, false, text);
+        let at = self.head;
+        let sum = at.summed(at.entry, at.sum, summed_lines(text));
+        let put = self.batch(at.next, at.entry, false, sum, text);
         let head = LogHead {
             next: at.next + 1,
-            entry: at.entry + entries,
+            entry: at.entry + line_feeds(text),
             epoch: self.leadership.epoch(),
+            sum,
             ..at
         };
         self.move_head(head, &put)
     }
 
     // The batch with that number.
-    fn batch(&self, number: u64, first: u64, entries: u64, is_opening: bool, lines: &str) -> Put {
+    fn batch(&self, number: u64, first: u64, is_opening: bool, sum: u32, lines: &str) -> Put {
         let batch = Batch {
-            segment: 0,
             number,
             epoch: self.leadership.epoch(),
-            version: VERSION,
             first,
-            entries,
+            entries: 0,
             is_opening,
+            sum,
             lines,
         };
         Put {
             key: self.keys.batch(number),
-            value: batch.framed(),
+            value: batch.text(),
         }
     }
 
@@ -251,13 +249,13 @@ impl EtcdLog {
             .put(&put.key, &put.value)
             .put(&self.keys.head(), &head.text());
         self.transact(transaction, Some(put))?;
-        self.head = Some(head);
+        self.moved(head);
         Ok(())
     }
 
     // Carries it out once, if this host leads and the head is as it left it.
     fn transact(&mut self, transaction: Transaction, put: Option<&Put>) -> Result<(), EtcdError> {
-        let held = self.head.map(LogHead::text);
+        let held = self.held.map(LogHead::text);
         let mut fenced = self.leadership.fenced(transaction);
         fenced = fenced.if_holds(&self.keys.head(), held.as_deref());
         fenced = fenced.else_read(self.leadership.key());
@@ -307,17 +305,19 @@ impl EtcdLog {
 
     // Puts the opening behind the log, and then lets the log begin there.
     fn put_opening(&mut self, opening: &Opening) -> Result<(), EtcdError> {
-        let at = self.at();
-        let texts: Vec<&str> = parts(opening.text(), self.client.options().batch).collect();
-        let mut puts: Vec<Put> = (at.next..)
-            .zip(&texts)
-            .map(|(number, text)| self.batch(number, opening.next(), 0, true, text))
-            .collect();
+        let at = self.head;
+        let (mut puts, mut sum) = (Vec::new(), 0);
+        for (number, text) in (at.next..).zip(parts(opening.text(), self.client.options().batch)) {
+            sum = at.summed(opening.next(), sum, summed_lines(text));
+            puts.push(self.batch(number, opening.next(), true, sum, text));
+        }
         let head = LogHead {
             begins: at.next,
             next: at.next + puts.len() as u64,
             entry: opening.next(),
             epoch: self.leadership.epoch(),
+            sum,
+            ..at
         };
         let Some(last) = puts.pop() else {
             return Ok(());
@@ -354,17 +354,13 @@ impl BatchLog for EtcdLog {
     fn append(&mut self, lines: &EntryLines) -> Result<(), Failure> {
         self.check_next(lines.first())?;
         let size = self.client.options().batch;
-        self.unless_broken(Step::WriteBatch, |log| {
+        self.unless_broken(|log| {
             parts(lines.text(), size).try_for_each(|part| log.append_part(part))
         })
     }
 
     fn restart(&mut self, opening: &Opening) -> Result<(), Failure> {
         self.check_next(opening.next())?;
-        self.unless_broken(Step::Other, |log| log.put_opening(opening))
+        self.unless_broken(|log| log.put_opening(opening))
     }
-}
-
-fn line_feeds(text: &str) -> u64 {
-    text.bytes().map(|byte| u64::from(byte == b'\n')).sum()
 }

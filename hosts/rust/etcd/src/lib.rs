@@ -25,29 +25,32 @@
 //! # Ok::<(), Box<dyn std::error::Error>>(())
 //! ```
 //!
-//! `bank` is a [`Logged`](argus_guardian::log::Logged), the same as over files. An error
+//! `bank` is a [`Logged`](argus_guardian::log::Logged), the same as over a database. An error
 //! [`InDoubt`](argus_guardian::log::LoggedError::InDoubt) or [`Broken`](argus_guardian::log::LoggedError::Broken)
 //! ends this leadership: drop the guardian, and begin again with a new follower and a new campaign.
 //!
 //! # Keys
 //!
 //! ```text
-//! argus/head                            format=1 begins=12 next=17 entry=1240 epoch=981
-//! argus/batches/00000000000000000016    #batch format=1 version=0.1.0 epoch=981 batch=16 first=1200 entries=40 ..
+//! argus/head                            format=2 name=0f.. begins=12 next=17 entry=1240 epoch=981 sum=421330142
+//! argus/batches/00000000000000000016    batch epoch=981 first=1200 sum=421330142
 //!                                       1200 begin_top -> a310
 //!                                       ..
 //! argus/leader/7587849a0f2c3d01         host-1
 //! ```
 //!
-//! A batch has the same form as in files: a head with checksums, then whole lines of the journal. `head` says which
+//! A batch is a line of its own, and then whole lines of the journal. Its sum is that of a log in a database
+//! ([`log_sum`](argus_guardian::log::log_sum)): of the log's name, its place, the sum before it, and its lines. `head`
+//! says which
 //! batches count. An append is one transaction, which puts a batch and moves `head`, on condition that the leader's
 //! key still exists and that `head` is as this leader left it. A new leader begins with one that puts its epoch into
-//! `head`. After a checkpoint the log begins with batches `#opening`, and those before it are deleted.
+//! `head`. After a checkpoint the log begins with batches `opening`, and those before it are deleted.
 //!
 //! **Nothing here is proved.** What is promised by whom, what is tried, and what to do when something fails: see the
 //! repository's page docs/OUTLIVING.md.
 
 mod answers;
+mod batch;
 mod campaign;
 mod client;
 mod etcd_error;
@@ -69,6 +72,7 @@ mod request;
 mod transaction;
 mod watch;
 
+pub use batch::Batch;
 pub use campaign::Campaign;
 pub use etcd_error::EtcdError;
 pub use etcd_log::EtcdLog;

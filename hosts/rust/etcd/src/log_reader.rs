@@ -1,6 +1,7 @@
 //! `LogReader`: reads a log in etcd, batch by batch; `Takes`: what takes these.
 
 use crate::answers::KeyValue;
+use crate::batch::{Batch, summed_lines};
 use crate::client::Client;
 use crate::etcd_error::EtcdError;
 use crate::keys::Keys;
@@ -9,7 +10,7 @@ use crate::log_head::LogHead;
 use crate::pages::{Page, first_page, next_page};
 use crate::position::Position;
 use argus_guardian::Error;
-use argus_guardian::log::{Batch, LineError};
+use argus_guardian::log::LineError;
 
 /// What takes the batches of a log that is read.
 pub(crate) trait Takes {
@@ -49,6 +50,8 @@ pub(crate) struct LogReader<T> {
     pub(crate) head: Option<LogHead>,
     /// Whether the last batch was part of an opening, of which more may come.
     pub(crate) is_opening: bool,
+    // The sum of the last batch.
+    sum: u32,
 }
 
 impl<T: Takes> LogReader<T> {
@@ -60,6 +63,7 @@ impl<T: Takes> LogReader<T> {
             position: Position::default(),
             head: None,
             is_opening: false,
+            sum: 0,
         }
     }
 
@@ -82,6 +86,9 @@ impl<T: Takes> LogReader<T> {
         let Some(head) = head else {
             return self.check_new();
         };
+        if self.head.is_some_and(|it| it.name != head.name) {
+            return Err(self.damage(None, "it is another log"));
+        }
         if head.next < self.position.batch || head.entry < self.position.entry {
             return Err(self.damage(None, "the log has gone back"));
         }
@@ -99,6 +106,9 @@ impl<T: Takes> LogReader<T> {
         self.end_opening()?;
         if self.position.entry != head.entry {
             return Err(self.damage(None, "the log's head names another entry"));
+        }
+        if head.next > head.begins && self.sum != head.sum {
+            return Err(self.damage(None, "the log's head has another sum than its last batch"));
         }
         self.position.revision = revision;
         self.head = Some(head);
@@ -146,10 +156,16 @@ impl<T: Takes> LogReader<T> {
         if found.key != self.keys.batch(number).as_bytes() {
             return Err(self.damage(None, "the batch isn't there"));
         }
-        let batch = Batch::read(&found.value);
-        let batch = batch.map_err(|defect| self.damage(None, &defect.to_string()))?;
-        if batch.number != number || batch.epoch < epoch {
+        let Some(batch) = Batch::of(number, &found.value) else {
+            return Err(self.damage(None, "it isn't a batch"));
+        };
+        if batch.epoch < epoch {
             return Err(self.damage(None, "it isn't the batch that comes next"));
+        }
+        self.sum = self.sum_of(&batch, head);
+        if batch.sum != self.sum {
+            let why = "it hasn't the sum that it says: it was changed, or what is before it";
+            return Err(self.damage(None, why));
         }
         self.take_place(&batch, head)?;
         let taken = self.takes.take(&batch);
@@ -158,6 +174,16 @@ impl<T: Takes> LogReader<T> {
         self.position.batch += 1;
         self.position.epoch = batch.epoch;
         Ok(())
+    }
+
+    // Its sum, in the chain, which begins at an opening.
+    fn sum_of(&self, batch: &Batch<'_>, head: LogHead) -> u32 {
+        let before = match (batch.number == head.begins, batch.is_opening) {
+            (true, true) => 0,
+            (true, false) => head.summed(0, 0, b""),
+            (false, _) => self.sum,
+        };
+        head.summed(batch.first, before, summed_lines(batch.lines))
     }
 
     // An opening stands where the log begins, in one batch or in several, and nothing else does after a

@@ -1,7 +1,8 @@
 //! `Replica`: a guardian made from the batches of a log.
 
+use crate::batch::Batch;
 use crate::log_reader::Takes;
-use argus_guardian::log::{Batch, LineError, Recovery};
+use argus_guardian::log::{LineError, Recovery};
 use argus_guardian::{Call, Error, Guardian, Listing};
 
 /// A guardian made from the batches of a log: each call is made again, and its line is compared with the log's. At a

@@ -23,13 +23,13 @@ pub(crate) struct Arguments {
 /// What the program is to do.
 #[derive(Debug, Subcommand)]
 pub(crate) enum Command {
-    /// Serves a bank over a log in files or in etcd
+    /// Serves a bank over a log in a database or in etcd
     Serve(ServeArguments),
-    /// Reads a log in files, makes each call again, and says what is there; changes nothing.
+    /// Reads a log in a database, makes each call again, and says what is there; changes nothing.
     /// Status 0: it is right, 1: it is damaged, 3: there is none, or it can't be read
     Verify {
-        /// The folder of the log
-        folder: PathBuf,
+        /// The database
+        database: PathBuf,
     },
     /// Follows a log in etcd, and serves reads with the position that they reflect
     Follow {
@@ -42,7 +42,7 @@ pub(crate) enum Command {
 
 #[derive(Debug, Args)]
 pub(crate) struct ServeArguments {
-    /// The folder of a log in files
+    /// The database of the log, which is made if it isn't there
     #[arg(long, required_unless_present = "etcd", conflicts_with = "etcd")]
     pub(crate) log: Option<PathBuf>,
     #[command(flatten)]

@@ -3,7 +3,6 @@
 use crate::arguments::ServeArguments;
 use crate::bank::{Bank, is_half_used};
 use crate::bank_error::BankError;
-use crate::figures::Figures;
 use crate::opening::OpenGuardian;
 use crate::order::{Order, OrderOutcome};
 use crate::reply::Reply;
@@ -12,7 +11,6 @@ use crate::server::Service;
 use argus_guardian::log::LoggedError;
 use argus_guardian_etcd::{EtcdError, Leadership};
 use serde_json::json;
-use std::sync::Arc;
 use std::sync::atomic::{AtomicU64, Ordering};
 use std::time::Duration;
 
@@ -26,7 +24,8 @@ const LONGEST_KEY: usize = 128;
 #[derive(Debug)]
 pub(crate) struct BankService {
     bank: Bank,
-    figures: Arc<Figures>,
+    // Replies that said so.
+    doubts: AtomicU64,
     epoch: u64,
     checkpoint: u64,
     // The next entry after the last checkpoint.
@@ -68,7 +67,7 @@ impl BankService {
         let folded = opened.logged.entries().saturating_sub(opened.in_log);
         Ok(BankService {
             bank: Bank::over(opened.logged, asked.keys as usize)?,
-            figures: opened.figures,
+            doubts: AtomicU64::new(0),
             epoch: opened.epoch,
             checkpoint: asked.checkpoint,
             folded: AtomicU64::new(folded),
@@ -84,7 +83,7 @@ impl BankService {
 
     fn failed(&self, error: &BankError) -> Reply {
         if error.is_in_doubt() {
-            self.figures.note_doubt();
+            self.doubts.fetch_add(1, Ordering::Relaxed);
         }
         error.reply()
     }
@@ -136,14 +135,18 @@ impl BankService {
 
     fn metrics(&self) -> Reply {
         let logged = &self.bank.logged;
+        let counts = logged.counts();
         Reply::text(format!(
-            "argus_entries {}\nargus_log_batches_total {}\nargus_log_seconds_total {:.6}\n\
+            "argus_entries {}\nargus_log_batches_total {}\nargus_log_checkpoints_total {}\n\
+             argus_log_bytes_total {}\nargus_log_seconds_total {:.6}\n\
              argus_doubts_total {}\nargus_epoch {}\nargus_live_actions {}\nargus_actions_left {}\n\
              argus_broken {}\n",
             logged.entries(),
-            self.figures.batches(),
-            self.figures.time().as_secs_f64(),
-            self.figures.doubts(),
+            counts.batches,
+            counts.checkpoints,
+            counts.bytes,
+            counts.time.as_secs_f64(),
+            self.doubts.load(Ordering::Relaxed),
             self.epoch,
             logged.live_actions(),
             logged.actions_left(),

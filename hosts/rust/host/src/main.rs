@@ -8,7 +8,6 @@ mod bank;
 mod bank_error;
 mod bank_follower;
 mod bank_service;
-mod figures;
 mod follower_service;
 mod keys;
 mod opening;
@@ -40,7 +39,7 @@ fn signals() -> Result<Arc<AtomicBool>, Box<dyn Error>> {
 
 fn run(command: Command) -> Result<ExitCode, Box<dyn Error>> {
     match command {
-        Command::Verify { folder } => Ok(verifying::verify(&folder)),
+        Command::Verify { database } => Ok(verifying::verify(&database)),
         Command::Serve(asked) => {
             let ends = signals()?;
             let server = Server::begin(&asked.http)?;

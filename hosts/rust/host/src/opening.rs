@@ -1,13 +1,11 @@
-//! `open`: a guardian made again of its log, in files or in etcd.
+//! `open`: a guardian made again of its log, in a database or in etcd.
 
 use crate::arguments::ServeArguments;
-use crate::figures::{Figures, MeasuredLog};
-use argus_guardian::log::{BatchLog, FileLog, Folder, LineError, Logged, Recovery};
-use argus_guardian::{Guardian, Shared};
+use argus_guardian::Shared;
+use argus_guardian::log::{LineError, LogOptions, Logged, Recovery};
 use argus_guardian_etcd::{Campaign, EtcdLog, EtcdOptions, Leadership};
 use std::error::Error;
 use std::path::Path;
-use std::sync::Arc;
 use std::sync::atomic::{AtomicBool, Ordering};
 use std::thread;
 use std::time::Duration;
@@ -17,7 +15,6 @@ const POLL: Duration = Duration::from_millis(100);
 /// A guardian over its log.
 pub(crate) struct OpenGuardian {
     pub(crate) logged: Logged,
-    pub(crate) figures: Arc<Figures>,
     pub(crate) epoch: u64,
     /// How many entries the log has beside its opening.
     pub(crate) in_log: u64,
@@ -30,8 +27,8 @@ pub(crate) fn open(
     asked: &ServeArguments,
     ends: &AtomicBool,
 ) -> Result<Option<OpenGuardian>, Box<dyn Error>> {
-    if let Some(folder) = &asked.log {
-        return open_files(folder).map(Some);
+    if let Some(path) = &asked.log {
+        return open_database(path).map(Some);
     }
     let options = asked.etcd.options()?;
     let Some(leadership) = lead(&options, &asked.name, ends)? else {
@@ -40,18 +37,16 @@ pub(crate) fn open(
     open_etcd(&options, leadership).map(Some)
 }
 
-fn open_files(folder: &Path) -> Result<OpenGuardian, Box<dyn Error>> {
-    let mut recovery = Recovery::new()?;
-    let log = FileLog::read(Folder::open(folder)?, |batch| recovery.take(batch.lines))?;
-    let found = log.found().clone();
-    if let Some(torn) = &found.torn {
-        eprintln!("argus-host: cut off: {torn}");
-    }
-    let guardian = recovery
-        .into_guardian()
-        .map_err(|error| log.not_taken(error))?;
-    log.check_next(guardian.entries())?;
-    resumed(guardian, log.begin()?, found.epoch + 1, found.entries)
+fn open_database(path: &Path) -> Result<OpenGuardian, Box<dyn Error>> {
+    // The service makes checkpoints, where it doesn't keep an order waiting.
+    let options = LogOptions {
+        checkpoint_after: None,
+        ..LogOptions::default()
+    };
+    let logged = options.open_or_create(path)?;
+    let found = logged.found();
+    let (epoch, entries, aborted) = (found.epoch + 1, found.entries, found.aborted);
+    Ok(opened(logged, epoch, entries, aborted))
 }
 
 fn open_etcd(
@@ -73,37 +68,26 @@ fn open_etcd(
             format!("by the log's lines entry {lines} comes next, and by its head entry {head}");
         return Err(why.into());
     }
-    let opened = resumed(guardian, log, leadership.epoch(), entries)?;
+    let (logged, aborted) = Logged::resumed(guardian, Box::new(log), Shared::PATIENCE)?;
+    let opened = opened(logged, leadership.epoch(), entries, aborted);
     Ok(OpenGuardian {
         leadership: Some(leadership),
         ..opened
     })
 }
 
-// The guardian of a log that has so many entries.
-fn resumed(
-    guardian: Guardian,
-    log: impl BatchLog + 'static,
-    epoch: u64,
-    entries: u64,
-) -> Result<OpenGuardian, Box<dyn Error>> {
-    let figures = Arc::new(Figures::default());
-    let log = MeasuredLog {
-        log,
-        figures: Arc::clone(&figures),
-    };
-    let (logged, aborted) = Logged::resumed(guardian, Box::new(log), Shared::PATIENCE)?;
+// The guardian of a log that had so many entries.
+fn opened(logged: Logged, epoch: u64, entries: u64, aborted: u64) -> OpenGuardian {
     eprintln!(
         "argus-host: {} entries, epoch {epoch}; {aborted} of them abort what was live",
         logged.entries()
     );
-    Ok(OpenGuardian {
+    OpenGuardian {
         logged,
-        figures,
         epoch,
         in_log: entries + aborted,
         leadership: None,
-    })
+    }
 }
 
 fn lead(

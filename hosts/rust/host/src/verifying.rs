@@ -1,7 +1,6 @@
 //! `verify`: what stands in a log, by the proved archive.
 
-use argus_guardian::Guardian;
-use argus_guardian::log::{FileLog, Folder, Found, LineError, OpenError, Recovery};
+use argus_guardian::log::{LogFault, LogOptions, OpenError};
 use std::path::Path;
 use std::process::ExitCode;
 
@@ -9,52 +8,33 @@ const DAMAGED: u8 = 1;
 const NOT_READ: u8 = 3;
 
 /// Reads a log, makes each call again and says what is there. Nothing in it is changed.
-pub(crate) fn verify(folder: &Path) -> ExitCode {
-    if !folder.is_dir() {
-        eprintln!("argus-host: {} is no folder", folder.display());
-        return ExitCode::from(NOT_READ);
-    }
-    match read(folder) {
-        Ok((found, _)) if found.segments == 0 => {
-            eprintln!("argus-host: {} has no log", folder.display());
-            ExitCode::from(NOT_READ)
+pub(crate) fn verify(path: &Path) -> ExitCode {
+    let error = match LogOptions::default().check(path) {
+        Ok(found) => {
+            println!("log {}", found.name);
+            println!("batches {}", found.batches);
+            println!("entries {}, the next one is {}", found.entries, found.next);
+            println!("objects {}", found.objects);
+            println!("epoch {}", found.epoch);
+            return ExitCode::SUCCESS;
         }
-        Ok((found, guardian)) => {
-            print_found(&found, &guardian);
-            ExitCode::SUCCESS
-        }
-        Err(error @ OpenError::Damaged(_)) => {
-            println!("{error}");
-            ExitCode::from(DAMAGED)
-        }
-        Err(error) => {
-            eprintln!("argus-host: {error}");
-            ExitCode::from(NOT_READ)
-        }
+        Err(error) => error,
+    };
+    let is_damage = match &error {
+        OpenError::Database(fault, _) => !matches!(
+            fault,
+            LogFault::NoLog
+                | LogFault::NotALog
+                | LogFault::OtherFormat
+                | LogFault::Locked
+                | LogFault::Unreadable
+        ),
+        _ => false,
+    };
+    if is_damage {
+        println!("the log is damaged: {error}");
+        return ExitCode::from(DAMAGED);
     }
-}
-
-fn read(folder: &Path) -> Result<(Found, Guardian), OpenError> {
-    let mut recovery = Recovery::new()?;
-    let log = FileLog::read(Folder::open(folder)?, |batch| recovery.take(batch.lines))?;
-    let guardian = recovery.into_guardian();
-    let guardian = guardian.map_err(|error: LineError| log.not_taken(error))?;
-    log.check_next(guardian.entries())?;
-    Ok((log.found().clone(), guardian))
-}
-
-fn print_found(found: &Found, guardian: &Guardian) {
-    println!("segments {}", found.segments);
-    println!("batches {}", found.batches);
-    println!("entries {}, the next one is {}", found.entries, found.next);
-    println!("objects {}", guardian.objects());
-    println!("epoch {}", found.epoch);
-    if let Some(version) = &found.version {
-        println!("version {version}");
-    }
-    match &found.torn {
-        Some(torn) => println!("torn bytes {}: {torn}", torn.bytes),
-        None => println!("torn bytes 0"),
-    }
-    println!("it is right");
+    eprintln!("argus-host: {error}");
+    ExitCode::from(NOT_READ)
 }

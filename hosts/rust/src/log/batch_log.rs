@@ -1,9 +1,8 @@
-//! `BatchLog`: what keeps a guardian's entries; `EntryLines`, `Opening`: what it is given.
+//! `BatchLog`: what keeps a guardian's entries; `EntryLines`, `ObjectName`, `Opening`: what it is given.
 
 use crate::log::failure::Failure;
 
-/// What keeps a guardian's entries permanently: a [`FileLog`](crate::log::FileLog), or a log that copies them to other
-/// machines.
+/// What keeps a guardian's entries permanently: a database, or etcd.
 ///
 /// After a failure each call returns that failure again, and appends nothing more.
 ///
@@ -38,66 +37,61 @@ pub struct EntryLines {
     first: u64,
     count: u64,
     text: String,
+    pub(crate) names: Vec<ObjectName>,
+}
+
+/// The name of an object, which a log keeps together with the entry that declares it.
+#[derive(Debug, Clone, PartialEq, Eq)]
+pub struct ObjectName {
+    /// The object's number.
+    pub number: u32,
+    /// Its name, which no other object has.
+    pub name: String,
+    /// The shape that it is declared with.
+    pub shape: String,
 }
 
 impl EntryLines {
     /// Lines of which the first one belongs to this entry. `None` if the text doesn't end with a line feed.
-    ///
-    /// ```
-    /// use argus_guardian::log::EntryLines;
-    /// assert!(EntryLines::new(0, String::new()).is_some_and(|none| none.is_empty()));
-    /// ```
     #[must_use]
     pub fn new(first: u64, text: String) -> Option<EntryLines> {
-        if !text.is_empty() && !text.ends_with('\n') {
-            return None;
-        }
-        let count = line_feeds(text.as_bytes());
-        Some(EntryLines { first, count, text })
+        let is_whole = text.is_empty() || text.ends_with('\n');
+        is_whole.then(|| EntryLines {
+            first,
+            count: line_feeds(text.as_bytes()),
+            text,
+            names: Vec::new(),
+        })
     }
 
     /// The number of the first line's entry.
-    ///
-    /// ```
-    /// use argus_guardian::log::EntryLines;
-    /// assert_eq!(EntryLines::default().first(), 0);
-    /// ```
     #[must_use]
     pub fn first(&self) -> u64 {
         self.first
     }
 
     /// The number of the entry after these.
-    ///
-    /// ```
-    /// use argus_guardian::log::EntryLines;
-    /// assert_eq!(EntryLines::default().next(), 0);
-    /// ```
     #[must_use]
     pub fn next(&self) -> u64 {
         self.first.saturating_add(self.count)
     }
 
     /// Whether there are no lines.
-    ///
-    /// ```
-    /// use argus_guardian::log::EntryLines;
-    /// assert!(EntryLines::default().is_empty());
-    /// ```
     #[must_use]
     pub fn is_empty(&self) -> bool {
         self.count == 0
     }
 
     /// The lines, each with its line feed.
-    ///
-    /// ```
-    /// use argus_guardian::log::EntryLines;
-    /// assert_eq!(EntryLines::default().text(), "");
-    /// ```
     #[must_use]
     pub fn text(&self) -> &str {
         &self.text
+    }
+
+    /// Names of objects that are declared by these entries. Only a log in a database gets some.
+    #[must_use]
+    pub fn names(&self) -> &[ObjectName] {
+        &self.names
     }
 }
 
@@ -114,6 +108,7 @@ pub(crate) fn line_feeds(bytes: &[u8]) -> u64 {
 /// let text = "opening entries 4 actions 1\nopening o0 atomic_record[n:int] {5}\n";
 /// let opening = Opening::new(4, text.into()).expect("whole lines");
 /// assert_eq!((opening.next(), opening.text()), (4, text));
+/// assert_eq!(Opening::new(4, "opening entries 4 actions 1".into()), None);
 /// ```
 #[derive(Debug, Clone, PartialEq, Eq)]
 pub struct Opening {
@@ -123,35 +118,18 @@ pub struct Opening {
 
 impl Opening {
     /// The opening with these lines. `None` if the text doesn't end with a line feed.
-    ///
-    /// ```
-    /// use argus_guardian::log::Opening;
-    /// assert_eq!(Opening::new(4, "opening entries 4 actions 1".into()), None);
-    /// ```
     #[must_use]
     pub fn new(next: u64, text: String) -> Option<Opening> {
         text.ends_with('\n').then_some(Opening { next, text })
     }
 
     /// The number of the first entry after it.
-    ///
-    /// ```
-    /// use argus_guardian::log::Opening;
-    /// let opening = Opening::new(4, "opening entries 4 actions 1\n".into()).expect("a whole line");
-    /// assert_eq!(opening.next(), 4);
-    /// ```
     #[must_use]
     pub fn next(&self) -> u64 {
         self.next
     }
 
     /// Its lines, each with its line feed.
-    ///
-    /// ```
-    /// use argus_guardian::log::Opening;
-    /// let opening = Opening::new(4, "opening entries 4 actions 1\n".into()).expect("a whole line");
-    /// assert_eq!(opening.text(), "opening entries 4 actions 1\n");
-    /// ```
     #[must_use]
     pub fn text(&self) -> &str {
         &self.text

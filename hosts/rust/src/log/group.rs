@@ -1,16 +1,32 @@
-//! `Group`: commits that wait for the log together.
+//! `Group`: commits that wait for the log together; `LogCounts`: what the log has done.
 
 use crate::log::batch_log::BatchLog;
 use crate::log::failure::Failure;
-use crate::log::journal_queue::{JournalQueue, Piece};
-use crate::log::progress::{Goal, Progress, Turn};
-use crate::log::step::Step;
+use crate::log::journal_queue::{Goal, JournalQueue, Piece};
 use crate::shared::Shared;
 use std::fmt;
 use std::io;
 use std::sync::atomic::{AtomicBool, Ordering};
-use std::sync::{Mutex, MutexGuard, PoisonError};
-use std::thread::{self, Thread};
+use std::sync::{Condvar, Mutex, MutexGuard, PoisonError};
+use std::thread::{self, ThreadId};
+use std::time::{Duration, Instant};
+
+/// What a log has done since it was opened.
+#[derive(Debug, Clone, Copy, PartialEq, Eq, Default)]
+pub struct LogCounts {
+    /// How many batches it has written.
+    pub batches: u64,
+    /// How many entries these had.
+    pub entries: u64,
+    /// How many bytes their lines and those of openings had.
+    pub bytes: u64,
+    /// How often it has begun again with an opening.
+    pub checkpoints: u64,
+    /// How long it took to write and sync all that.
+    pub time: Duration,
+    /// How many calls were in doubt at their end.
+    pub in_doubt: u64,
+}
 
 /// Commits that wait for the log together. A thread that waits and finds no other one writing takes all lines that the
 /// log hasn't got, and writes them for all; calls go on meanwhile.
@@ -18,7 +34,17 @@ pub(crate) struct Group {
     log: Mutex<Box<dyn BatchLog>>,
     queue: Mutex<JournalQueue>,
     progress: Mutex<Progress>,
+    has_changed: Condvar,
     is_broken: AtomicBool,
+}
+
+// How far the log has come.
+struct Progress {
+    safe: Goal,
+    broken: Option<Failure>,
+    // The thread that writes.
+    writer: Option<ThreadId>,
+    counts: LogCounts,
 }
 
 // A thread that panics is one that was writing, and `WriteTurn` says that the log has failed.
@@ -32,7 +58,13 @@ impl Group {
         Group {
             log: Mutex::new(log),
             queue: Mutex::new(JournalQueue::from(next)),
-            progress: Mutex::new(Progress::at(next)),
+            progress: Mutex::new(Progress {
+                safe: Goal::entry(next),
+                broken: None,
+                writer: None,
+                counts: LogCounts::default(),
+            }),
+            has_changed: Condvar::new(),
             is_broken: AtomicBool::new(false),
         }
     }
@@ -42,81 +74,107 @@ impl Group {
         locked(&self.queue)
     }
 
+    /// What the log has done.
+    pub(crate) fn counts(&self) -> LogCounts {
+        locked(&self.progress).counts
+    }
+
     /// Why the log is broken, if it is.
     pub(crate) fn broken(&self) -> Option<Failure> {
-        if self.is_broken.load(Ordering::Acquire) {
-            locked(&self.progress).broken().cloned()
-        } else {
-            None
-        }
+        let is_broken = self.is_broken.load(Ordering::Acquire);
+        is_broken.then(|| locked(&self.progress).broken.clone())?
     }
 
     /// Returns when the goal is reached.
     pub(crate) fn wait(&self, shared: &Shared, goal: Goal) -> Result<(), Failure> {
-        loop {
-            let turn = locked(&self.progress).turn(goal);
-            match turn {
-                Turn::Done => return Ok(()),
-                Turn::Failed(failure) => return Err(failure),
-                Turn::Park => thread::park(),
-                Turn::Write => self.write(shared),
+        let this = thread::current().id();
+        let mut progress = locked(&self.progress);
+        while !progress.safe.includes(goal) {
+            if let Some(failure) = progress.broken.clone() {
+                progress.counts.in_doubt += 1;
+                return Err(failure);
             }
+            progress = if let Some(writer) = progress.writer {
+                assert!(
+                    writer != this,
+                    "a log that is being written waits for its own guardian, and so for itself"
+                );
+                let waited = self.has_changed.wait(progress);
+                waited.unwrap_or_else(PoisonError::into_inner)
+            } else {
+                progress.writer = Some(this);
+                drop(progress);
+                self.write(shared);
+                locked(&self.progress)
+            };
         }
+        Ok(())
     }
 
     // Writes the next piece, in the turn of this thread.
     fn write(&self, shared: &Shared) {
         let mut turn = WriteTurn {
             group: self,
-            outcome: Err(panicked()),
+            written: Err(io::Error::other("the thread that wrote panicked").into()),
         };
-        turn.outcome = self.write_piece(shared);
+        turn.written = self.write_piece(shared);
     }
 
-    fn write_piece(&self, shared: &Shared) -> Result<Option<(u64, bool)>, Failure> {
+    fn write_piece(&self, shared: &Shared) -> Result<Option<(Piece, Duration)>, Failure> {
         let piece = shared.lend(|guardian| self.queue().next_piece(guardian));
-        let piece =
-            piece.map_err(|error| Failure::new(Step::TakeLines, io::Error::other(error)))?;
         let mut log = locked(&self.log);
+        let started = Instant::now();
+        let piece = piece.map_err(io::Error::other)?;
         match &piece {
             Some(Piece::Lines(lines)) => log.append(lines)?,
             Some(Piece::Opening(opening)) => log.restart(opening)?,
-            None => return Ok(None),
+            None => {}
         }
-        let is_opening = matches!(piece, Some(Piece::Opening(_)));
-        Ok(piece.map(|it| (it.next(), is_opening)))
+        Ok(piece.map(|it| (it, started.elapsed())))
     }
 }
 
-fn panicked() -> Failure {
-    Failure::new(
-        Step::Other,
-        io::Error::other("the thread that wrote panicked"),
-    )
+impl Progress {
+    fn advance(&mut self, piece: &Piece, time: Duration) {
+        let counts = &mut self.counts;
+        counts.time += time;
+        match piece {
+            Piece::Lines(lines) => {
+                self.safe.entry = lines.next();
+                counts.batches += 1;
+                counts.entries += lines.next() - lines.first();
+                counts.bytes += lines.text().len() as u64;
+            }
+            Piece::Opening(opening) => {
+                self.safe.openings += 1;
+                counts.checkpoints += 1;
+                counts.bytes += opening.text().len() as u64;
+            }
+        }
+    }
 }
 
 // The turn of a thread that writes; when it ends it wakes the others, after a panic too.
 struct WriteTurn<'g> {
     group: &'g Group,
-    outcome: Result<Option<(u64, bool)>, Failure>,
+    written: Result<Option<(Piece, Duration)>, Failure>,
 }
 
 impl Drop for WriteTurn<'_> {
     fn drop(&mut self) {
         let mut progress = locked(&self.group.progress);
-        match &self.outcome {
-            Ok(Some((safe, is_opening))) => progress.advance(*safe, *is_opening),
+        progress.writer = None;
+        match &self.written {
+            Ok(Some((piece, time))) => progress.advance(piece, *time),
             // There was nothing to write.
             Ok(None) => {}
             Err(failure) => {
                 self.group.is_broken.store(true, Ordering::Release);
-                progress.fail(failure.clone());
+                progress.broken = Some(failure.clone());
             }
         }
-        let woken = progress.end_writing();
-        // Each of them looks at the progress.
         drop(progress);
-        woken.iter().for_each(Thread::unpark);
+        self.group.has_changed.notify_all();
     }
 }
 

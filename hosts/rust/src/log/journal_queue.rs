@@ -4,8 +4,7 @@ use crate::Listing;
 use crate::checkpoint_error::CheckpointError;
 use crate::error::Error;
 use crate::guardian::Guardian;
-use crate::log::batch_log::{EntryLines, Opening};
-use crate::log::progress::Goal;
+use crate::log::batch_log::{EntryLines, ObjectName, Opening};
 use crate::shared::Shared;
 use std::collections::VecDeque;
 
@@ -15,21 +14,30 @@ const PIECE: usize = 256 * 1024;
 // What each line of an opening begins with, and no entry's line.
 const OPENING: &str = "opening ";
 
+/// What a thread waits for: that all entries before this one are in the log, and so many openings.
+#[derive(Debug, Clone, Copy, PartialEq, Eq)]
+pub(crate) struct Goal {
+    pub(crate) entry: u64,
+    pub(crate) openings: u64,
+}
+
+impl Goal {
+    /// All entries before this one.
+    pub(crate) fn entry(entry: u64) -> Goal {
+        Goal { entry, openings: 0 }
+    }
+
+    /// Whether the other goal is reached when this one is.
+    pub(crate) fn includes(self, other: Goal) -> bool {
+        other.entry <= self.entry && other.openings <= self.openings
+    }
+}
+
 /// What goes to the log next.
 #[derive(Debug)]
 pub(crate) enum Piece {
     Lines(EntryLines),
     Opening(Opening),
-}
-
-impl Piece {
-    /// The number of the first entry after it.
-    pub(crate) fn next(&self) -> u64 {
-        match self {
-            Piece::Lines(lines) => lines.next(),
-            Piece::Opening(opening) => opening.next(),
-        }
-    }
 }
 
 /// What has been taken out of a guardian's journal, and what of that the log hasn't got yet. It is used only while the
@@ -43,6 +51,8 @@ pub(crate) struct JournalQueue {
     folds: u64,
     // Whether the opening of the last fold hasn't been taken yet.
     owes_opening: bool,
+    // Names, each with the number of entries that there have to be before it counts.
+    names: Vec<(u64, ObjectName)>,
     room: Vec<u8>,
 }
 
@@ -54,8 +64,14 @@ impl JournalQueue {
             pieces: VecDeque::new(),
             folds: 0,
             owes_opening: false,
+            names: Vec::new(),
             room: vec![0; PIECE],
         }
+    }
+
+    /// An object that was declared just now, as the last one of so many entries, has this name.
+    pub(crate) fn name(&mut self, entries: u64, name: ObjectName) {
+        self.names.push((entries, name));
     }
 
     /// The next piece. `None`: the log has all.
@@ -69,9 +85,12 @@ impl JournalQueue {
 
     // Takes as many lines as fit into a piece.
     fn take(&mut self, guardian: &Guardian) -> Result<(), Error> {
-        let lines = guardian.lines_in(&mut self.room, self.next)?;
+        let mut lines = lines_in(guardian, &mut self.room, self.next)?;
         self.next = lines.next();
         if !lines.is_empty() {
+            let named = self.names.iter().take_while(|it| it.0 <= self.next);
+            let named = self.names.drain(..named.count()).map(|it| it.1);
+            lines.names = named.collect();
             self.pieces.push_back(Piece::Lines(lines));
         }
         Ok(())
@@ -112,4 +131,21 @@ impl JournalQueue {
             openings: self.folds,
         })
     }
+}
+
+// The lines of the entries from this number on, as many as fit into the room; at least one, if there are any, for
+// which the room is made larger.
+fn lines_in(guardian: &Guardian, room: &mut Vec<u8>, from: u64) -> Result<EntryLines, Error> {
+    let mut lines = guardian.lines(from, room)?;
+    if lines.count == 0 && lines.size > 0 {
+        let more = lines.size.saturating_sub(room.len());
+        room.try_reserve(more).map_err(|_| Error::OutOfMemory)?;
+        room.resize(lines.size, 0);
+        lines = guardian.lines(from, room)?;
+    }
+    let text = room.get(..lines.size).map(<[u8]>::to_vec);
+    let text = text.and_then(|it| String::from_utf8(it).ok());
+    let read = text.and_then(|it| EntryLines::new(from, it));
+    read.filter(|it| it.next() - from == lines.count)
+        .ok_or(Error::OtherAnswer)
 }

@@ -5,20 +5,27 @@ use crate::content::Content;
 use crate::error::Error;
 use crate::guardian::Guardian;
 use crate::listing::Listing;
-use crate::log::batch_log::BatchLog;
+use crate::log::batch_log::{BatchLog, EntryLines, ObjectName, Opening};
 use crate::log::failure::Failure;
-use crate::log::group::Group;
+use crate::log::group::{Group, LogCounts};
+use crate::log::journal_queue::Goal;
 use crate::log::logged_action::LoggedAction;
 use crate::log::logged_error::LoggedError;
-use crate::log::progress::Goal;
+use crate::log::open_error::OpenError;
 use crate::object::Object;
 use crate::retrying::{MayConflict, waits};
 use crate::shared::Shared;
 use crate::shared_action::SharedAction;
 use crate::{ActionId, ObjId};
-use std::iter;
-use std::thread;
+use std::collections::HashMap;
+use std::sync::atomic::{AtomicU64, Ordering};
+use std::sync::{Mutex, PoisonError};
 use std::time::Duration;
+use std::{iter, thread};
+
+// How long a checkpoint that a log makes by itself holds back topactions; and after how many entries it tries again.
+const PATIENCE: Duration = Duration::from_millis(100);
+const AGAIN: u64 = 10_000;
 
 /// A guardian that threads share, and whose journal's entries go to a log.
 ///
@@ -36,16 +43,24 @@ use std::time::Duration;
 /// **None of this is proved**, except the guardian's replies and the call that restores it from its log's lines.
 ///
 /// ```
-/// use argus_guardian::{Change, Content, Value};
-/// use argus_guardian::log::{FileLog, Logged, LoggedError, MemoryStorage};
-/// use std::time::Duration;
-/// # let log = FileLog::read(MemoryStorage::default(), |_| Ok(())).expect("read").begin().expect("begun");
-/// let bank = Logged::over(argus_guardian::Guardian::new()?, Box::new(log), Duration::from_secs(1));
-/// let account = bank.declare("atomic_record[balance:int]")?;
-/// let top = bank.topaction()?;
-/// top.alter(account, Change::Create(Content::Record(vec![Value::Int(5)])))?.done()?;
-/// top.commit()?; // it is in the log
+/// use argus_guardian::Change;
+/// use argus_guardian::log::{Logged, LoggedError};
+/// # let bank = Logged::in_memory()?;
+/// # #[cfg(feature = "sqlite")] {
+/// # let path = std::env::temp_dir().join(format!("argus-bank-{}.db", std::process::id()));
+/// let bank = Logged::open_or_create(&path).expect("a new log, or all that the log has");
+/// let account = bank.declare_named("account", "atomic_record[balance:int]")?;
+/// if bank.base(account)?.is_none() {
+///     bank.run(|top| {
+///         let five = Change::Create("{5}".parse()?);
+///         Ok::<_, LoggedError>(top.alter(account, five)?.done()?)
+///     })?; // Ok: it is on disk
+/// }
 /// assert_eq!(bank.base(account)?, Some("{5}".parse()?));
+/// # drop(bank);
+/// # std::fs::remove_file(&path).expect("removed");
+/// # std::fs::remove_file(path.with_extension("db-owner")).expect("removed");
+/// # }
 /// # Ok::<(), LoggedError>(())
 /// ```
 ///
@@ -57,7 +72,6 @@ use std::time::Duration;
 /// ```
 /// use argus_guardian::log::{Logged, LoggedAction, LoggedError};
 /// use argus_guardian::{Change, ObjId};
-/// # use argus_guardian::log::{LoggedOptions, MemoryStorage};
 ///
 /// fn once(
 ///     bank: &Logged,
@@ -74,9 +88,8 @@ use std::time::Duration;
 ///         top.set(last, 0, number)
 ///     })
 /// }
-/// # let (bank, _) = Logged::open_in(MemoryStorage::default(), LoggedOptions::default())?;
-/// # let last = bank.declare("atomic_record[number:int]")?;
-/// # let paid = bank.declare("atomic_record[sum:int]")?;
+/// # let bank = Logged::in_memory()?;
+/// # let [last, paid] = [(); 2].map(|()| bank.declare("atomic_record[n:int]").expect("declared"));
 /// # bank.run(|top| {
 /// #     for record in [last, paid] {
 /// #         top.alter(record, Change::Create("{0}".parse()?))?.done()?;
@@ -84,33 +97,62 @@ use std::time::Duration;
 /// #     Ok::<_, LoggedError>(())
 /// # })?;
 ///
-/// let pay = |top: &LoggedAction<'_>| {
-///     top.lock(paid)?;
-///     let sum = i64::try_from(top.get(paid, 0)?)?;
-///     top.set(paid, 0, sum + 70)
-/// };
+/// let pay = |top: &LoggedAction<'_>| top.set(paid, 0, i64::try_from(top.get(paid, 0)?)? + 70);
 /// once(&bank, last, 1, pay)?;
 /// once(&bank, last, 1, pay)?; // sent again
 /// assert_eq!(bank.base(paid)?, Some("{70}".parse()?));
-/// # Ok::<(), Box<dyn std::error::Error>>(())
+/// # Ok::<(), LoggedError>(())
 /// ```
 #[derive(Debug)]
 pub struct Logged {
-    pub(crate) shared: Shared,
-    pub(crate) group: Group,
+    shared: Shared,
+    group: Group,
+    // The numbers of objects by their names, if the log keeps any.
+    pub(crate) names: Option<Mutex<HashMap<String, u32>>>,
+    // After so many entries it makes a checkpoint by itself.
+    pub(crate) checkpoint_after: Option<u64>,
+    // The number of the first entry since the last checkpoint; and that before which no other one is tried.
+    begins: AtomicU64,
+    again_at: AtomicU64,
+    // The database, and what was found there.
+    #[cfg(feature = "sqlite")]
+    pub(crate) found: crate::log::log_options::LogFound,
+}
+
+// A log that forgets.
+struct Forgetting;
+
+impl BatchLog for Forgetting {
+    fn append(&mut self, _: &EntryLines) -> Result<(), Failure> {
+        Ok(())
+    }
+
+    fn restart(&mut self, _: &Opening) -> Result<(), Failure> {
+        Ok(())
+    }
 }
 
 impl Logged {
-    /// A guardian over a log that has all of its entries. Accesses wait for their locks at most for this patience.
+    /// A new guardian whose log forgets: for tests of a program.
+    ///
+    /// # Errors
+    ///
+    /// As for [`Guardian::new`].
     ///
     /// ```
-    /// use argus_guardian::Guardian;
-    /// use argus_guardian::log::{FileLog, Logged, MemoryStorage};
-    /// use std::time::Duration;
-    /// let log = FileLog::read(MemoryStorage::default(), |_| Ok(())).expect("read").begin().expect("begun");
-    /// Logged::over(Guardian::new()?, Box::new(log), Duration::ZERO).topaction()?.commit()?;
+    /// argus_guardian::log::Logged::in_memory()?.topaction()?.commit()?;
     /// # Ok::<(), argus_guardian::log::LoggedError>(())
     /// ```
+    pub fn in_memory() -> Result<Logged, Error> {
+        let guardian = Guardian::new()?;
+        Ok(Logged::over(
+            guardian,
+            Box::new(Forgetting),
+            Shared::PATIENCE,
+        ))
+    }
+
+    /// A guardian over a log that has all of its entries. Accesses wait for their locks at most for this patience.
     #[must_use]
     pub fn over(guardian: Guardian, log: Box<dyn BatchLog>, patience: Duration) -> Logged {
         let next = guardian.entries();
@@ -118,16 +160,42 @@ impl Logged {
     }
 
     // A guardian over a log that has its entries up to this one.
-    pub(crate) fn over_from(
+    fn over_from(
         guardian: Guardian,
         log: Box<dyn BatchLog>,
         next: u64,
         patience: Duration,
     ) -> Logged {
         Logged {
+            names: None,
+            checkpoint_after: None,
+            begins: AtomicU64::new(guardian.first_entry()),
+            again_at: AtomicU64::new(0),
+            #[cfg(feature = "sqlite")]
+            found: crate::log::log_options::LogFound::default(),
             shared: Shared::new(guardian, patience),
             group: Group::new(log, next),
         }
+    }
+
+    /// Takes a guardian that a [`Recovery`](crate::log::Recovery) has restored from this log's lines: aborts what is
+    /// live, and returns when the log has that, with the number of entries that it took. Check first that the
+    /// guardian's next entry is the log's.
+    ///
+    /// # Errors
+    ///
+    /// [`OpenError::Guardian`]; [`OpenError::Broken`].
+    pub fn resumed(
+        guardian: Guardian,
+        log: Box<dyn BatchLog>,
+        patience: Duration,
+    ) -> Result<(Logged, u64), OpenError> {
+        let next = guardian.entries();
+        guardian.abort_live()?;
+        let entries = guardian.entries();
+        let logged = Logged::over_from(guardian, log, next, patience);
+        logged.group.wait(&logged.shared, Goal::entry(entries))?;
+        Ok((logged, entries - next))
     }
 
     // The guardian, unless the log is broken.
@@ -143,15 +211,6 @@ impl Logged {
     /// # Errors
     ///
     /// As for [`Shared::topaction`]; [`LoggedError::Broken`].
-    ///
-    /// ```
-    /// # use argus_guardian::log::{FileLog, Logged, MemoryStorage};
-    /// # let log = FileLog::read(MemoryStorage::default(), |_| Ok(())).expect("read").begin().expect("begun");
-    /// # let patience = std::time::Duration::ZERO;
-    /// # let logged = Logged::over(argus_guardian::Guardian::new()?, Box::new(log), patience);
-    /// logged.topaction()?.commit()?;
-    /// # Ok::<(), argus_guardian::log::LoggedError>(())
-    /// ```
     pub fn topaction(&self) -> Result<LoggedAction<'_>, LoggedError> {
         let action = self.shared()?.topaction()?;
         Ok(LoggedAction::outer(self, action))
@@ -163,37 +222,23 @@ impl Logged {
     /// # Errors
     ///
     /// As for [`Shared::run`]; [`LoggedError::Broken`]; [`LoggedError::InDoubt`], after which it isn't tried again.
-    ///
-    /// ```
-    /// # use argus_guardian::log::{FileLog, Logged, LoggedError, MemoryStorage};
-    /// # let log = FileLog::read(MemoryStorage::default(), |_| Ok(())).expect("read").begin().expect("begun");
-    /// # let patience = std::time::Duration::ZERO;
-    /// # let logged = Logged::over(argus_guardian::Guardian::new()?, Box::new(log), patience);
-    /// let list = logged.declare("atomic_array[int]")?;
-    /// logged.run(|top| top.test_write(list))?;
-    /// # Ok::<(), LoggedError>(())
-    /// ```
     pub fn run<T, E: From<LoggedError> + MayConflict>(
         &self,
         mut work: impl FnMut(&LoggedAction<'_>) -> Result<T, E>,
     ) -> Result<T, E> {
+        let mut once = || {
+            let top = self.topaction()?;
+            let result = work(&top)?;
+            top.commit()?;
+            Ok(result)
+        };
         for wait in waits(Shared::TRIES - 1) {
-            match self.run_once(&mut work) {
-                Err(error) if error.is_conflict() => thread::sleep(wait),
+            match once() {
+                Err(error) if E::is_conflict(&error) => thread::sleep(wait),
                 result => return result,
             }
         }
-        self.run_once(&mut work)
-    }
-
-    fn run_once<T, E: From<LoggedError>>(
-        &self,
-        work: &mut impl FnMut(&LoggedAction<'_>) -> Result<T, E>,
-    ) -> Result<T, E> {
-        let top = self.topaction()?;
-        let result = work(&top)?;
-        top.commit()?;
-        Ok(result)
+        once()
     }
 
     /// Declares an object of this shape. Its number is acknowledged.
@@ -201,15 +246,6 @@ impl Logged {
     /// # Errors
     ///
     /// As for [`Guardian::declare`]; [`LoggedError::Broken`]; [`LoggedError::InDoubt`].
-    ///
-    /// ```
-    /// # use argus_guardian::log::{FileLog, Logged, MemoryStorage};
-    /// # let log = FileLog::read(MemoryStorage::default(), |_| Ok(())).expect("read").begin().expect("begun");
-    /// # let patience = std::time::Duration::ZERO;
-    /// # let logged = Logged::over(argus_guardian::Guardian::new()?, Box::new(log), patience);
-    /// assert_eq!(logged.declare("atomic_array[int]")?, argus_guardian::ObjId::numbered(0));
-    /// # Ok::<(), argus_guardian::log::LoggedError>(())
-    /// ```
     pub fn declare(&self, shape: &str) -> Result<ObjId, LoggedError> {
         self.acknowledged(|guardian| guardian.declare(shape))
     }
@@ -219,23 +255,49 @@ impl Logged {
     /// # Errors
     ///
     /// As for [`declare`](Self::declare); the objects before the one that failed are declared.
-    ///
-    /// ```
-    /// # use argus_guardian::log::{FileLog, Logged, MemoryStorage};
-    /// # let log = FileLog::read(MemoryStorage::default(), |_| Ok(())).expect("read").begin().expect("begun");
-    /// # let patience = std::time::Duration::ZERO;
-    /// # let logged = Logged::over(argus_guardian::Guardian::new()?, Box::new(log), patience);
-    /// let shapes = ["atomic_array[int]", "atomic_record[n:int]"];
-    /// assert_eq!(logged.declare_each(shapes)?.len(), 2);
-    /// # Ok::<(), argus_guardian::log::LoggedError>(())
-    /// ```
     pub fn declare_each<'t>(
         &self,
         shapes: impl IntoIterator<Item = &'t str>,
     ) -> Result<Vec<ObjId>, LoggedError> {
         // Not while the mutex is held, which would call the iterator.
         let shapes: Vec<&str> = shapes.into_iter().collect();
-        self.acknowledged(|guardian| shapes.iter().map(|shape| guardian.declare(shape)).collect())
+        self.acknowledged(|guardian| shapes.iter().map(|it| guardian.declare(it)).collect())
+    }
+
+    /// Finds the object of this name; if there is none, declares one of this shape. Its number and its name are
+    /// acknowledged. So a program keeps names, and no numbers, from one start to the next.
+    ///
+    /// # Errors
+    ///
+    /// As for [`declare`](Self::declare); [`LoggedError::OtherShape`]; [`LoggedError::NoNames`] if the log isn't in a
+    /// database.
+    pub fn declare_named(&self, name: &str, shape: &str) -> Result<ObjId, LoggedError> {
+        let shared = self.shared()?;
+        let names = self.names.as_ref().ok_or(LoggedError::NoNames)?;
+        let mut names = names.lock().unwrap_or_else(PoisonError::into_inner);
+        if let Some(number) = names.get(name) {
+            let id = ObjId::numbered(*number);
+            let (id, has) =
+                shared.lend(|it| it.object(id).and_then(|own| Ok((own.id(), it.shape(id)?))))?;
+            return if has == shape {
+                Ok(id)
+            } else {
+                Err(LoggedError::OtherShape(has))
+            };
+        }
+        let (id, entries) = shared.lend(|guardian| {
+            let id = guardian.declare(shape)?;
+            let name = ObjectName {
+                number: id.number(),
+                name: name.to_owned(),
+                shape: shape.to_owned(),
+            };
+            self.group.queue().name(guardian.entries(), name);
+            Ok::<_, Error>((id, guardian.entries()))
+        })?;
+        self.wait(Goal::entry(entries))?;
+        names.insert(name.to_owned(), id.number());
+        Ok(id)
     }
 
     /// The object's base, which is acknowledged; `None` if it has no content yet.
@@ -243,16 +305,6 @@ impl Logged {
     /// # Errors
     ///
     /// As for [`Guardian::base`]; [`LoggedError::Broken`]; [`LoggedError::InDoubt`].
-    ///
-    /// ```
-    /// # use argus_guardian::log::{FileLog, Logged, MemoryStorage};
-    /// # let log = FileLog::read(MemoryStorage::default(), |_| Ok(())).expect("read").begin().expect("begun");
-    /// # let patience = std::time::Duration::ZERO;
-    /// # let logged = Logged::over(argus_guardian::Guardian::new()?, Box::new(log), patience);
-    /// let list = logged.declare("atomic_array[int]")?;
-    /// assert_eq!(logged.base(list)?, None);
-    /// # Ok::<(), argus_guardian::log::LoggedError>(())
-    /// ```
     pub fn base(&self, object: ObjId) -> Result<Option<Content>, LoggedError> {
         self.acknowledged(|guardian| guardian.base(object))
     }
@@ -262,16 +314,6 @@ impl Logged {
     /// # Errors
     ///
     /// As for [`Guardian::object`]; [`LoggedError::Broken`]; [`LoggedError::InDoubt`].
-    ///
-    /// ```
-    /// # use argus_guardian::log::{FileLog, Logged, MemoryStorage};
-    /// # let log = FileLog::read(MemoryStorage::default(), |_| Ok(())).expect("read").begin().expect("begun");
-    /// # let patience = std::time::Duration::ZERO;
-    /// # let logged = Logged::over(argus_guardian::Guardian::new()?, Box::new(log), patience);
-    /// let account = logged.declare("atomic_record[balance:int]")?;
-    /// assert_eq!(logged.object(account)?.names(), ["balance"]);
-    /// # Ok::<(), argus_guardian::log::LoggedError>(())
-    /// ```
     pub fn object(&self, object: ObjId) -> Result<Object, LoggedError> {
         self.acknowledged(|guardian| guardian.object(object))
     }
@@ -281,16 +323,6 @@ impl Logged {
     /// # Errors
     ///
     /// As for [`Guardian::list`]; [`LoggedError::Broken`]; [`LoggedError::InDoubt`].
-    ///
-    /// ```
-    /// # use argus_guardian::Listing;
-    /// # use argus_guardian::log::{FileLog, Logged, MemoryStorage};
-    /// # let log = FileLog::read(MemoryStorage::default(), |_| Ok(())).expect("read").begin().expect("begun");
-    /// # let patience = std::time::Duration::ZERO;
-    /// # let logged = Logged::over(argus_guardian::Guardian::new()?, Box::new(log), patience);
-    /// assert_eq!(logged.list(Listing::Bases)?, "");
-    /// # Ok::<(), argus_guardian::log::LoggedError>(())
-    /// ```
     pub fn list(&self, listing: Listing) -> Result<String, LoggedError> {
         self.acknowledged(|guardian| guardian.list(listing))
     }
@@ -300,48 +332,17 @@ impl Logged {
     /// # Errors
     ///
     /// [`LoggedError::Broken`]; [`LoggedError::InDoubt`].
-    ///
-    /// ```
-    /// # use argus_guardian::log::{FileLog, Logged, MemoryStorage};
-    /// # let log = FileLog::read(MemoryStorage::default(), |_| Ok(())).expect("read").begin().expect("begun");
-    /// # let patience = std::time::Duration::ZERO;
-    /// # let logged = Logged::over(argus_guardian::Guardian::new()?, Box::new(log), patience);
-    /// assert_eq!(logged.objects()?, 0);
-    /// # Ok::<(), argus_guardian::log::LoggedError>(())
-    /// ```
     pub fn objects(&self) -> Result<u32, LoggedError> {
         self.acknowledged(|guardian| Ok(guardian.objects()))
     }
 
     /// How many entries the journal has had. They may not be in the log yet.
-    ///
-    /// ```
-    /// # use argus_guardian::log::{FileLog, Logged, MemoryStorage};
-    /// # let log = FileLog::read(MemoryStorage::default(), |_| Ok(())).expect("read").begin().expect("begun");
-    /// # let patience = std::time::Duration::ZERO;
-    /// # let logged = Logged::over(argus_guardian::Guardian::new()?, Box::new(log), patience);
-    /// logged.topaction()?.commit()?;
-    /// assert_eq!(logged.entries(), 2);
-    /// # Ok::<(), argus_guardian::log::LoggedError>(())
-    /// ```
     #[must_use]
     pub fn entries(&self) -> u64 {
         self.shared.lend(Guardian::entries)
     }
 
     /// How many actions are live. They may not be in the log yet.
-    ///
-    /// ```
-    /// # use argus_guardian::log::{FileLog, Logged, MemoryStorage};
-    /// # let log = FileLog::read(MemoryStorage::default(), |_| Ok(())).expect("read").begin().expect("begun");
-    /// # let patience = std::time::Duration::ZERO;
-    /// # let logged = Logged::over(argus_guardian::Guardian::new()?, Box::new(log), patience);
-    /// let top = logged.topaction()?;
-    /// let sub = top.subaction()?;
-    /// assert_eq!(logged.live_actions(), 2);
-    /// # drop(sub);
-    /// # Ok::<(), argus_guardian::log::LoggedError>(())
-    /// ```
     #[must_use]
     pub fn live_actions(&self) -> usize {
         self.shared.lend(|guardian| {
@@ -351,17 +352,6 @@ impl Logged {
     }
 
     /// How many actions can begin until a checkpoint renews their numbers.
-    ///
-    /// ```
-    /// # use argus_guardian::log::{FileLog, Logged, MemoryStorage};
-    /// # let log = FileLog::read(MemoryStorage::default(), |_| Ok(())).expect("read").begin().expect("begun");
-    /// # let patience = std::time::Duration::ZERO;
-    /// # let logged = Logged::over(argus_guardian::Guardian::new()?, Box::new(log), patience);
-    /// let left = logged.actions_left();
-    /// logged.topaction()?.commit()?;
-    /// assert_eq!(logged.actions_left(), left - 1);
-    /// # Ok::<(), argus_guardian::log::LoggedError>(())
-    /// ```
     #[must_use]
     pub fn actions_left(&self) -> u32 {
         self.shared.lend(Guardian::actions_left)
@@ -375,13 +365,12 @@ impl Logged {
         let asked = |guardian: &Guardian| (what(guardian), guardian.entries());
         let (answer, entries) = self.shared()?.lend(asked);
         let answer = answer?;
-        self.wait(entries)?;
+        self.wait(Goal::entry(entries))?;
         Ok(answer)
     }
 
-    // Returns when the log has all entries before this one.
-    fn wait(&self, entry: u64) -> Result<(), LoggedError> {
-        let goal = Goal::entry(entry);
+    // Returns when the log has that.
+    fn wait(&self, goal: Goal) -> Result<(), LoggedError> {
         let waited = self.group.wait(&self.shared, goal);
         waited.map_err(LoggedError::InDoubt)
     }
@@ -392,55 +381,60 @@ impl Logged {
     /// # Errors
     ///
     /// [`LoggedError::Broken`]; [`LoggedError::InDoubt`].
-    ///
-    /// ```
-    /// # use argus_guardian::log::{FileLog, Logged, MemoryStorage};
-    /// # let log = FileLog::read(MemoryStorage::default(), |_| Ok(())).expect("read").begin().expect("begun");
-    /// # let patience = std::time::Duration::ZERO;
-    /// # let logged = Logged::over(argus_guardian::Guardian::new()?, Box::new(log), patience);
-    /// logged.topaction()?.abort()?;
-    /// logged.barrier()?;
-    /// # Ok::<(), argus_guardian::log::LoggedError>(())
-    /// ```
     pub fn barrier(&self) -> Result<(), LoggedError> {
         self.shared()?;
-        self.wait(self.entries())
+        self.wait(Goal::entry(self.entries()))
     }
 
     /// Folds the journal when no action is live, and starts the log again with what the objects hold: its old entries
     /// are removed. Until then it holds back each [`topaction`](Self::topaction), at most for this patience.
     ///
+    /// A log in a database does so by itself, too (`LogOptions::checkpoint_after`).
+    ///
     /// # Errors
     ///
     /// As for [`Shared::checkpoint_waiting`]: the log goes on as it was, except that after `OutOfMemory` it may start
     /// again with the next commit. [`LoggedError::Broken`]; [`LoggedError::InDoubt`].
-    ///
-    /// ```
-    /// # use argus_guardian::log::{FileLog, Logged, MemoryStorage};
-    /// # use std::time::Duration;
-    /// # let log = FileLog::read(MemoryStorage::default(), |_| Ok(())).expect("read").begin().expect("begun");
-    /// # let logged = Logged::over(argus_guardian::Guardian::new()?, Box::new(log), Duration::ZERO);
-    /// logged.topaction()?.commit()?;
-    /// logged.checkpoint_waiting(Duration::from_secs(1))?;
-    /// # Ok::<(), argus_guardian::log::LoggedError>(())
-    /// ```
     pub fn checkpoint_waiting(&self, patience: Duration) -> Result<(), LoggedError> {
         let fold = |guardian: &Guardian| self.group.queue().fold(guardian);
         let goal: Result<Goal, CheckpointError> = self.shared()?.fold_waiting(patience, fold);
-        let waited = self.group.wait(&self.shared, goal?);
-        waited.map_err(LoggedError::InDoubt)
+        let goal = goal?;
+        self.begins.store(goal.entry, Ordering::Relaxed);
+        self.wait(goal)
+    }
+
+    // Where so many entries are in the log, and so many actions have begun. What comes of the checkpoint isn't reported,
+    // since what was committed is in the log. A later commit tries again.
+    pub(crate) fn checkpoint_if_due(&self, entries: u64, actions: u32) {
+        let Some(after) = self.checkpoint_after else {
+            return;
+        };
+        let grown = entries.saturating_sub(self.begins.load(Ordering::Relaxed));
+        let is_due = grown >= after || actions >= Guardian::MAX_ACTIONS / 2;
+        // One thread makes it.
+        let next = |at| (is_due && entries >= at).then_some(entries + AGAIN.min(after));
+        let claimed = self
+            .again_at
+            .fetch_update(Ordering::Relaxed, Ordering::Relaxed, next);
+        if claimed.is_ok() {
+            let _ = self.checkpoint_waiting(PATIENCE);
+        }
+    }
+
+    /// What the log has done since it was opened.
+    ///
+    /// ```
+    /// # let logged = argus_guardian::log::Logged::in_memory()?;
+    /// logged.topaction()?.commit()?;
+    /// assert_eq!((logged.counts().batches, logged.counts().entries), (1, 2));
+    /// # Ok::<(), argus_guardian::log::LoggedError>(())
+    /// ```
+    #[must_use]
+    pub fn counts(&self) -> LogCounts {
+        self.group.counts()
     }
 
     /// Why the log is broken, if it is.
-    ///
-    /// ```
-    /// # use argus_guardian::log::{FileLog, Logged, MemoryStorage};
-    /// # let log = FileLog::read(MemoryStorage::default(), |_| Ok(())).expect("read").begin().expect("begun");
-    /// # let patience = std::time::Duration::ZERO;
-    /// # let logged = Logged::over(argus_guardian::Guardian::new()?, Box::new(log), patience);
-    /// assert!(logged.broken().is_none());
-    /// # Ok::<(), argus_guardian::log::LoggedError>(())
-    /// ```
     #[must_use]
     pub fn broken(&self) -> Option<Failure> {
         self.group.broken()
@@ -449,6 +443,12 @@ impl Logged {
     // Commits an outer action, and returns when that is in the log.
     pub(crate) fn commit(&self, action: SharedAction<'_>) -> Result<(), LoggedError> {
         self.shared()?;
-        self.wait(action.commit_counted()?)
+        let (number, is_top) = (action.id().number(), !action.is_nested());
+        let entries = action.commit_counted()?;
+        self.wait(Goal::entry(entries))?;
+        if is_top {
+            self.checkpoint_if_due(entries, number);
+        }
+        Ok(())
     }
 }

@@ -12,12 +12,11 @@ use std::fmt;
 /// Why a call of a logged guardian failed.
 ///
 /// ```
-/// use argus_guardian::log::{Failure, LoggedError, Step};
-/// let failure = Failure::new(Step::SyncBatch, std::io::Error::other("no disk"));
-/// assert_eq!(
-///     LoggedError::InDoubt(failure).to_string(),
-///     "in doubt: the log couldn't sync a batch: no disk"
-/// );
+/// use argus_guardian::{Refusal, log::LoggedError};
+/// let failure = std::io::Error::other("no disk").into();
+/// let words = "in doubt: the log couldn't be written: no disk";
+/// assert_eq!(LoggedError::InDoubt(failure).to_string(), words);
+/// assert!(LoggedError::from(Refusal::Conflict).is_conflict());
 /// ```
 #[derive(Debug, Clone)]
 #[non_exhaustive]
@@ -29,15 +28,14 @@ pub enum LoggedError {
     InDoubt(Failure),
     /// The log had failed earlier: the call wasn't made.
     Broken(Failure),
+    /// The object of that name has this shape, and not the one that was asked for.
+    OtherShape(String),
+    /// The log keeps no names: it isn't in a database.
+    NoNames,
 }
 
 impl LoggedError {
     /// Whether it is a refusal with `Conflict`: abort the topaction, and begin it again.
-    ///
-    /// ```
-    /// use argus_guardian::{Refusal, log::LoggedError};
-    /// assert!(LoggedError::from(Refusal::Conflict).is_conflict());
-    /// ```
     #[must_use]
     pub fn is_conflict(&self) -> bool {
         matches!(self, LoggedError::Guardian(error) if error.is_conflict())
@@ -50,6 +48,8 @@ impl fmt::Display for LoggedError {
             LoggedError::Guardian(error) => write!(f, "{error}"),
             LoggedError::InDoubt(failure) => write!(f, "in doubt: {failure}"),
             LoggedError::Broken(failure) => write!(f, "not called: {failure}"),
+            LoggedError::OtherShape(shape) => write!(f, "the object has the shape {shape}"),
+            LoggedError::NoNames => f.write_str("the log keeps no names"),
         }
     }
 }

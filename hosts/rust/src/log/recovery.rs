@@ -1,23 +1,22 @@
-//! `Recovery`: a guardian that is being restored from the lines of its log.
+//! `Recovery`: a guardian that is being restored from the lines of its log; `LineError`: why it takes one not.
 
 use crate::error::Error;
 use crate::guardian::Guardian;
 use crate::line_fault::LineFault;
-use crate::log::damage::LineError;
-use crate::log::file_log::FileLog;
-use crate::log::found_log::FoundLog;
-use crate::log::open_error::OpenError;
-use crate::log::storage::Storage;
 use crate::resuming::{Opened, Resuming, TakenEnd};
 
-/// A log that was read, and the guardian of its lines.
-pub(crate) fn recovered<S: Storage>(storage: S) -> Result<(FoundLog<S>, Guardian), OpenError> {
-    let mut recovery = Recovery::new()?;
-    let log = FileLog::read(storage, |batch| recovery.take(batch.lines))?;
-    let guardian = recovery.into_guardian();
-    let guardian = guardian.map_err(|error| log.not_taken(error))?;
-    log.check_next(guardian.entries())?;
-    Ok((log, guardian))
+/// Why the lines of a batch weren't taken.
+#[derive(Debug, Clone, PartialEq, Eq)]
+pub enum LineError {
+    /// A line isn't what the guardian writes there.
+    Fault {
+        /// Which of the lines it is, counted from 0.
+        line: u64,
+        /// Why it isn't.
+        why: String,
+    },
+    /// Out of memory.
+    OutOfMemory,
 }
 
 /// A guardian that is being restored from the lines of its log, by the library's proved call: each call is made again,
@@ -45,13 +44,6 @@ impl Recovery {
     /// # Errors
     ///
     /// As for [`Guardian::new`].
-    ///
-    /// ```
-    /// use argus_guardian::log::Recovery;
-    /// let guardian = Recovery::new()?.into_guardian().expect("there is memory");
-    /// assert_eq!(guardian.entries(), 0);
-    /// # Ok::<(), argus_guardian::Error>(())
-    /// ```
     pub fn new() -> Result<Recovery, Error> {
         let resuming = Resuming::new()?;
         Ok(Recovery { resuming })
@@ -63,17 +55,6 @@ impl Recovery {
     /// # Errors
     ///
     /// As for [`Guardian::new`].
-    ///
-    /// ```
-    /// use argus_guardian::{Guardian, log::Recovery};
-    /// let first = Guardian::new()?;
-    /// let record = first.declare("atomic_record[n:int]")?;
-    /// let mut recovery = Recovery::after(&first)?;
-    /// recovery.take("opening entries 4 actions 1\nopening o0 atomic_record[n:int] {5}\n").expect("lines");
-    /// let second = recovery.into_guardian().expect("there is memory");
-    /// assert_eq!(second.base(record)?, Some("{5}".parse()?));
-    /// # Ok::<(), argus_guardian::Error>(())
-    /// ```
     pub fn after(guardian: &Guardian) -> Result<Recovery, Error> {
         let resuming = Resuming::after(guardian)?;
         Ok(Recovery { resuming })
@@ -84,15 +65,6 @@ impl Recovery {
     /// # Errors
     ///
     /// As for [`Guardian::new`].
-    ///
-    /// ```
-    /// use argus_guardian::log::Recovery;
-    /// let mut recovery = Recovery::new()?;
-    /// recovery.take("0 begin_top -> a0\n").expect("a journal's line");
-    /// let guardian = recovery.anew()?.into_guardian().expect("there is memory");
-    /// assert_eq!(guardian.entries(), 0);
-    /// # Ok::<(), argus_guardian::Error>(())
-    /// ```
     pub fn anew(&self) -> Result<Recovery, Error> {
         let resuming = self.resuming.anew()?;
         Ok(Recovery { resuming })
@@ -104,14 +76,6 @@ impl Recovery {
     ///
     /// [`LineError::Fault`]: the lines before that one were taken, and no more can be.
     /// [`LineError::OutOfMemory`].
-    ///
-    /// ```
-    /// use argus_guardian::log::Recovery;
-    /// let mut recovery = Recovery::new()?;
-    /// recovery.take("opening entries 4 actions 1\nopening o0 atomic_record[n:int] {5}\n").expect("lines");
-    /// recovery.take("4 begin_top -> a1\n").expect("the next one");
-    /// # Ok::<(), argus_guardian::Error>(())
-    /// ```
     pub fn take(&mut self, lines: &str) -> Result<(), LineError> {
         let taken = self.resuming.take(lines);
         let why = match taken.end {
@@ -132,15 +96,6 @@ impl Recovery {
     /// # Errors
     ///
     /// [`LineError::Fault`] if an opening isn't complete; [`LineError::OutOfMemory`].
-    ///
-    /// ```
-    /// use argus_guardian::log::Recovery;
-    /// let mut recovery = Recovery::new()?;
-    /// recovery.take("0 begin_top -> a0\n").expect("a journal's line");
-    /// let guardian = recovery.into_guardian().expect("there is memory");
-    /// assert_eq!(guardian.entry(0)?, "0 begin_top -> a0");
-    /// # Ok::<(), argus_guardian::Error>(())
-    /// ```
     pub fn into_guardian(self) -> Result<Guardian, LineError> {
         match self.resuming.into_guardian() {
             Ok(Opened {

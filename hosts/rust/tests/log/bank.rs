@@ -1,25 +1,16 @@
 //! The bank of the tests: its records, and how its clients' orders are carried out.
 
 use crate::orders::{BALANCE, Order};
-use argus_guardian::log::{FileLogOptions, Logged, LoggedAction, LoggedError, LoggedOptions};
+use argus_guardian::log::{Logged, LoggedAction, LoggedError};
 use argus_guardian::{Change, Content, ObjId, Value};
 use std::thread;
 use std::time::Duration;
 
 pub const ACCOUNTS: u32 = 50;
-pub const CLIENTS: u32 = 4;
+pub const CLIENTS: u32 = 16;
 // Two records of the one who dawdles.
 pub const TOPACTIONS: u32 = ACCOUNTS + CLIENTS;
 pub const NESTED: u32 = TOPACTIONS + 1;
-
-/// Small files, so that a short life fills several.
-pub const OPTIONS: LoggedOptions = LoggedOptions {
-    patience: Duration::from_secs(100),
-    files: FileLogOptions {
-        laid_out: 16 * 1024,
-        segment: 64 * 1024,
-    },
-};
 
 /// What became of an order.
 #[derive(Debug, Clone, Copy, PartialEq, Eq)]

@@ -1,6 +1,6 @@
 //! `GatedLog`: a log in memory, whose writes a test lets through one by one.
 
-use argus_guardian::log::{BatchLog, EntryLines, Failure, Opening, Step};
+use argus_guardian::log::{BatchLog, EntryLines, Failure, Opening};
 use std::io;
 use std::sync::mpsc::{Receiver, Sender, channel};
 use std::sync::{Arc, Mutex};
@@ -59,7 +59,7 @@ impl GatedLog {
                 self.kept.lock().expect("no panic").push(piece);
                 Ok(())
             }
-            Say::Fail => Err(Failure::new(Step::Other, io::Error::other("on purpose"))),
+            Say::Fail => Err(io::Error::other("on purpose").into()),
             Say::Panic => panic!("on purpose"),
         }
     }

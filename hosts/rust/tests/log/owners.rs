@@ -10,8 +10,7 @@ use std::sync::{Arc, OnceLock};
 use std::time::Duration;
 
 fn open(scratch: &Scratch) -> Logged {
-    let opened = Logged::open(scratch.path());
-    opened.expect("opened").0
+    Logged::open_or_create(scratch.path().join("bank.db")).expect("opened")
 }
 
 fn with_record(scratch: &Scratch) -> (Logged, ObjId) {
@@ -34,7 +33,7 @@ fn is_of_another<T>(called: Result<T, LoggedError>) -> bool {
 
 #[test]
 fn an_object_of_another_guardian_is_refused() {
-    let (one, two) = (Scratch::new("own"), Scratch::new("other"));
+    let (one, two) = (Scratch::made("own"), Scratch::made("other"));
     let ((logged, own), (_other, stranger)) = (with_record(&one), with_record(&two));
     let named = logged.object(own).expect("told");
     assert!(is_of_another(logged.base(stranger)));
@@ -56,7 +55,7 @@ fn an_object_of_another_guardian_is_refused() {
 
 #[test]
 fn ids_from_before_a_restart_are_of_another_guardian() {
-    let scratch = Scratch::new("restarted");
+    let scratch = Scratch::made("restarted");
     let (logged, record) = with_record(&scratch);
     drop(logged);
     let logged = open(&scratch);

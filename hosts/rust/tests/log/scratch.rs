@@ -10,11 +10,13 @@ static COUNT: AtomicU32 = AtomicU32::new(0);
 pub struct Scratch(PathBuf);
 
 impl Scratch {
-    pub fn new(name: &str) -> Scratch {
+    pub fn made(name: &str) -> Scratch {
         let above = std::env::var_os("ARGUS_LOG_SCRATCH").map(PathBuf::from);
         let count = COUNT.fetch_add(1, Ordering::Relaxed);
         let name = format!("argus-log-{name}-{}-{count}", std::process::id());
-        Scratch(above.unwrap_or_else(std::env::temp_dir).join(name))
+        let path = above.unwrap_or_else(std::env::temp_dir).join(name);
+        fs::create_dir_all(&path).expect("made");
+        Scratch(path)
     }
 
     pub fn path(&self) -> &Path {

@@ -80,21 +80,41 @@ fn what_another_program_writes_is_found_out() {
     let mut log = lead(&options, "first");
     log.append(&lines(0, "0 begin_top -> a0\n"))
         .expect("appended");
-    cluster.etcdctl(&[
-        "put",
-        "argus/head",
-        "format=1 begins=0 next=2 entry=2 epoch=9",
-    ]);
-    cluster.etcdctl(&[
-        "put",
-        "argus/batches/00000000000000000001",
-        "1 begin_top -> a1\n",
-    ]);
+    let put = |key: &str, value: &str| cluster.etcdctl(&["put", key, value]);
+    let get = |key| cluster.etcdctl(&["get", "--print-value-only", key]);
+    let (head, batch) = (get("argus/head"), get("argus/batches/00000000000000000000"));
+    let (head, batch) = (head.trim_end(), batch.trim_end());
+    let one_more = head.replace("next=1 entry=1", "next=2 entry=2");
+    put("argus/head", &one_more);
+    put("argus/batches/00000000000000000001", "1 begin_top -> a1\n");
     let failure = log
         .append(&lines(1, "1 begin_top -> a1\n"))
         .expect_err("refused");
     assert_eq!(etcd_error(&failure), &EtcdError::Foreign);
-    let error = EtcdLog::read(&options, |_| Ok(())).expect_err("no batch");
+    assert_eq!(damage_in(&options), (1, "it isn't a batch".to_owned()));
+    let other_sum = "it hasn't the sum that it says: it was changed, or what is before it";
+    put("argus/batches/00000000000000000001", &format!("{batch}\n"));
+    assert_eq!(damage_in(&options), (1, other_sum.to_owned()));
+    put("argus/head", head);
+    assert_eq!(text_of(&options).0, "0 begin_top -> a0\n");
+    put(
+        "argus/batches/00000000000000000000",
+        &format!("{}\n", batch.replace("a0", "a1")),
+    );
+    assert_eq!(damage_in(&options), (0, other_sum.to_owned()));
+    put("argus/batches/00000000000000000000", &format!("{batch}\n"));
+    let (front, _) = head.split_once("sum=").expect("a sum");
+    put("argus/head", &format!("{front}sum=1"));
+    let words = "the log's head has another sum than its last batch";
+    assert_eq!(damage_in(&options), (1, words.to_owned()));
+    put("argus/head", &head.replacen("name=", "name=0", 1));
+    let error = EtcdLog::read(&options, |_| Ok(())).expect_err("no head");
+    assert!(matches!(error, LogError::Etcd(_)), "{error}");
+}
+
+// The batch at which the log isn't as it was written, and how.
+fn damage_in(options: &EtcdOptions) -> (u64, String) {
+    let error = EtcdLog::read(options, |_| Ok(())).expect_err("damaged");
     let LogError::Damaged {
         key,
         line: None,
@@ -103,8 +123,8 @@ fn what_another_program_writes_is_found_out() {
     else {
         panic!("{error}");
     };
-    assert_eq!(key, "argus/batches/00000000000000000001");
-    assert_eq!(why, "no head of a batch is there");
+    let number = key.strip_prefix("argus/batches/").expect("a batch");
+    (number.parse().expect("a number"), why)
 }
 
 #[test]

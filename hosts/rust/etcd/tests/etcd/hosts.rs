@@ -7,10 +7,10 @@ use crate::ledger::Ledger;
 use crate::node::Node;
 use crate::replica::{options, sum_of};
 use argus_guardian::Listing;
-use argus_guardian::log::{BatchLog, EntryLines, Failure, Logged, Opening, Recovery, Step};
+use argus_guardian::log::{BatchLog, EntryLines, Failure, Logged, Opening, Recovery};
 use argus_guardian_etcd::EtcdLog;
 use std::collections::BTreeSet;
-use std::io::ErrorKind;
+use std::io::{Error, ErrorKind};
 use std::thread;
 use std::time::{Duration, Instant};
 
@@ -31,11 +31,11 @@ struct ReadOnlyLog;
 
 impl BatchLog for ReadOnlyLog {
     fn append(&mut self, _: &EntryLines) -> Result<(), Failure> {
-        Err(Failure::new(Step::Other, ErrorKind::Unsupported.into()))
+        Err(Error::from(ErrorKind::Unsupported).into())
     }
 
     fn restart(&mut self, _: &Opening) -> Result<(), Failure> {
-        Err(Failure::new(Step::Other, ErrorKind::Unsupported.into()))
+        Err(Error::from(ErrorKind::Unsupported).into())
     }
 }
 

@@ -1,7 +1,7 @@
 //! What tests of a log without a guardian have in common.
 
-use argus_guardian::log::{Batch, EntryLines, Failure};
-use argus_guardian_etcd::{Campaign, EtcdError, EtcdLog, EtcdOptions};
+use argus_guardian::log::{EntryLines, Failure};
+use argus_guardian_etcd::{Batch, Campaign, EtcdError, EtcdLog, EtcdOptions};
 
 /// Leads, and reads the log.
 pub(crate) fn lead(options: &EtcdOptions, name: &str) -> EtcdLog {

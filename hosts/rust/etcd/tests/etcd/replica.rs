@@ -2,7 +2,7 @@
 //! deposed. What it does it says on its standard output; on its standard input the parent has it rest, then say its
 //! journal, and then to serve again.
 
-use crate::bank::{CLIENTS, OPTIONS, dawdle, fold, serve, set_up};
+use crate::bank::{dawdle, fold, serve, set_up};
 use argus_guardian::Listing;
 use argus_guardian::log::{Logged, LoggedError};
 use argus_guardian_etcd::{Campaign, EtcdError, EtcdOptions, Follower, Leadership, LogError};
@@ -14,6 +14,10 @@ use std::time::Duration;
 
 pub(crate) const NAME: &str = "ARGUS_ETCD_HOST";
 pub(crate) const ENDPOINTS: &str = "ARGUS_ETCD_ENDPOINTS";
+
+// So many of the bank's clients send orders.
+const CLIENTS: u32 = 4;
+const PATIENCE: Duration = Duration::from_secs(100);
 
 /// The lease of the bank's hosts.
 pub(crate) const LEASE: Duration = Duration::from_secs(3);
@@ -95,7 +99,7 @@ fn child_hosts() {
 fn live(options: &EtcdOptions, name: &str, orders: &Orders) -> Result<(), LogError> {
     let mut follower = Follower::begin(options)?;
     let leadership = follow(options, name, orders, &mut follower)?;
-    let (bank, led) = follower.lead(leadership.clone(), OPTIONS.patience)?;
+    let (bank, led) = follower.lead(leadership.clone(), PATIENCE)?;
     say(&format!(
         "leads {} {} {}",
         led.epoch, led.entry, led.aborted

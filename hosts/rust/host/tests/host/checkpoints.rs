@@ -1,8 +1,8 @@
 //! When a checkpoint comes: after so many entries, of earlier lives too, and when numbers for actions get few.
 
-use crate::host::Host;
+use crate::host::{Host, database_in};
 use crate::scratch::Scratch;
-use argus_guardian::log::{EntryLines, FileLog, Folder, Opening};
+use argus_guardian::log::{BatchLog, EntryLines, LogOptions, Opening, SqliteLog};
 use std::path::Path;
 use std::thread;
 use std::time::{Duration, Instant};
@@ -20,8 +20,7 @@ fn until_checkpoint(mut has_come: impl FnMut() -> bool) {
 
 // A log of an entry, whose guardian has begun so many actions.
 fn log_after(actions: u32, folder: &Path) {
-    let read = FileLog::read(Folder::open(folder).expect("locked"), |_| Ok(()));
-    let mut log = read.expect("new").begin().expect("begun");
+    let mut log = SqliteLog::create(database_in(folder)).expect("made");
     let line = "0 begin_top -> a0\n".to_owned();
     log.append(&EntryLines::new(0, line).expect("a whole line"))
         .expect("appended");
@@ -38,10 +37,13 @@ fn entries_of_earlier_lives_count() {
     assert!(host.client.metric("argus_entries") > 100.0);
     host.kill();
     let host = Host::serve(scratch.path(), &["--checkpoint", "100"]);
-    // It has hardly an entry of its own. A checkpoint begins another segment, and removes those before it.
-    let first = scratch.path().join("segment-000000000001.log");
-    until_checkpoint(|| !first.exists());
+    // It has hardly an entry of its own.
+    until_checkpoint(|| host.client.metric("argus_log_checkpoints_total") > 0.0);
     host.kill();
+    let found = LogOptions::default()
+        .check(database_in(scratch.path()))
+        .expect("right");
+    assert!(found.entries < 100 && found.next > 100, "{found:?}");
     let host = Host::serve(scratch.path(), &[]);
     assert_eq!(host.client.balance(1), 5);
 }

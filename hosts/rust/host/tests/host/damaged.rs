@@ -1,16 +1,16 @@
 //! `verify` of logs that are right, torn and damaged, and where there is none.
 
-use crate::host::{Host, PROGRAM};
+use crate::host::{Host, PROGRAM, database_in};
 use crate::scratch::Scratch;
 use std::fs;
 use std::path::{Path, PathBuf};
 use std::process::Command;
 
-/// What `verify` says of a log, and its status.
+/// What `verify` says of the log in a folder, and its status.
 pub(crate) fn verify(folder: &Path) -> (Option<i32>, String) {
     let output = Command::new(PROGRAM)
         .arg("verify")
-        .arg(folder)
+        .arg(database_in(folder))
         .output()
         .expect("ran");
     let text = [output.stdout, output.stderr].concat();
@@ -18,14 +18,6 @@ pub(crate) fn verify(folder: &Path) -> (Option<i32>, String) {
         output.status.code(),
         String::from_utf8(text).expect("UTF-8"),
     )
-}
-
-fn segment_in(folder: &Path) -> PathBuf {
-    let files = fs::read_dir(folder)
-        .expect("read")
-        .map(|it| it.expect("read").path());
-    let mut segments = files.filter(|it| it.extension().is_some_and(|it| it == "log"));
-    segments.next().expect("a segment")
 }
 
 // A log of an account with 5, and 7 paid at last.
@@ -44,10 +36,7 @@ fn a_log_that_is_right() {
     let folder = log_in(&scratch);
     let (status, text) = verify(&folder);
     assert_eq!(status, Some(0), "{text}");
-    assert!(
-        text.contains("objects 66\n") && text.contains("torn bytes 0\n"),
-        "{text}"
-    );
+    assert!(text.contains("objects 66\n"), "{text}");
     let host = Host::serve(&folder, &[]);
     let (status, text) = verify(&folder);
     assert_eq!(status, Some(3), "{text}");
@@ -59,42 +48,42 @@ fn a_log_that_is_right() {
 #[test]
 fn a_folder_without_a_log() {
     let scratch = Scratch::new("empty");
-    for _ in 0..2 {
-        // The second time the folder has the file `lock`.
-        let (status, text) = verify(scratch.path());
-        assert_eq!(status, Some(3), "{text}");
-        assert!(text.ends_with("has no log\n"), "{text}");
-    }
+    let (status, text) = verify(scratch.path());
+    assert_eq!(status, Some(3), "{text}");
+    assert!(text.contains("no log is there"), "{text}");
+    assert_eq!(fs::read_dir(scratch.path()).expect("read").count(), 0);
 }
 
 #[test]
 fn a_log_that_is_damaged() {
     let scratch = Scratch::new("damaged");
     let folder = log_in(&scratch);
-    let segment = segment_in(&folder);
-    let bytes = fs::read(&segment).expect("read");
-    let place = bytes
-        .windows(6)
-        .position(|it| it == b"open-1")
-        .expect("the key");
+    // A stop in order leaves all in the file.
+    assert!(Host::serve(&folder, &[]).stop().success());
+    let bytes = fs::read(database_in(&folder)).expect("read");
     let mut changed = bytes.clone();
-    changed[place] = b'O';
-    fs::write(&segment, &changed).expect("written");
+    let places = bytes
+        .windows(6)
+        .enumerate()
+        .filter(|(_, it)| it == b"open-1");
+    places.for_each(|(place, _)| changed[place] = b'O');
+    assert!(changed != bytes);
+    fs::write(database_in(&folder), &changed).expect("written");
     let (status, text) = verify(&folder);
     assert_eq!(status, Some(1), "{text}");
     assert!(
-        text.contains("its lines don't have the checksum that it says"),
+        text.contains("the log is damaged: the row of `log` has another sum"),
         "{text}"
     );
     // It isn't served, either.
     let mut command = Command::new(PROGRAM);
     command
         .args(["serve", "--listen", "127.0.0.1:0", "--log"])
-        .arg(&folder);
+        .arg(database_in(&folder));
     let output = command.output().expect("ran");
     assert_eq!(output.status.code(), Some(2));
-    assert!(String::from_utf8_lossy(&output.stderr).contains("damaged"));
-    fs::write(&segment, &bytes).expect("written");
+    assert!(String::from_utf8_lossy(&output.stderr).contains("another sum"));
+    fs::write(database_in(&folder), &bytes).expect("written");
     assert_eq!(verify(&folder).0, Some(0));
 }
 
@@ -102,17 +91,16 @@ fn a_log_that_is_damaged() {
 fn a_log_that_is_torn() {
     let scratch = Scratch::new("torn");
     let folder = log_in(&scratch);
-    let segment = segment_in(&folder);
-    let mut bytes = fs::read(&segment).expect("read");
-    let last = bytes
-        .windows(4)
-        .rposition(|it| it == b"last")
-        .expect("the key");
-    bytes[last..].fill(0);
-    fs::write(&segment, &bytes).expect("written");
+    let wal = folder.join("bank.db-wal");
+    let bytes = fs::read(&wal).expect("read");
+    fs::write(&wal, &bytes[..bytes.len() - 100]).expect("written");
     let (status, text) = verify(&folder);
     assert_eq!(status, Some(0), "{text}");
-    assert!(text.contains("bytes are torn"), "{text}");
     let host = Host::serve(&folder, &[]);
     assert_eq!(host.client.balance(1), 5);
+    host.kill();
+    fs::remove_file(&wal).expect("removed");
+    let (status, text) = verify(&folder);
+    assert_eq!(status, Some(1), "{text}");
+    assert!(text.contains("the log wasn't closed"), "{text}");
 }

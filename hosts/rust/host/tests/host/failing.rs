@@ -1,8 +1,9 @@
 //! A log that fails: what was being committed is in doubt, and nothing else is begun.
 
 use crate::client::code;
-use crate::host::{Host, PROGRAM};
+use crate::host::{Host, PROGRAM, database_in};
 use crate::scratch::Scratch;
+use std::fs;
 use std::process::Command;
 
 // Files may have 1.5 MiB, as if the disk were full.
@@ -13,8 +14,11 @@ const LIMITED: &str =
 fn a_disk_that_is_full() {
     let scratch = Scratch::new("full");
     let log = scratch.path().join("log");
+    fs::create_dir(&log).expect("made");
     let mut command = Command::new("dash");
-    command.args(["-c", LIMITED, PROGRAM]).arg(&log);
+    command
+        .args(["-c", LIMITED, PROGRAM])
+        .arg(database_in(&log));
     let mut host = Host::start(&mut command);
     let client = host.client;
     client.open_accounts(2, 1_000_000);

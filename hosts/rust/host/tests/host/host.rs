@@ -1,12 +1,18 @@
 //! `Host`: the program, in a process of its own.
 
 use crate::client::Client;
+use std::fs;
 use std::io::{BufRead, BufReader};
-use std::path::Path;
+use std::path::{Path, PathBuf};
 use std::process::{Child, Command, ExitStatus, Stdio};
 use std::time::{Duration, Instant};
 
 pub(crate) const PROGRAM: &str = env!("CARGO_BIN_EXE_argus-host");
+
+/// The database of a log in a folder.
+pub(crate) fn database_in(folder: &Path) -> PathBuf {
+    folder.join("bank.db")
+}
 
 /// The program, in a process of its own, which ends with it.
 pub(crate) struct Host {
@@ -16,9 +22,14 @@ pub(crate) struct Host {
 
 impl Host {
     /// A host over a log in this folder.
-    pub(crate) fn serve(log: &Path, words: &[&str]) -> Host {
+    pub(crate) fn serve(folder: &Path, words: &[&str]) -> Host {
+        fs::create_dir_all(folder).expect("made");
         let mut command = Command::new(PROGRAM);
-        command.arg("serve").arg("--log").arg(log).args(words);
+        command
+            .arg("serve")
+            .arg("--log")
+            .arg(database_in(folder))
+            .args(words);
         Host::start(command.args(["--listen", "127.0.0.1:0"]))
     }
 

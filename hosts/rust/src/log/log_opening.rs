@@ -1,0 +1,238 @@
+//! Opens a log in a database. It is read first, and nothing is changed if anything is wrong with it.
+
+use crate::guardian::Guardian;
+use crate::log::log_options::{LogFound, LogOptions};
+use crate::log::log_rows::{Head, check_format, check_pages, head_of, is_name, read_rows};
+use crate::log::log_wal::{HEADER, check_wal};
+use crate::log::open_error::{LogFault, OpenError};
+use crate::log::recovery::{LineError, Recovery};
+use crate::log::sqlite_log::{KEEPS_WAL, SqliteLog, connected, make_durable};
+use crate::{Error, ObjId};
+use rusqlite::{Connection, OpenFlags, params};
+use std::collections::HashMap;
+use std::fs::{self, File};
+use std::io::Read;
+use std::path::{Path, PathBuf};
+use std::time::Duration;
+
+/// A log that was read, with its guardian.
+pub(crate) struct ReadLog {
+    pub(crate) head: Head,
+    pub(crate) guardian: Guardian,
+    /// The numbers of objects by their names.
+    pub(crate) names: HashMap<String, u32>,
+    pub(crate) found: LogFound,
+}
+
+/// Opens the log, which from then on is this process's.
+pub(crate) fn open_log(
+    path: &Path,
+    wanted: &LogOptions,
+) -> Result<(SqliteLog, ReadLog), OpenError> {
+    let owner = locked(path)?;
+    let read = read_log(path, wanted)?;
+    let writing = connected(path, OpenFlags::SQLITE_OPEN_READ_WRITE)?;
+    make_durable(&writing)?;
+    // Until it is closed in order, SQLite leaves the WAL where it is.
+    writing.set_db_config(KEEPS_WAL, true)?;
+    let mode: String = writing.query_row("PRAGMA journal_mode=WAL", [], |row| row.get(0))?;
+    if mode != "wal" {
+        return Err(LogFault::Unreadable
+            .because(format!("the database can't have a WAL: SQLite says {mode}")));
+    }
+    let log = SqliteLog::take_over(writing, owner, read.head.clone())?;
+    // What was read and isn't on disk, since whoever wrote it was killed, is on disk now; and the file says that there
+    // is a WAL.
+    log.move_wal()?;
+    Ok((log, read))
+}
+
+/// Reads a log that no process has, and changes nothing.
+pub(crate) fn check_log(path: &Path, wanted: &LogOptions) -> Result<ReadLog, OpenError> {
+    let _owner = locked(path)?;
+    read_log(path, wanted)
+}
+
+fn beside(path: &Path, suffix: &str) -> PathBuf {
+    let mut name = path.as_os_str().to_owned();
+    name.push(suffix);
+    name.into()
+}
+
+// Locks a second database, which the process has until it ends. Who only reads the log doesn't need it.
+fn locked(path: &Path) -> Result<Connection, OpenError> {
+    if !path.exists() {
+        return Err(LogFault::NoLog.because(format!("no log is there: {}", path.display())));
+    }
+    // A pipe would have SQLite wait.
+    let beside = ["", "-wal", "-journal", "-owner"].map(|it| beside(path, it));
+    if let Some(other) = beside
+        .iter()
+        .find(|it| fs::metadata(it).is_ok_and(|it| !it.is_file()))
+    {
+        return Err(LogFault::NotALog.because(format!("it isn't a file: {}", other.display())));
+    }
+    let how = OpenFlags::SQLITE_OPEN_READ_WRITE | OpenFlags::SQLITE_OPEN_CREATE;
+    let owner = connected(&beside[3], how)?;
+    owner.busy_timeout(Duration::ZERO)?;
+    // Nothing is ever written there.
+    let locked = owner.execute_batch("PRAGMA journal_mode=OFF; BEGIN EXCLUSIVE");
+    locked.map_err(|error| match OpenError::from(error) {
+        OpenError::Database(LogFault::Locked, _) => {
+            let path = path.display();
+            LogFault::Locked.because(format!(
+                "another process has the log, or another part of this one: {path}"
+            ))
+        }
+        other => other,
+    })?;
+    Ok(owner)
+}
+
+fn read_log(path: &Path, wanted: &LogOptions) -> Result<ReadLog, OpenError> {
+    if is_hot(path) {
+        // SQLite rolls back what was broken off, when it is opened by who can write.
+        head_of(&connected(path, OpenFlags::SQLITE_OPEN_READ_WRITE)?)?;
+    }
+    let alone = head_alone(path);
+    check_wal_of(path, alone.as_ref())?;
+    let reading = connected(path, OpenFlags::SQLITE_OPEN_READ_ONLY)?;
+    reading.set_db_config(KEEPS_WAL, true)?;
+    reading.execute_batch("BEGIN")?;
+    check_format(&reading)?;
+    let head = head_of(&reading)?;
+    compare(&head, wanted, alone.as_ref())?;
+    check_pages(&reading)?;
+    let mut recovery = Recovery::new()?;
+    let (first, batches) = read_rows(&reading, &head, |what, lines| {
+        take(&mut recovery, what, lines)
+    })?;
+    let guardian = recovery
+        .into_guardian()
+        .map_err(|error| not_taken("the opening", error))?;
+    let (taken, next) = (guardian.entries(), head.next_entry);
+    if taken != next {
+        let words = format!("by the lines entry {taken} comes next, and by `log` entry {next}");
+        return Err(LogFault::OtherReply.because(words));
+    }
+    let names = names_in(&reading, &guardian)?;
+    let found = LogFound {
+        path: path.to_owned(),
+        name: head.name.clone(),
+        batches,
+        entries: head.next_entry - first,
+        next,
+        objects: guardian.objects(),
+        epoch: head.epoch,
+        aborted: 0,
+    };
+    Ok(ReadLog {
+        head,
+        guardian,
+        names,
+        found,
+    })
+}
+
+// Whether a transaction without a WAL was broken off, so that its journal has to be rolled back.
+fn is_hot(path: &Path) -> bool {
+    let mut begins = [0; 8];
+    let journal =
+        File::open(beside(path, "-journal")).and_then(|mut it| it.read_exact(&mut begins));
+    journal.is_ok() && begins != [0; 8] && !beside(path, "-wal").exists()
+}
+
+// What the file says without its WAL; None if it can't be read so, as in the midst of a move.
+fn head_alone(path: &Path) -> Option<Head> {
+    let how = OpenFlags::SQLITE_OPEN_READ_ONLY | OpenFlags::SQLITE_OPEN_URI;
+    let bytes = path.as_os_str().as_encoded_bytes().iter();
+    let uri = bytes.fold("file:".to_owned(), |uri, it| format!("{uri}%{it:02x}"));
+    let database = connected(Path::new(&(uri + "?immutable=1")), how).ok()?;
+    check_format(&database).ok()?;
+    head_of(&database).ok().filter(|it| is_name(&it.name))
+}
+
+// Whether the WAL of a log that wasn't closed is there, and whether it has rotted.
+fn check_wal_of(path: &Path, alone: Option<&Head>) -> Result<(), OpenError> {
+    let wal = beside(path, "-wal");
+    let is_open = alone.is_some_and(|it| it.is_open != 0);
+    if fs::metadata(&wal).is_ok_and(|it| it.len() >= HEADER as u64) {
+        return check_wal(&wal, alone.is_some() && !is_open);
+    }
+    if !is_open {
+        return Ok(());
+    }
+    Err(LogFault::WalMissing.because(format!(
+        "the log wasn't closed, and {} isn't there, or is empty: what it had is gone. If nothing was in it, since \
+         sqlite3 has moved that, or this is a whole copy, `UPDATE log SET is_open = 0` says so",
+        wal.display()
+    )))
+}
+
+// Whether it is the log that is wanted, and the WAL belongs to the file.
+fn compare(head: &Head, wanted: &LogOptions, alone: Option<&Head>) -> Result<(), OpenError> {
+    let (name, next) = (&head.name, head.next_entry);
+    if let Some(other) = wanted.name.as_ref().filter(|it| *it != name) {
+        let words = format!("the log's name is {name}, and that of the one that is wanted {other}");
+        return Err(LogFault::OtherLog.because(words));
+    }
+    if next < wanted.at_least {
+        let words = format!(
+            "the log has {next} entries, and had {}: it is an older copy",
+            wanted.at_least
+        );
+        return Err(LogFault::LogOld.because(words));
+    }
+    match alone {
+        Some(alone) if alone.name != *name => {
+            let words = format!(
+                "the file is the log {}, and the WAL beside it that of {name}",
+                alone.name
+            );
+            Err(LogFault::OtherLog.because(words))
+        }
+        Some(alone) if (alone.epoch, alone.next_entry) > (head.epoch, next) => {
+            let more = alone.next_entry;
+            let words =
+                format!("the file has {more} entries, and with its WAL {next}: that is older");
+            Err(LogFault::LogOld.because(words))
+        }
+        _ => Ok(()),
+    }
+}
+
+// Has the guardian take the lines of a row.
+fn take(recovery: &mut Recovery, what: &str, lines: &[u8]) -> Result<(), OpenError> {
+    let Ok(text) = std::str::from_utf8(lines) else {
+        return Err(LogFault::OtherReply.because(format!("{what} isn't UTF-8")));
+    };
+    let taken = recovery.take(&format!("{text}\n"));
+    taken.map_err(|error| not_taken(what, error))
+}
+
+fn not_taken(what: &str, error: LineError) -> OpenError {
+    match error {
+        LineError::Fault { line, why } => {
+            LogFault::OtherReply.because(format!("{what}, line {line} of it: {why}"))
+        }
+        LineError::OutOfMemory => Error::OutOfMemory.into(),
+    }
+}
+
+// The objects that have names, each with the shape that it was declared with.
+fn names_in(database: &Connection, guardian: &Guardian) -> Result<HashMap<String, u32>, OpenError> {
+    let mut select =
+        database.prepare("SELECT name, number, shape FROM object WHERE name IS NOT NULL")?;
+    let rows = select.query_map(params![], |row| Ok((row.get(0)?, row.get(1)?, row.get(2)?)))?;
+    let mut names = HashMap::new();
+    for row in rows {
+        let (name, number, shape): (String, u32, String) = row?;
+        if number >= guardian.objects() || guardian.shape(ObjId::numbered(number))? != shape {
+            let words =
+                format!("`{name}` is the name of object {number}, which hasn't the shape {shape}");
+            return Err(LogFault::RowChanged.because(words));
+        }
+        names.insert(name, number);
+    }
+    Ok(names)
+}

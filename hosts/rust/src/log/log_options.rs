@@ -1,0 +1,180 @@
+//! `LogOptions`: how a log in a database is opened or made; `LogFound`: what was there.
+
+use crate::guardian::Guardian;
+use crate::log::log_making::{copy_log, make_log, resolved};
+use crate::log::log_opening::{check_log, open_log};
+use crate::log::logged::Logged;
+use crate::log::open_error::{LogFault, OpenError};
+use crate::shared::Shared;
+use std::path::{Path, PathBuf};
+use std::sync::Mutex;
+use std::time::Duration;
+
+/// How a log in a database is opened or made.
+///
+/// ```
+/// use argus_guardian::log::{LogOptions, OpenError};
+/// # let path = std::env::temp_dir().join(format!("argus-options-{}", std::process::id()));
+/// let options = LogOptions { checkpoint_after: None, ..LogOptions::default() };
+/// let bank = options.open_or_create(&path)?;
+/// bank.declare_named("account", "atomic_record[balance:int]").expect("declared");
+/// drop(bank);
+/// assert_eq!(options.open(&path)?.found().entries, 1);
+/// # std::fs::remove_file(&path).expect("removed");
+/// # std::fs::remove_file(path.with_file_name(format!("argus-options-{}-owner", std::process::id()))).expect("removed");
+/// # Ok::<(), OpenError>(())
+/// ```
+#[derive(Debug, Clone, PartialEq, Eq)]
+pub struct LogOptions {
+    /// How long an access waits for its lock at most: a second by default.
+    pub patience: Duration,
+    /// After so many entries the log makes a checkpoint by itself, and when half of the numbers for actions are used:
+    /// 100,000 by default. `None`: never.
+    pub checkpoint_after: Option<u64>,
+    /// The name that the log has to have.
+    pub name: Option<String>,
+    /// How many entries the log has to have had.
+    pub at_least: u64,
+}
+
+impl Default for LogOptions {
+    fn default() -> LogOptions {
+        LogOptions {
+            patience: Shared::PATIENCE,
+            checkpoint_after: Some(100_000),
+            name: None,
+            at_least: 0,
+        }
+    }
+}
+
+/// What was found in a log, and done, when it was opened.
+#[derive(Debug, Clone, PartialEq, Eq, Default)]
+pub struct LogFound {
+    /// The database; empty if the log isn't in one.
+    pub path: PathBuf,
+    /// The log's name, which was drawn when it was made: its copies have the same.
+    pub name: String,
+    /// How many batches it had, beside its opening.
+    pub batches: u64,
+    /// How many entries these had.
+    pub entries: u64,
+    /// The number of the next entry.
+    pub next: u64,
+    /// How many objects are declared.
+    pub objects: u32,
+    /// How often it had been opened to be written.
+    pub epoch: u64,
+    /// How many entries it took to abort the actions that were live when the log ended.
+    pub aborted: u64,
+}
+
+impl LogOptions {
+    /// Opens the log that is there: makes each call in it again, compares its reply, and aborts what was live.
+    ///
+    /// # Errors
+    ///
+    /// Any [`OpenError`]. At [`OpenError::Database`] nothing in the log has changed.
+    pub fn open(&self, path: impl AsRef<Path>) -> Result<Logged, OpenError> {
+        let path = resolved(path.as_ref())?;
+        let (log, read) = open_log(&path, self)?;
+        let resumed = Logged::resumed(read.guardian, Box::new(log), self.patience)?;
+        let (mut logged, aborted) = resumed;
+        logged.found = LogFound {
+            path,
+            aborted,
+            ..read.found
+        };
+        logged.names = Some(Mutex::new(read.names));
+        logged.checkpoint_after = self.checkpoint_after;
+        // No action is live yet. Later there may be no number left for one that commits.
+        let used = Guardian::MAX_ACTIONS - logged.actions_left();
+        logged.checkpoint_if_due(logged.entries(), used);
+        Ok(logged)
+    }
+
+    /// Makes a log, and opens it.
+    ///
+    /// # Errors
+    ///
+    /// As for [`open`](Self::open); [`LogFault::Exists`] if a file is there.
+    pub fn create(&self, path: impl AsRef<Path>) -> Result<Logged, OpenError> {
+        make_log(path.as_ref())?;
+        self.open(path)
+    }
+
+    /// Opens the log that is there; if there is none, makes one. Where there has to be one, [`open`](Self::open) is
+    /// safer: a disk that isn't mounted looks like a log that isn't there.
+    ///
+    /// # Errors
+    ///
+    /// As for [`open`](Self::open).
+    pub fn open_or_create(&self, path: impl AsRef<Path>) -> Result<Logged, OpenError> {
+        match self.open(&path) {
+            Err(OpenError::Database(LogFault::NoLog, _)) => {}
+            opened => return opened,
+        }
+        match make_log(path.as_ref()) {
+            // Another process was quicker.
+            Ok(_) | Err(OpenError::Database(LogFault::Exists, _)) => self.open(path),
+            Err(error) => Err(error),
+        }
+    }
+
+    /// Reads a log that no process has, such as a backup, as [`open`](Self::open) does, and changes nothing.
+    ///
+    /// # Errors
+    ///
+    /// As for [`open`](Self::open).
+    pub fn check(&self, path: impl AsRef<Path>) -> Result<LogFound, OpenError> {
+        Ok(check_log(&resolved(path.as_ref())?, self)?.found)
+    }
+}
+
+impl Logged {
+    /// Opens the log that is there; it never makes one. [`LogOptions::open`] has other options.
+    ///
+    /// # Errors
+    ///
+    /// As there.
+    pub fn open(path: impl AsRef<Path>) -> Result<Logged, OpenError> {
+        LogOptions::default().open(path)
+    }
+
+    /// Makes a log, and opens it: [`LogOptions::create`].
+    ///
+    /// # Errors
+    ///
+    /// As there.
+    pub fn create(path: impl AsRef<Path>) -> Result<Logged, OpenError> {
+        LogOptions::default().create(path)
+    }
+
+    /// Opens the log that is there; if there is none, makes one: [`LogOptions::open_or_create`].
+    ///
+    /// # Errors
+    ///
+    /// As there.
+    pub fn open_or_create(path: impl AsRef<Path>) -> Result<Logged, OpenError> {
+        LogOptions::default().open_or_create(path)
+    }
+
+    /// What was found in the log when it was opened.
+    #[must_use]
+    pub fn found(&self) -> &LogFound {
+        &self.found
+    }
+
+    /// Makes a copy of the log as it is at one moment, whole and compared, while others go on. It is a log, too.
+    ///
+    /// # Errors
+    ///
+    /// [`OpenError::Database`]: [`LogFault::Exists`] if a file is there; [`LogFault::NoLog`] if the log isn't in a
+    /// database.
+    pub fn backup(&self, path: impl AsRef<Path>) -> Result<(), OpenError> {
+        if self.found.path.as_os_str().is_empty() {
+            return Err(LogFault::NoLog.because("the log isn't in a database"));
+        }
+        copy_log(&self.found.path, &resolved(path.as_ref())?)
+    }
+}

@@ -1,0 +1,131 @@
+//! Objects that a log knows by their names.
+
+use crate::faults::Made;
+use argus_guardian::log::{LogFault, Logged, LoggedError, OpenError};
+use argus_guardian::{Change, Error, ObjId};
+use std::thread;
+use std::time::Duration;
+
+const SHAPE: &str = "atomic_record[n:int]";
+
+fn open(made: &Made) -> Logged {
+    Logged::open_or_create(&made.path).expect("opened")
+}
+
+#[test]
+fn they_are_found_again() {
+    let made = Made::empty();
+    let logged = open(&made);
+    let unnamed = logged.declare(SHAPE).expect("declared");
+    let account = logged.declare_named("account", SHAPE).expect("declared");
+    assert_ne!(unnamed, account);
+    assert_eq!(
+        logged.declare_named("account", SHAPE).expect("found"),
+        account
+    );
+    let other = logged
+        .declare_named("konto ☃ '\n", SHAPE)
+        .expect("declared");
+    assert_eq!(other, ObjId::numbered(2));
+    let created = logged.run(|top| {
+        Ok::<_, LoggedError>(top.alter(account, Change::Create("{5}".parse()?))?.done()?)
+    });
+    created.expect("acknowledged");
+    drop(logged);
+    for folds in [false, true, false] {
+        drop(logged_after(&made, folds));
+        let logged = open(&made);
+        let found = logged.declare_named("account", SHAPE).expect("found");
+        assert_eq!(found.number(), account.number());
+        // It is this guardian's.
+        assert_eq!(logged.base(found).expect("told"), "{5}".parse().ok());
+        assert_eq!(
+            logged
+                .declare_named("konto ☃ '\n", SHAPE)
+                .expect("found")
+                .number(),
+            2
+        );
+        assert_eq!(logged.objects().expect("told"), 3);
+    }
+}
+
+fn logged_after(made: &Made, folds: bool) -> Logged {
+    let logged = open(made);
+    if folds {
+        logged
+            .checkpoint_waiting(Duration::from_secs(10))
+            .expect("folded");
+    }
+    logged
+}
+
+#[test]
+fn another_shape_is_refused() {
+    let made = Made::empty();
+    let logged = open(&made);
+    logged.declare_named("account", SHAPE).expect("declared");
+    let error = logged
+        .declare_named("account", "atomic_array[int]")
+        .expect_err("another shape");
+    assert!(
+        matches!(&error, LoggedError::OtherShape(shape) if shape == SHAPE),
+        "{error}"
+    );
+    let error = logged
+        .declare_named("list", "atomic_array[")
+        .expect_err("no shape");
+    assert!(
+        matches!(error, LoggedError::Guardian(Error::BadShape)),
+        "{error}"
+    );
+    assert_eq!(logged.objects().expect("told"), 1);
+    logged
+        .declare_named("list", "atomic_array[int]")
+        .expect("declared");
+}
+
+#[test]
+fn a_log_that_isnt_in_a_database_keeps_none() {
+    let logged = Logged::in_memory().expect("made");
+    let error = logged
+        .declare_named("account", SHAPE)
+        .expect_err("no names");
+    assert!(matches!(error, LoggedError::NoNames), "{error}");
+    let made = Made::empty();
+    let error = logged.backup(&made.path).expect_err("no database");
+    assert!(
+        matches!(error, OpenError::Database(LogFault::NoLog, _)),
+        "{error}"
+    );
+    assert!(!made.path.exists());
+}
+
+#[test]
+fn threads_that_declare_one_at_once_have_the_same() {
+    let made = Made::empty();
+    let logged = open(&made);
+    let found = thread::scope(|scope| {
+        let declare = || logged.declare_named("account", SHAPE).expect("declared");
+        let threads = [(); 8].map(|()| scope.spawn(declare));
+        threads.map(|it| it.join().expect("no panic"))
+    });
+    assert_eq!(found, [found[0]; 8]);
+    assert_eq!(logged.objects().expect("told"), 1);
+}
+
+#[test]
+fn a_row_that_doesnt_fit_is_named() {
+    for change in [
+        "UPDATE object SET shape = 'atomic_array[int]'",
+        "UPDATE object SET number = 7",
+        "UPDATE object SET number = -1",
+    ] {
+        let made = Made::empty();
+        open(&made)
+            .declare_named("account", SHAPE)
+            .expect("declared");
+        made.sql(change);
+        made.refuse(LogFault::RowChanged, "");
+    }
+}
