@@ -59,6 +59,7 @@ from .guardian import Guardian
 from .ids import ActionId, ObjectId
 from .library import Demand, Kind
 from .lists import CallsMade, Listed
+from .objects import Object
 from .ready_commit import ReadyCommit
 from .resuming import resume
 from .shapes import Shape
@@ -111,6 +112,7 @@ __all__ = [
     "NoSiblings",
     "NotBegun",
     "NotThere",
+    "Object",
     "ObjectId",
     "OtherGuardian",
     "OutOfMemory",

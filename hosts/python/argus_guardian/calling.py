@@ -10,7 +10,7 @@ from __future__ import annotations
 import threading
 import time
 from collections.abc import Callable
-from typing import Any
+from typing import Any, NoReturn
 from weakref import ref
 
 from . import errors
@@ -24,8 +24,9 @@ from .library import ActionStatus, Kind, Question, Status
 from .lineage import Lineage
 from .owners import Owners
 from .ranges import i64, u32
-from .telling import Call, circle, deed, error_of_call
-from .values import Object, object_number
+from .telling import Call, circle, deed, error_of
+from .values import AnyObject, object_number, read_content, read_value, written
+from .views import view_class
 
 _DONE = Status.DONE, 0
 _TRUE = Status.FLAG, 1
@@ -45,14 +46,19 @@ class Calling(Entering, Asked):
         self.patience = patience
         self._archive = Archive()
         self._owners = Owners()
-        # What each call looks at, by the shortest way.
-        self._dropped, self._object_id = self._owners.dropped, self._ids.objects
         # How many actions were begun that the program has, or had.
         self._begun = 0
         # How often the numbers of actions began at 0 again.
         self._renewals = 0
         # The identity of the commit that is ready and can be made; None if there is none.
         self._readying: int | None = None
+        self._connect_archive()
+
+    def _connect_archive(self) -> None:
+        """Says what each call looks at, by the shortest way."""
+        owners, ids = self._owners, self._ids
+        call, reply, at = self._archive.addresses()
+        self._connect(call, reply, at, owners.live, owners.drop, owners.dropped, ids, ids.objects, Action)
 
     def _make_lock(self) -> None:
         super()._make_lock()
@@ -83,7 +89,7 @@ class Calling(Entering, Asked):
                 answer = archive.call(archive.at, kind, above, 0, 0, 0, b"")
                 status, number = answer  # type: ignore[misc]
                 if status != _IS_ACTION:
-                    raise error_of_call(status, number, (kind, above))
+                    raise self._archive.error(status, number, (kind, above))
                 action = Action(self, number, parent, kind == _BEGIN_NESTED, self._renewals)
                 owners.live[number] = ref(action, owners.drop)
                 self._begun = number + 1
@@ -108,7 +114,7 @@ class Calling(Entering, Asked):
     def _be_since(self, action: Action, kind: int, obj: int = 0) -> None:
         """Raises Over for an action from before a renewal: its number now names another one or none."""
         if action._renewals not in (None, self._renewals):
-            raise error_of_call(*_OVER, (kind, action._number, obj))
+            raise self._archive.error(*_OVER, (kind, action._number, obj))
 
     def _access_of(
         self, action: Action, kind: int, obj: Any, first: int = 0, second: int = 0, text: bytes = b""
@@ -137,6 +143,46 @@ class Calling(Entering, Asked):
             self._busy = self._awaited
             return answer
 
+    # What a call that is made at once asks of the guardian in Python, without the lock.
+
+    def _written(self, value: Any) -> bytes:
+        """The written form of a value."""
+        return written(value, self._ids)
+
+    def _read(self, status: int, text: str) -> Any:
+        """The value or the content of a written form."""
+        return read_content(text) if status == Status.CONTENT else read_value(text)
+
+    def _fail(self, status: int) -> NoReturn:
+        """Raises what a status means of the text of a call that was made."""
+        raise error_of(status)
+
+    def _view_of(self, action: Action, obj: AnyObject) -> Any:
+        """An object within an action."""
+        number = object_number(obj, self._ids)
+        return view_class(self.shape_of(obj))(action, obj, int(number))
+
+    def _late(self, action: Action, status: int, number: int, call: Call) -> Any:
+        """What comes of an access that was made, and didn't end well: it waits for its object, or raises."""
+        with self._lock:
+            self._busy = True
+            answer = self._answered((status, number), call, action._lineage, action._renewals)
+            self._busy = self._awaited
+            return answer
+
+    def _end_refused(self, action: Action, kind: int, status: int, number: int) -> NoReturn:
+        """Raises why an end of an action was refused."""
+        with self._lock:
+            self._busy = True
+            self._note_end(kind, action._number, (status, number))
+            raise self._archive.error(status, number, (kind, action._number))
+
+    def _begin_refused(self, status: int, kind: int, above: int, number: int) -> NoReturn:
+        """Raises why a begin was refused."""
+        with self._lock:
+            self._busy = True
+            raise self._archive.error(status, number, (kind, above))
+
     def _end(self, action: Action, kind: int) -> None:
         """Ends an `Action` by a commit or an abort. Takes the lock itself."""
         archive, number = self._archive, action._number
@@ -151,13 +197,13 @@ class Calling(Entering, Asked):
             answer = archive.call(archive.at, kind, number, 0, 0, 0, b"")
             if type(answer) is tuple:
                 self._note_end(kind, number, answer)
-                raise error_of_call(*answer, (kind, number))
+                raise archive.error(*answer, (kind, number))
             self._owners.live.pop(number, None)
             if self._awaited:
                 self._wake_after(action._heir())
             self._busy = self._awaited
 
-    def _make_of(self, action: Action, kind: int, obj: Object = 0) -> Any:
+    def _make_of(self, action: Action, kind: int, obj: AnyObject = 0) -> Any:
         """Makes another call of an `Action`: a test, or an abort of its siblings. Takes the lock itself."""
         call = kind, action._number, object_number(obj, self._ids)
         if self._busy:
@@ -218,7 +264,7 @@ class Calling(Entering, Asked):
         self,
         kind: int,
         action: int,
-        obj: Object,
+        obj: AnyObject,
         first: int = 0,
         second: int = 0,
         text: str = "",
@@ -329,7 +375,7 @@ class Calling(Entering, Asked):
         """Which actions hold the object that an access wants, as in `a7 wants to write o3, held by a5`."""
         readers, writers = (holders_of(self._archive, it, wait.obj) for it in (Question.READERS, Question.VERSIONS))
         named = ", ".join(f"a{number}" for number in sorted((readers | writers) - wait.lineage.own))
-        text = f"{deed(*call)}, held by {named or 'another one'}"
+        text = f"{deed(call, self._archive.name)}, held by {named or 'another one'}"
         if not wait.waits_for:
             return errors.Conflict(text)
         conflict = errors.Conflict(f"{text}: {circle(wait.action, wait.waits_for)}")

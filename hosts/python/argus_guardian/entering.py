@@ -9,6 +9,7 @@ from collections.abc import Callable
 from typing import TYPE_CHECKING, Any, TypeVar
 
 from .errors import Reentered
+from .quick import Gate
 
 if TYPE_CHECKING:
     # Python 3.9 has none.
@@ -23,7 +24,7 @@ _Result = TypeVar("_Result")
 LOOK_AFTER = 0.05
 
 
-class Entering:
+class Entering(Gate):
     """The mutex that is held around each call with its reply.
 
     A signal handler, a `__del__` and a callback may run between any two steps of a call of their thread. The mutex

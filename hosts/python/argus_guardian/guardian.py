@@ -11,22 +11,23 @@ from typing import Any, NoReturn, TypeVar
 
 from . import errors, forking
 from .action import Action
-from .calling import Calling
 from .entering import one_call
-from .ids import ObjectId, number_of
+from .ids import number_of
 from .library import Kind, Question, Status
 from .lists import CallsMade, Listed, array_of, calls_of
+from .naming import Naming
 from .ranges import MOST, U64, i64, u32, within
 from .telling import Call, error_of
-from .values import Object, object_number
+from .values import AnyObject, object_number
 
 _Done = TypeVar("_Done")
 
+_BEGIN_TOP = Kind.BEGIN_TOP
 _BEGINS = (Kind.BEGIN_TOP, Kind.BEGIN_SUB, Kind.BEGIN_NESTED)
 _ENDS = (Kind.COMMIT, Kind.ABORT, Kind.ABORT_OTHERS)
 
 
-class Guardian(Calling):
+class Guardian(Naming):
     """Atomic objects, and the actions that use them. Threads may share it: each call takes its mutex.
 
     Each call raises Reentered, and does nothing, if its thread is inside another one: if a signal handler, a
@@ -69,6 +70,7 @@ class Guardian(Calling):
         self._is_open = False
         self._archive.leave_behind()
         self._make_lock()
+        self._connect_archive()
 
     def __del__(self, warn: Callable[..., None] = warnings.warn) -> None:
         # No reference to it is left, so no thread has its lock.
@@ -85,17 +87,9 @@ class Guardian(Calling):
     def __exit__(self, *_: object) -> None:
         self.close()
 
-    def declare(self, shape: str) -> ObjectId:
-        """Declares an object of this shape, such as `atomic_record[balance:int]`, and returns its number.
-
-        The number knows its guardian: another one raises OtherGuardian. A program that keeps it for another process
-        keeps `int` of it.
-        """
-        return self._ids.objects(self.call(Kind.DECLARE, text=shape))
-
     def topaction(self) -> Action:
         """Begins a topaction. While a thread waits in `checkpoint`, it waits for that thread."""
-        return self._begin(Kind.BEGIN_TOP)
+        return self._begin_at_once(_BEGIN_TOP, None) or self._begin(_BEGIN_TOP)
 
     def run(self, work: Callable[[Action], _Done], tries: int = 20) -> _Done:
         """Carries out `work(top)` as a topaction, and returns what it returns.
@@ -202,7 +196,7 @@ class Guardian(Calling):
                 self._begun = 0
 
     def call(
-        self, kind: int, action: int = 0, obj: Object = 0, first: int = 0, second: int = 0, text: str = ""
+        self, kind: int, action: int = 0, obj: AnyObject = 0, first: int = 0, second: int = 0, text: str = ""
     ) -> Any:
         """Makes one call, of a Kind, and returns its result; raises Refused or Signal if that is the reply."""
         action = number_of(action, self._ids, "action")

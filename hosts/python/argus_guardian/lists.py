@@ -9,7 +9,7 @@ from .ids import Ids, number_of
 from .library import Demand, ListedCall
 from .ranges import U32, i64, u32, within
 from .telling import Call
-from .values import Object, object_number
+from .values import AnyObject, object_number
 
 
 class Listed(NamedTuple):
@@ -21,7 +21,7 @@ class Listed(NamedTuple):
 
     kind: int
     action: int = 0
-    obj: Object = 0
+    obj: AnyObject = 0
     first: int = 0
     second: int = 0
     text: str = ""

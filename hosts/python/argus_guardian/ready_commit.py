@@ -7,7 +7,7 @@ from typing import TYPE_CHECKING, Any
 
 from . import errors
 from .library import Kind, Status
-from .telling import error_of, error_of_call
+from .telling import error_of
 
 if TYPE_CHECKING:
     from .action import Action
@@ -83,5 +83,5 @@ class ReadyCommit:
         answer = guardian._archive.make_ready()
         guardian._note_end(Kind.COMMIT, action._number, answer)
         if answer[0] != Status.DONE:
-            raise error_of_call(*answer, (Kind.COMMIT, action._number))
+            raise guardian._archive.error(*answer, (Kind.COMMIT, action._number))
         action._is_ended = True

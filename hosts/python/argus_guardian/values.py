@@ -12,12 +12,13 @@ are numbered from 0, in the order in which their type has them.
 from __future__ import annotations
 
 import re
-from collections.abc import Callable, Iterable
+from collections.abc import Callable, Iterable, Iterator
 from dataclasses import dataclass
 from typing import TYPE_CHECKING, Any, NamedTuple, TypeVar
 
-from .errors import BadText
+from .errors import BadText, OtherGuardian
 from .ids import Ids, number_of
+from .quick import Typed
 from .ranges import BYTE, LEAST, MOST, U32, i64, within
 
 if TYPE_CHECKING:
@@ -27,9 +28,9 @@ if TYPE_CHECKING:
 MAX_DEPTH = 16
 
 # What is accepted as a value, a content and an object. What is returned is Any: its type depends on the shape.
-Value: TypeAlias = "None | bool | int | str | Ref | Choice | tuple[Value, ...] | list[Any]"
+Value: TypeAlias = "None | bool | int | str | Ref | Typed | Choice | tuple[Value, ...] | list[Any]"
 Content: TypeAlias = "Choice | Array | tuple[Value, ...]"
-Object: TypeAlias = "int | Ref"
+AnyObject: TypeAlias = "int | Ref | Typed"
 _Read = TypeVar("_Read")
 
 
@@ -46,9 +47,9 @@ def _is_same(one: tuple[Any, ...], other: object) -> bool:
 
 
 class Choice(NamedTuple):
-    """A tag of a oneof or of a variant, and its value."""
+    """A tag of a oneof or of a variant, and its value. The tag is a number, or a name where the type is known."""
 
-    tag: int
+    tag: int | str
     value: Any
 
     def __eq__(self, other: object) -> bool:
@@ -61,23 +62,28 @@ class Choice(NamedTuple):
         return hash((Choice, *self))
 
 
-class Array(NamedTuple):
-    """An array's low bound, and its elements."""
+@dataclass(frozen=True)
+class Array:
+    """An array's low bound, and its items, over which it iterates."""
 
     low: int
     items: list[Any]
 
-    def __eq__(self, other: object) -> bool:
-        return _is_same(self, other)
+    def __iter__(self) -> Iterator[Any]:
+        return iter(self.items)
 
-    def __ne__(self, other: object) -> bool:
-        return not _is_same(self, other)
+    def __len__(self) -> int:
+        return len(self.items)
 
 
-def object_number(obj: Object, ids: Ids | None = None) -> int:
+def object_number(obj: AnyObject, ids: Ids | None = None) -> int:
     """The number of an object, which may be given as a Ref. Raises what `number_of` does."""
     if ids is not None and type(obj) is ids.objects:
         return obj  # type: ignore[return-value]
+    if isinstance(obj, Typed):
+        if ids is not None and obj._ids is not ids:
+            raise OtherGuardian(f"{obj!r}: {OtherGuardian.why}")
+        return obj._number
     return number_of(obj.number if isinstance(obj, Ref) else obj, ids, "object")
 
 
@@ -95,13 +101,13 @@ def write_value(value: Value, ids: Ids | None = None) -> str:
         return str(i64(value, "integer"))
     if isinstance(value, str):
         return '"' + value.replace("\\", "\\\\").replace('"', '\\"').replace("\n", "\\n") + '"'
-    if isinstance(value, Ref):
+    if isinstance(value, (Ref, Typed)):
         return f"@{object_number(value, ids)}"
     if isinstance(value, Choice):
-        return f"<{within(value.tag, 0, BYTE, 'tag')}:{write_value(value.value, ids)}>"
+        return f"<{within(value.tag, 0, BYTE, 'tag')}:{write_value(value.value, ids)}>"  # type: ignore[arg-type]
     if isinstance(value, list):
         return "[" + _joined(value, ids) + "]"
-    if isinstance(value, tuple) and not isinstance(value, Array):
+    if isinstance(value, tuple):
         return "{" + _joined(value, ids) + "}"
     raise TypeError(f"no value: {value!r}")
 

@@ -14,6 +14,7 @@ sys.path.insert(0, str(Path(__file__).resolve().parents[1]))
 
 import argus_guardian as argus  # noqa: E402
 from argus_guardian import Array, Choice, Ref  # noqa: E402
+from argus_guardian.library import _call  # noqa: E402
 
 
 class Texts(unittest.TestCase):
@@ -209,6 +210,7 @@ class Calls(unittest.TestCase):
             self.assertEqual(guardian.entries, before)
         self.assertEqual(guardian.base(self.record), (5, "a"))
 
+    @unittest.skipIf(_call is not None, "_call.c has a buffer for each reply")
     def test_no_memory_for_a_result(self):
         with self.guardian.topaction() as top:
             top.set_field(self.record, 1, 300 * "a")

@@ -1,0 +1,143 @@
+"""`Naming`: objects by their names, which are in an object of the guardian, too: its catalogue.
+
+So a name outlives the process wherever the journal does, in a log or in lines of one's own.
+"""
+
+from __future__ import annotations
+
+from typing import Any
+
+from . import errors
+from .calling import Calling
+from .entering import one_call
+from .ids import ObjectId
+from .library import Kind, Question
+from .objects import Object, object_of
+from .shapes import Shape, read_shape, shape_of_class
+from .values import Ref, read_content, write_value
+
+# The first object of this shape is the catalogue.
+CATALOGUE = "atomic_array[struct[name:text,object:atomic]]"
+
+
+class Naming(Calling):
+    """Declarations of objects, with names and without."""
+
+    def __init__(self, patience: float) -> None:
+        super().__init__(patience)
+        # The number of the catalogue, None if there is none or nobody has looked; and the objects that have a name.
+        self._catalogue: int | None = None
+        self._numbers: dict[str, int] | None = None
+        self._named: dict[str, Object] = {}
+
+    def declare(self, shape: str | type) -> ObjectId:
+        """Declares an object of this shape, such as `atomic_record[balance:int]`, and returns its number.
+
+        A dataclass is the shape of a record that has its fields: then `get` returns objects of that. BadShape says
+        where a text is no shape, and why.
+
+        The number knows its guardian: another one raises OtherGuardian. A program that keeps it for another process
+        keeps `int` of it; but it is simpler to give the object a name.
+        """
+        text, made_by = _text_of(shape)
+        number = self._declare(text)
+        if made_by is not None:
+            self._shapes[number] = made_by
+        return self._ids.objects(number)
+
+    def object(self, name: str, shape: str | type | None = None) -> Object:
+        """The object of this name, which is declared with this shape if there is none yet.
+
+            account = guardian.object("account", "atomic_record[balance:int]")
+            with guardian.topaction() as top:
+                top.create(account, balance=5)
+                top[account].balance += 2
+
+        The shape may be a dataclass, as for `declare`. Without a shape NotThere is raised if there is no such object.
+        BadShape if there is one of another shape.
+
+        Names are in an object of the guardian, so they outlive the process where the journal does.
+        """
+        if not isinstance(name, str):
+            raise TypeError(f"a name is a text: {name!r}")
+        text, made_by = (None, None) if shape is None else _text_of(shape)
+        number, found = self._find(name, text)
+        if text is not None and found != text:
+            raise errors.BadShape(f"{name} is of the shape {found}, and not {text}")
+        known = self._named.get(name)
+        if known is None or (shape is not None and known.shape is not (made_by or read_shape(found))):
+            known = object_of(self._ids, number, name, made_by or read_shape(found))
+            self._named[name], self._shapes[number] = known, known.shape
+        return known
+
+    @one_call
+    def _declare(self, text: str) -> int:
+        if self._dropped:
+            self._abort_dropped()
+        return self._declare_at_once(text)
+
+    def _declare_at_once(self, text: str) -> int:
+        try:
+            return self._made(Kind.DECLARE, text=text.encode())
+        except errors.BadShape:
+            # Of the library's answer the place and the reason aren't known.
+            read_shape(text)
+            raise
+
+    @one_call
+    def _find(self, name: str, text: str | None) -> tuple[int, str]:
+        """The number of the object with this name, and its shape."""
+        if self._dropped:
+            self._abort_dropped()
+        if self._numbers is None:
+            self._numbers = self._read_catalogue()
+            self._archive.names.update({number: name for name, number in self._numbers.items()})
+        if name not in self._numbers:
+            if text is None:
+                raise errors.NotThere(f"no object is called {name}")
+            self._numbers[name] = self._register(name, text)
+            self._archive.names[self._numbers[name]] = name
+        number = self._numbers[name]
+        return number, self._archive.told(Question.SHAPE, obj=number)
+
+    def _read_catalogue(self) -> dict[str, int]:
+        """The objects that have a name, by that. Among objects without one, only the first of its shape is read."""
+        for number in range(self._archive.told(Question.OBJECTS)):
+            if self._archive.told(Question.SHAPE, obj=number) == CATALOGUE:
+                self._catalogue = number
+                base = read_content(self._archive.told(Question.BASE, obj=number))
+                return {name: ref.number for name, ref in base or ()}
+        return {}
+
+    def _register(self, name: str, text: str) -> int:
+        """Declares an object, and gives it this name."""
+        number = self._declare_at_once(text)
+        catalogue, begun = self._catalogue, self._archive.told(Question.ACTIONS)
+        if catalogue is None:
+            catalogue = self._made(Kind.DECLARE, text=CATALOGUE.encode())
+        try:
+            top = self._made(Kind.BEGIN_TOP)
+            if self._archive.told(Question.BASE, obj=catalogue) == "absent":
+                self._made(Kind.CREATE, top, catalogue, text=b"0[]")
+            self._made(Kind.ADDH, top, catalogue, text=write_value((name, Ref(number))).encode())
+            self._made(Kind.COMMIT, top)
+            self._begun, self._catalogue = top + 1, catalogue
+            return number
+        except BaseException:
+            self._abort_from(begun)
+            raise
+
+    def _made(self, kind: int, action: int = 0, obj: int = 0, text: bytes = b"") -> Any:
+        """The result of a call, which doesn't wait."""
+        call = kind, action, obj, 0, 0, text
+        return self._archive.answer(*self._archive.make(*call), call)
+
+
+def _text_of(shape: str | type) -> tuple[str, Shape | None]:
+    """The written form of a shape, and the shape itself if it is a dataclass."""
+    if isinstance(shape, str):
+        return shape, None
+    if not isinstance(shape, type):
+        raise TypeError(f"a shape is a text, such as atomic_record[balance:int], or a dataclass: {shape!r}")
+    made = shape_of_class(shape)
+    return made.text, made
