@@ -277,6 +277,7 @@ static int visit_acting(PyObject *self, visitproc visit, void *arg) {
     Py_VISIT(Py_TYPE(self));
     Py_VISIT(it->guardian);
     Py_VISIT(it->parent);
+    Py_VISIT(it->loop);
     return 0;
 }
 
@@ -284,6 +285,7 @@ static int clear_acting(PyObject *self) {
     acting *it = (acting *)self;
     Py_CLEAR(it->guardian);
     Py_CLEAR(it->parent);
+    Py_CLEAR(it->loop);
     return 0;
 }
 
@@ -306,6 +308,7 @@ static PyMemberDef acting_members[] = {
     {"parent", T_OBJECT, offsetof(acting, parent), READONLY, NULL},
     {"_number", T_UINT, offsetof(acting, number), READONLY, NULL},
     {"_renewals", T_OBJECT, offsetof(acting, renewals), READONLY, NULL},
+    {"_loop", T_OBJECT, offsetof(acting, loop), 0, NULL},
     {"_is_nested", T_BOOL, offsetof(acting, is_nested), READONLY, NULL},
     {"_is_ended", T_BOOL, offsetof(acting, is_ended), 0, NULL},
     {NULL, 0, 0, 0, NULL},

@@ -38,7 +38,7 @@ typedef struct {
 /* An action: `Acting`. */
 typedef struct {
     PyObject_HEAD
-    PyObject *guardian, *parent, *renewals;
+    PyObject *guardian, *parent, *renewals, *loop;
     unsigned int number;
     char is_nested, is_ended;
 } acting;

@@ -2,6 +2,7 @@
 
 from __future__ import annotations
 
+import sys
 from types import TracebackType
 from typing import TYPE_CHECKING, Any, NoReturn
 
@@ -9,13 +10,14 @@ from .errors import ArgusError, NotThere, OutOfMemory
 from .ids import ActionId, number_of
 from .library import Kind
 from .lineage import Lineage
+from .loops import Entered, watch
 from .quick import Acting
 from .ranges import U32
 from .ready_commit import ReadyCommit
-from .values import AnyObject, Value, write_content
+from .values import AnyObject, Value, object_number, write_content
 
 if TYPE_CHECKING:
-    from .calling import Calling
+    from .guardian import Guardian
 
 # The most frequent kinds, as globals, which are looked up faster than attributes.
 _FIELD, _SET_FIELD, _TOUCH, _CREATE = Kind.FIELD, Kind.SET_FIELD, Kind.TOUCH, Kind.CREATE
@@ -46,12 +48,12 @@ class Action(Acting):
     __contains__ = None
 
     # The guardian, and the parent, or the creator of a nested topaction: neither ends before this one does.
-    guardian: Calling
+    guardian: Guardian
     parent: Action | None
 
     def __new__(
         cls,
-        guardian: Calling,
+        guardian: Guardian,
         number: int,
         parent: Action | None = None,
         is_nested: bool = False,
@@ -87,6 +89,8 @@ class Action(Acting):
         raise TypeError("an action is neither pickled nor copied: it belongs to its guardian")
 
     def __enter__(self) -> Action:
+        if "asyncio" in sys.modules:
+            watch(self)
         return self
 
     def __exit__(
@@ -95,12 +99,44 @@ class Action(Acting):
         error: BaseException | None = None,
         trace: TracebackType | None = None,
     ) -> None:
+        if self._loop is not None:
+            self._leave_loop()
         if self._is_ended:
             return
         if kind is None:
             self.commit()
         else:
             self._abort_quietly()
+
+    def _leave_loop(self) -> None:
+        """Its block has ended, so nobody warns of that any more."""
+        if not isinstance(self._loop, Entered):
+            self._loop.cancel()
+            self._loop = None
+
+    def _is_in_loop(self) -> bool:
+        """Whether it is in an `async with` block: then waits are awaited, and nothing else waits."""
+        action: Action | None = self
+        while action is not None and not isinstance(action._loop, Entered):
+            action = action.parent
+        return action is not None
+
+    async def __aenter__(self) -> Action:
+        guardian, inner = self.guardian, self
+        while guardian._folds and self.parent is None:
+            # A checkpoint holds topactions back, and this one too. In a loop it had to begin all the same.
+            inner.abort()
+            await guardian._wait_for_folds_soon()
+            inner = guardian.topaction()
+        inner._loop = Entered()
+        self._loop = Entered(None if inner is self else inner)
+        return inner
+
+    async def __aexit__(
+        self, kind: type[BaseException] | None, error: BaseException | None, trace: TracebackType | None
+    ) -> None:
+        entered = self._loop
+        (entered.inner or self).__exit__(kind, error, trace)
 
     def _abort_quietly(self) -> None:
         # A sibling or an ancestor may have ended it already, or the guardian may be closed.
@@ -297,6 +333,24 @@ class Action(Acting):
         """Takes the write lock, and returns the object within this action: `account = top.locked(account)`."""
         self._ask(_TOUCH, obj)
         return self[obj]
+
+    async def alock(self, obj: AnyObject) -> None:
+        """`lock`, for a task: while it waits, the event loop goes on."""
+        await self._access_soon(_TOUCH, obj)
+
+    async def alocked(self, obj: AnyObject) -> Any:
+        """`locked`, for a task."""
+        await self._access_soon(_TOUCH, obj)
+        return self[obj]
+
+    async def aget(self, obj: AnyObject, name: str | None = None) -> Any:
+        """`get`, for a task. From then on the action may read the object without a wait."""
+        whole = self.guardian.shape_of(obj).read(await self._access_soon(Kind.WHOLE, obj))
+        return whole if name is None else self[obj][name]
+
+    async def _access_soon(self, kind: int, obj: AnyObject) -> Any:
+        call = kind, self._number, object_number(obj, self.guardian._ids), 0, 0, b""
+        return await self.guardian._access_soon(self, call)
 
     def touch(self, obj: AnyObject) -> None:
         """Another name of `lock`."""

@@ -22,6 +22,7 @@ from .entering import LOOK_AFTER, Entering
 from .ids import number_of
 from .library import ActionStatus, Kind, Question, Status
 from .lineage import Lineage
+from .loops import running_loop
 from .owners import Owners
 from .ranges import i64, u32
 from .telling import Call, circle, deed, error_of
@@ -80,7 +81,7 @@ class Calling(Entering, Asked):
                 above = parent._number
                 if parent._renewals != self._renewals:
                     self._be_since(parent, kind)
-            while self._folds and parent is None:
+            while self._folds and parent is None and running_loop() is None:
                 self._wait_for_folds()
             owners = self._owners
             if self._dropped:
@@ -90,7 +91,8 @@ class Calling(Entering, Asked):
                 status, number = answer  # type: ignore[misc]
                 if status != _IS_ACTION:
                     raise self._archive.error(status, number, (kind, above))
-                action = Action(self, number, parent, kind == _BEGIN_NESTED, self._renewals)
+                of: Any = self
+                action = Action(of, number, parent, kind == _BEGIN_NESTED, self._renewals)
                 owners.live[number] = ref(action, owners.drop)
                 self._begun = number + 1
                 self._busy = self._awaited
@@ -137,7 +139,7 @@ class Calling(Entering, Asked):
             # An integer, or nothing; else its text is read, or the call is made again.
             if type(answer) is tuple:
                 call = kind, action._number, obj, first, second, text
-                answer = self._answered(answer, call, action._lineage, action._renewals)
+                answer = self._answered(answer, call, action._lineage, action._renewals, action._is_in_loop())
             elif self._awaited and action._number in self._within:
                 self._break_circles_within(action._number)
             self._busy = self._awaited
@@ -166,7 +168,7 @@ class Calling(Entering, Asked):
         """What comes of an access that was made, and didn't end well: it waits for its object, or raises."""
         with self._lock:
             self._busy = True
-            answer = self._answered((status, number), call, action._lineage, action._renewals)
+            answer = self._answered((status, number), call, action._lineage, action._renewals, action._is_in_loop())
             self._busy = self._awaited
             return answer
 
@@ -230,7 +232,7 @@ class Calling(Entering, Asked):
 
     def _wake_after(self, heir: int | None) -> None:
         """Wakes who waits for the end of an action. If this is its parent, that has its locks now, or its own alone."""
-        self._ended.notify_all()
+        self._wake()
         if heir is not None:
             self._break_circles_within(heir)
 
@@ -302,12 +304,20 @@ class Calling(Entering, Asked):
         return action._lineage() if action else Lineage(frozenset({number}), (number,), is_known=False)
 
     def _answered(
-        self, answer: tuple[int, int], call: Call, lineage: Callable[[], Lineage], renewals: int | None
+        self,
+        answer: tuple[int, int],
+        call: Call,
+        lineage: Callable[[], Lineage],
+        renewals: int | None,
+        is_in_loop: bool = False,
     ) -> Any:
-        """The result of an access. If it is refused with Conflict, it waits and is made again."""
-        if answer == _CONFLICT:
-            return self._access_refused(call, lineage(), self._renewals if renewals is None else renewals)
-        return self._result(answer, call)
+        """The result of an access. If it is refused with Conflict, it waits and is made again; not in an event loop."""
+        if answer != _CONFLICT:
+            return self._result(answer, call)
+        renewals = self._renewals if renewals is None else renewals
+        if is_in_loop:
+            raise self._conflict(call, Wait(call, lineage(), renewals), "; `await top.alock(..)` would wait")
+        return self._access_refused(call, lineage(), renewals)
 
     def _result(self, answer: tuple[int, int], call: Call) -> Any:
         """The result of a call. If it has got a lock for an action that also waits, that may close a circle."""
@@ -371,13 +381,13 @@ class Calling(Entering, Asked):
             if found[0] is not wait:
                 self._wake()
 
-    def _conflict(self, call: Call, wait: Wait) -> errors.Conflict:
+    def _conflict(self, call: Call, wait: Wait, more: str = "") -> errors.Conflict:
         """Which actions hold the object that an access wants, as in `a7 wants to write o3, held by a5`."""
         readers, writers = (holders_of(self._archive, it, wait.obj) for it in (Question.READERS, Question.VERSIONS))
         named = ", ".join(f"a{number}" for number in sorted((readers | writers) - wait.lineage.own))
         text = f"{deed(call, self._archive.name)}, held by {named or 'another one'}"
         if not wait.waits_for:
-            return errors.Conflict(text)
+            return errors.Conflict(text + more)
         conflict = errors.Conflict(f"{text}: {circle(wait.action, wait.waits_for)}")
         conflict.waits_for = wait.waits_for
         return conflict

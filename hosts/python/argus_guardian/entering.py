@@ -54,6 +54,8 @@ class Entering(Gate):
         # The threads that wait for that, by their identity, and whether there are any. Each holds its lock here as
         # long as it waits.
         self._waiting: dict[int, threading.Lock] = {}
+        # What wakes the tasks of event loops that wait for it.
+        self._wakers: dict[object, Callable[[], None]] = {}
         self._awaited = False
         self._busy = False
 
@@ -72,7 +74,7 @@ class Entering(Gate):
         """Waits until an action ends, but not for long: one that is dropped notifies nobody."""
         this, wait = threading.get_ident(), threading.Lock()
         # After a fork the guardian has others.
-        lock, ended, waiting = self._lock, self._ended, self._waiting
+        lock, ended, waiting, wakers = self._lock, self._ended, self._waiting, self._wakers
         with wait:
             waiting[this] = wait
             self._awaited = True
@@ -85,11 +87,13 @@ class Entering(Gate):
                 # No function is called, so no interrupt comes in between.
                 self._busy = True
                 del waiting[this]
-                self._awaited = not not waiting
+                self._awaited = not not waiting or not not wakers
 
     def _wake(self) -> None:
         if self._awaited:
             self._ended.notify_all()
+            for wake in list(self._wakers.values()):
+                wake()
 
     def _wait_alone(self, limit: float) -> None:
         """`_wait_until`, which takes the lock itself."""

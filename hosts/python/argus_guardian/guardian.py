@@ -6,7 +6,7 @@ import random
 import threading
 import time
 import warnings
-from collections.abc import Callable, Iterable
+from collections.abc import Awaitable, Callable, Iterable
 from typing import Any, NoReturn, TypeVar
 
 from . import errors, forking
@@ -15,6 +15,7 @@ from .entering import one_call
 from .ids import number_of
 from .library import Kind, Question, Status
 from .lists import CallsMade, Listed, array_of, calls_of
+from .looping import InThread
 from .naming import Naming
 from .ranges import MOST, U64, i64, u32, within
 from .telling import Call, error_of
@@ -105,22 +106,48 @@ class Guardian(Naming):
             try:
                 return self._run_once(work)
             except errors.Conflict:
-                time.sleep(random.uniform(0, 0.001 * min(2**number, 100)))
+                time.sleep(_pause(number))
         return self._run_once(work)
 
     def _run_once(self, work: Callable[[Action], _Done]) -> _Done:
         with self.topaction() as top:
             return work(top)
 
-    async def arun(self, work: Callable[[Action], _Done], tries: int = 20) -> _Done:
-        """`run` for asyncio: `work`, which isn't a coroutine, runs in a thread of asyncio's pool.
+    async def arun(self, work: Callable[[Action], Any], tries: int = 20) -> Any:
+        """`run` for asyncio.
 
-        If the task is cancelled meanwhile, the topaction still goes on to its end.
+        If `work` is a coroutine function, it runs in the event loop: `await work(top)`, within `async with`. Else it
+        runs in a thread of asyncio's pool. If the task is cancelled, the topaction is aborted, unless it has committed.
         """
         # asyncio takes longer to load than the rest of the package, and most programs don't need it.
-        from asyncio import to_thread
+        import asyncio
+        from inspect import iscoroutinefunction
 
-        return await to_thread(lambda: self.run(work, tries))
+        if iscoroutinefunction(work):
+            return await self._arun_in_loop(work, tries)
+        in_thread = InThread(work)
+        running = asyncio.create_task(asyncio.to_thread(lambda: self.run(in_thread, tries)))
+        try:
+            return await asyncio.shield(running)
+        except asyncio.CancelledError:
+            # What it raises then is nobody's.
+            running.add_done_callback(lambda it: it.cancelled() or it.exception())
+            in_thread.cancel()
+            raise
+
+    async def _arun_in_loop(self, work: Callable[[Action], Awaitable[_Done]], tries: int) -> _Done:
+        from asyncio import sleep
+
+        for number in range(tries - 1):
+            try:
+                return await self._arun_once(work)
+            except errors.Conflict:
+                await sleep(_pause(number))
+        return await self._arun_once(work)
+
+    async def _arun_once(self, work: Callable[[Action], Awaitable[_Done]]) -> _Done:
+        async with self.topaction() as top:
+            return await work(top)
 
     @one_call
     def abort_live(self) -> None:
@@ -271,6 +298,11 @@ class Guardian(Naming):
         if self._dropped:
             self._abort_dropped()
         return self._archive.lines(entry, size)
+
+
+def _pause(number: int) -> float:
+    """How many seconds a topaction waits after a Conflict before it is tried once more, the first time at 0."""
+    return random.uniform(0, 0.001 * min(2**number, 100))
 
 
 def _end_of(status: int, answers: list[Any], array: Any) -> errors.ArgusError | None:

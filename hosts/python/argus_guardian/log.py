@@ -236,6 +236,15 @@ class Log:
         self._acknowledge()
         return done
 
+    async def arun(self, work: Callable[[Action], Any], tries: int = 20) -> Any:
+        """`Guardian.arun`, which returns when the commit is on disk. A thread waits for that."""
+        from asyncio import to_thread
+
+        self._refuse_broken()
+        done = await self.guardian.arun(work, tries)
+        await to_thread(self._acknowledge)
+        return done
+
     def checkpoint(self, patience: float = 1.0) -> None:
         """Folds the journal when no action is live, and puts what the objects hold in place of the log's batches.
 
@@ -295,6 +304,21 @@ class LoggedTopaction:
         drop, owner = guardian._owners.drop, guardian._owners.live[self._top._number]
         self._dropped = ref(self, lambda _: drop(owner))
         return self._top
+
+    async def __aenter__(self) -> Action:
+        self._log._refuse_broken()
+        self._top = self._log.guardian.topaction()
+        return await self._top.__aenter__()
+
+    async def __aexit__(
+        self, kind: type[BaseException] | None, error: BaseException | None, trace: TracebackType | None
+    ) -> None:
+        from asyncio import to_thread
+
+        if self._top is not None:
+            await self._top.__aexit__(kind, error, trace)
+        if kind is None:
+            await to_thread(self._log._acknowledge)
 
     def __exit__(
         self, kind: type[BaseException] | None, error: BaseException | None, trace: TracebackType | None

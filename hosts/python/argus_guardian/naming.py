@@ -8,10 +8,10 @@ from __future__ import annotations
 from typing import Any
 
 from . import errors
-from .calling import Calling
 from .entering import one_call
 from .ids import ObjectId
 from .library import Kind, Question
+from .looping import Looping
 from .objects import Object, object_of
 from .shapes import Shape, read_shape, shape_of_class
 from .values import Ref, read_content, write_value
@@ -20,7 +20,7 @@ from .values import Ref, read_content, write_value
 CATALOGUE = "atomic_array[struct[name:text,object:atomic]]"
 
 
-class Naming(Calling):
+class Naming(Looping):
     """Declarations of objects, with names and without."""
 
     def __init__(self, patience: float) -> None:

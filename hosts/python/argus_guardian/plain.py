@@ -46,7 +46,7 @@ class Gate:
 class Acting:
     """What an action has in C."""
 
-    __slots__ = ("_is_ended", "_is_nested", "_number", "_renewals", "guardian", "parent")
+    __slots__ = ("_is_ended", "_is_nested", "_loop", "_number", "_renewals", "guardian", "parent")
 
     guardian: Any
     parent: Any
@@ -54,6 +54,7 @@ class Acting:
     _is_nested: bool
     _is_ended: bool
     _renewals: int | None
+    _loop: Any
 
     def __new__(
         cls: type[_Acting],
@@ -70,6 +71,8 @@ class Acting:
         self._number, self._is_nested, self._is_ended = number, is_nested, False
         # How often the guardian had been renewed when it was begun; None if only its number counts.
         self._renewals = renewals
+        # What it has in an event loop: looping.py.
+        self._loop = None
         return self
 
     def _ask(self, kind: int, obj: Any, first: int = 0, second: int = 0) -> Any:
