@@ -138,6 +138,7 @@ static PyObject *access_at_once(acting *self, uint32_t kind, uint32_t object, in
     gate *it = (gate *)self->guardian;
     int64_t number = 0;
     uint32_t status = it->call(it->at, kind, self->number, object, first, second, words, (size_t)size, &number);
+    it->left--;
     if (status == DONE) Py_RETURN_NONE;
     if (status == NUMBER) return PyLong_FromLongLong(number);
     if (status == FLAG) return PyBool_FromLong(number != 0);
@@ -239,6 +240,7 @@ static PyObject *end_at_once(PyObject *self, PyObject *kind) {
     PyObject *key;
     if (guardian == NULL || !u32(kind, &how)) return NULL;
     if (it->renewals != guardian->renewals || !is_free(guardian)) Py_RETURN_FALSE;
+    if (--guardian->left <= 0 && it->parent == Py_None) Py_RETURN_FALSE;
     key = PyLong_FromUnsignedLong(it->number);
     if (key == NULL) return NULL;
     status = guardian->call(guardian->at, how, it->number, 0, 0, 0, "", 0, &number);

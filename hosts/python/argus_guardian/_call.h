@@ -32,6 +32,7 @@ typedef struct {
     void *at;
     PyObject *dropped, *folds, *live, *drop, *ids, *object_id, *action_class, *renewals;
     unsigned int begun;
+    long long left; /* calls, before it is looked whether there is much to fold */
     char is_busy, is_awaited;
 } gate;
 

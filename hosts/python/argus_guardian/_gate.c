@@ -44,6 +44,7 @@ static PyObject *begin_at_once(PyObject *self, PyObject *const *given, Py_ssize_
     Py_XINCREF(it->renewals), made->renewals = it->renewals;
     made->number = (unsigned int)number, made->is_nested = kind == BEGIN_NESTED;
     it->begun = made->number + 1;
+    it->left--;
     return note_begun(it, made);
 }
 
@@ -92,6 +93,7 @@ static PyMemberDef gate_members[] = {
     {"_awaited", T_BOOL, offsetof(gate, is_awaited), 0, NULL},
     {"_folds", T_OBJECT_EX, offsetof(gate, folds), 0, NULL},
     {"_renewals", T_OBJECT_EX, offsetof(gate, renewals), 0, NULL},
+    {"_left", T_LONGLONG, offsetof(gate, left), 0, NULL},
     {"_begun", T_UINT, offsetof(gate, begun), 0, NULL},
     {"_dropped", T_OBJECT_EX, offsetof(gate, dropped), READONLY, NULL},
     {"_object_id", T_OBJECT_EX, offsetof(gate, object_id), READONLY, NULL},

@@ -31,6 +31,9 @@ class Asked:
         # The shapes of objects, by their numbers; those that were asked for.
         self._shapes: dict[int, Shape] = {}
 
+    def _note_read_alone(self, entry: int) -> None:
+        """The program has read the journal up to this entry."""
+
     def _tell(self, question: int, obj: int = 0, entry: int = 0, action: int = 0) -> Any:
         """The result of a question."""
         raise NotImplementedError
@@ -111,7 +114,9 @@ class Asked:
 
     def entry(self, number: int) -> str:
         """The line of a journal's entry. NotThere if a checkpoint has folded it."""
-        return self._tell(Question.ENTRY, entry=within(number, 0, U64, "entry"))
+        line: str = self._tell(Question.ENTRY, entry=within(number, 0, U64, "entry"))
+        self._note_read_alone(number + 1)
+        return line
 
     def list(self, listing: str) -> str:
         """A listing: of `bases`, `stacks`, `journal` or `audit`."""

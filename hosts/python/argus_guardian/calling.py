@@ -24,7 +24,7 @@ from .library import ActionStatus, Kind, Question, Status
 from .lineage import Lineage
 from .loops import running_loop
 from .owners import Owners
-from .ranges import i64, u32
+from .ranges import MOST, i64, u32
 from .telling import Call, circle, deed, error_of
 from .values import AnyObject, object_number, read_content, read_value, written
 from .views import view_class
@@ -51,6 +51,8 @@ class Calling(Entering, Asked):
         self._begun = 0
         # How often the numbers of actions began at 0 again.
         self._renewals = 0
+        # How many calls are left before it is looked whether there is much to fold.
+        self._left = MOST
         # The identity of the commit that is ready and can be made; None if there is none.
         self._readying: int | None = None
         self._connect_archive()
@@ -76,6 +78,7 @@ class Calling(Entering, Asked):
             self._refuse_reentered()
         with self._lock:
             self._busy = True
+            self._left -= 1
             above = 0
             if parent is not None:
                 above = parent._number
@@ -135,6 +138,7 @@ class Calling(Entering, Asked):
                 self._abort_dropped()
             if action._renewals != self._renewals:
                 self._be_since(action, kind, obj)
+            self._left -= 1
             answer = make(archive.at, kind, action._number, obj, first, second, text)
             # An integer, or nothing; else its text is read, or the call is made again.
             if type(answer) is tuple:
@@ -203,7 +207,13 @@ class Calling(Entering, Asked):
             self._owners.live.pop(number, None)
             if self._awaited:
                 self._wake_after(action._heir())
+            self._left -= 1
+            if self._left <= 0:
+                self._fold_if_due()
             self._busy = self._awaited
+
+    def _fold_if_due(self) -> None:
+        """An action has ended, and there may be much to fold."""
 
     def _make_of(self, action: Action, kind: int, obj: AnyObject = 0) -> Any:
         """Makes another call of an `Action`: a test, or an abort of its siblings. Takes the lock itself."""
@@ -394,6 +404,7 @@ class Calling(Entering, Asked):
 
     def _make(self, *call: Any) -> tuple[int, int]:
         """The status and the number of a call."""
+        self._left -= 1
         if self._dropped:
             self._abort_dropped()
         return self._archive.make(*call)

@@ -49,13 +49,15 @@ class Guardian(Naming):
 
     It isn't promised that a wait ends.
 
-    The journal keeps each call with its reply, and so grows until a checkpoint. A guardian begins at
-    most MAX_ACTIONS actions until it is renewed, which `checkpoint` does when half of these numbers are
-    used, and declares at most 65,535 objects.
+    The journal keeps each call with its reply, and so grows until a checkpoint. The guardian makes one by itself after
+    `checkpoint_after` entries, as soon as a topaction ends and no action is live; None: never. A guardian begins at
+    most MAX_ACTIONS actions until it is renewed, which a checkpoint does when half of these numbers are used, and
+    declares at most 65,535 objects.
     """
 
-    def __init__(self, patience: float = 1.0) -> None:
+    def __init__(self, patience: float = 1.0, *, checkpoint_after: int | None = 100_000) -> None:
         super().__init__(patience)
+        self.checkpoint_after = checkpoint_after
         self._is_open = True
         forking.add(self)
 
@@ -163,65 +165,6 @@ class Guardian(Naming):
         if status != Status.DONE:
             raise error_of(status)
 
-    def checkpoint(self, patience: float = 0.0) -> None:
-        """Folds the journal's entries when no action is live.
-
-        Until then it holds back each `topaction`, for at most `patience` seconds; then it raises Busy. So
-        don't wait here in a thread that has a live action. When half of the numbers for actions are
-        used, it also renews the guardian.
-        """
-        self._fold_waiting(patience, self._fold)
-
-    def renew(self, patience: float = 0.0) -> None:
-        """Numbers actions from 0 again, when no action is live; waits as `checkpoint` does.
-
-        Objects keep their numbers, their shapes and their bases, and entries their numbers; the journal's
-        entries are folded. From then on the number of an earlier action names another action or none, and
-        an `Action` from before is over.
-        """
-        self._fold_waiting(patience, self._begin_anew)
-
-    @one_call
-    def _fold_waiting(self, patience: float, fold: Callable[[], int]) -> None:
-        limit, this = time.monotonic() + patience, object()
-        try:
-            self._folds[this] = threading.get_ident()
-            status = fold()
-            while status == Status.BUSY and time.monotonic() < limit:
-                self._wait_until(limit)
-                status = fold()
-        finally:
-            self._folds.pop(this, None)
-            self._wake()
-        if status != Status.DONE:
-            raise error_of(status)
-
-    def _fold(self) -> int:
-        self._abort_dropped()
-        return self._fold_at_once()
-
-    def _fold_at_once(self) -> int:
-        """Folds the journal as it is: it makes no entry before."""
-        if self._archive.told(Question.ACTIONS) >= self.MAX_ACTIONS // 2:
-            return self._renew_at_once()
-        return self._archive.fold()
-
-    def _begin_anew(self) -> int:
-        self._abort_dropped()
-        return self._renew_at_once()
-
-    def _renew_at_once(self) -> int:
-        """Begins anew with the journal as it is: it makes no entry before."""
-        try:
-            return self._archive.renew()
-        finally:
-            # An interrupt may have lost the status.
-            if self._archive.told(Question.ACTIONS) == 0:
-                self._renewals += 1
-                # All actions that were begun are over, and their numbers are used again.
-                self._owners.live.clear()
-                self._begun = 0
-
     def call(
         self, kind: int, action: int = 0, obj: AnyObject = 0, first: int = 0, second: int = 0, text: str = ""
     ) -> Any:
@@ -269,6 +212,7 @@ class Guardian(Naming):
 
     def _make_each(self, array: Any) -> CallsMade:
         status, count = self._archive.make_each(array)
+        self._left -= count
         made = array[:count]
         calls, outcomes = calls_of(made), [(it.status, it.number) for it in made]
         try:
@@ -297,7 +241,9 @@ class Guardian(Naming):
         entry, size = within(entry, 0, U64, "entry"), within(size, 0, MOST, "size")
         if self._dropped:
             self._abort_dropped()
-        return self._archive.lines(entry, size)
+        lines = self._archive.lines(entry, size)
+        self._note_read(entry + len(lines))
+        return lines
 
 
 def _pause(number: int) -> float:

@@ -107,7 +107,7 @@ class Log:
         self.checkpoint_after = checkpoint_after
         # Before this entry no checkpoint is tried again.
         self._again_at = 0
-        self.guardian = LoggedGuardian(patience)
+        self.guardian = LoggedGuardian(patience, checkpoint_after=None)
         try:
             self._writer = LogWriter(self.guardian, _resolved(path), wanted, _version())
         except BaseException:

@@ -7,10 +7,11 @@ import time
 from collections.abc import Callable
 from typing import TYPE_CHECKING, Any, TypeVar
 
-from .calling import _CONFLICT, Calling
+from .calling import _CONFLICT
 from .circles import Wait
 from .entering import LOOK_AFTER, one_call
 from .errors import Over
+from .folding import Folding
 from .telling import Call
 
 if TYPE_CHECKING:
@@ -77,7 +78,7 @@ class InThread:
             self._top._abort_quietly()
 
 
-class Looping(Calling):
+class Looping(Folding):
     """Accesses and topactions of tasks."""
 
     async def _access_soon(self, action: Action, call: Call) -> Any:
@@ -155,6 +156,7 @@ class Looping(Calling):
         try:
             self._be_woken(turn, turn)
             while self._folds:
+                self._look_at_hold()
                 await turn.wait(time.monotonic() + LOOK_AFTER)
         finally:
             self._be_woken(turn, None)

@@ -19,6 +19,7 @@ class Gate:
     _folds: dict[object, int]
     _renewals: int
     _begun: int
+    _left: int
     _dropped: Any
     _object_id: type
     _access_of: Callable[..., Any]

@@ -66,6 +66,7 @@ class ReadyCommit:
         # The next call opens the guardian again, however the block ends.
         guardian._owners.dropped.append(None)
         guardian._readying = id(self)
+        guardian._note_read(0)
         status = guardian._archive.ready_commit(action._number)
         if status != Status.DONE:
             raise error_of(status)
