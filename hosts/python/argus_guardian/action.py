@@ -254,11 +254,11 @@ class Action(Acting):
         """The element at this place, or Bounds."""
         return self._ask(Kind.FETCH, obj, place)
 
-    def bottom(self, obj: AnyObject) -> Any:
+    def first(self, obj: AnyObject) -> Any:
         """The first element, or Bounds."""
         return self._ask(Kind.BOTTOM, obj)
 
-    def top(self, obj: AnyObject) -> Any:
+    def last(self, obj: AnyObject) -> Any:
         """The last element, or Bounds."""
         return self._ask(Kind.TOP, obj)
 

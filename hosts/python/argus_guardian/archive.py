@@ -4,7 +4,7 @@ from __future__ import annotations
 
 import ctypes
 from collections.abc import Iterator
-from typing import Any
+from typing import Any, NamedTuple
 
 from .errors import ArgusError, OutOfMemory, Refused, Signal
 from .library import Handle, Question, Ready, Status, address, address_of, bare, load, opening, quick
@@ -15,6 +15,8 @@ from .values import read_content, read_value
 # The most frequent ones, as globals, which are looked up faster than attributes.
 NUMBER, DONE, FLAG = Status.NUMBER, Status.DONE, Status.FLAG
 VALUE, TOO_SMALL = Status.VALUE, Status.TOO_SMALL
+# Texts of so many bytes are read after a call, when others may go on.
+LONG = 4096
 # The most bytes that the line of a commit has: two numbers of 20 and 10 digits, and the longest refusal.
 LINE = 61
 
@@ -158,10 +160,9 @@ class Archive:
             return None
         if status == FLAG:
             return number != 0
-        if status == VALUE:
-            return _value(self._text())
-        if status == Status.CONTENT:
-            return read_content(self._text().decode())
+        if status in (VALUE, Status.CONTENT):
+            text = self._text()
+            return read_reply(status, text) if len(text) < LONG else Unread(status, text)
         if status in (Status.OBJECT, Status.ACTION):
             return number
         raise self.error(status, number, call)
@@ -192,10 +193,8 @@ class Archive:
 
     def _answer_in(self, lines: Iterator[bytes], status: int, number: int, call: Call) -> Any:
         """The result of a call of a list; its text, if it has one, is the next of these lines."""
-        if status == Status.VALUE:
-            return _value(next(lines))
-        if status == Status.CONTENT:
-            return read_content(next(lines).decode())
+        if status in (VALUE, Status.CONTENT):
+            return read_reply(status, next(lines))
         try:
             return self.answer(status, number, call)
         except (Refused, Signal) as error:
@@ -228,6 +227,23 @@ class Archive:
             self._room, self._room_size = ctypes.create_string_buffer(size), ctypes.c_size_t(size)
         except MemoryError:
             raise OutOfMemory() from None
+
+
+class Unread(NamedTuple):
+    """A long text of a reply, which is read once the guardian's mutex is free."""
+
+    status: int
+    text: bytes
+
+
+def read_late(result: Any) -> Any:
+    """The result of a call, of which a long text is read now."""
+    return read_reply(*result) if type(result) is Unread else result
+
+
+def read_reply(status: int, text: bytes) -> Any:
+    """The value or the content of a reply's text."""
+    return _value(text) if status == VALUE else read_content(text.decode())
 
 
 def _value(written: bytes) -> Any:

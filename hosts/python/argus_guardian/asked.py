@@ -120,6 +120,8 @@ class Asked:
 
     def list(self, listing: str) -> str:
         """A listing: of `bases`, `stacks`, `journal` or `audit`."""
+        if listing not in _LISTINGS:
+            raise errors.BadKind(f"no listing is called {listing!r}: {', '.join(_LISTINGS)} are")
         return self._tell(_LISTINGS[listing])
 
 

@@ -7,6 +7,7 @@ call.
 
 from __future__ import annotations
 
+import logging
 import threading
 import time
 from collections.abc import Callable
@@ -15,7 +16,7 @@ from weakref import ref
 
 from . import errors
 from .action import Action
-from .archive import Archive
+from .archive import Archive, read_late
 from .asked import Asked
 from .circles import Search, Wait, Waits, holders_of
 from .entering import LOOK_AFTER, Entering
@@ -24,7 +25,7 @@ from .library import ActionStatus, Kind, Question, Status
 from .lineage import Lineage
 from .loops import running_loop
 from .owners import Owners
-from .ranges import MOST, i64, u32
+from .ranges import MOST, i64, seconds, u32
 from .telling import Call, circle, deed, error_of
 from .values import AnyObject, object_number, read_content, read_value, written
 from .views import view_class
@@ -38,6 +39,11 @@ _CONFLICT: tuple[int, int] = Status.REFUSED, errors.REFUSALS.index(errors.Confli
 _IS_ACTION, _BEGIN_NESTED = Status.ACTION, Kind.BEGIN_NESTED
 
 
+# What a guardian does by itself is told here. Nobody has to listen.
+LOGGER = logging.getLogger("argus_guardian")
+LOGGER.addHandler(logging.NullHandler())
+
+
 class Calling(Entering, Asked):
     """The calls of actions. What begins with `_` and doesn't take the lock itself is called with the lock held."""
 
@@ -45,8 +51,8 @@ class Calling(Entering, Asked):
         Asked.__init__(self)
         Entering.__init__(self)
         self.patience = patience
-        self._archive = Archive()
-        self._owners = Owners()
+        self._archive: Archive = Archive()
+        self._owners: Owners = Owners()
         # How many actions were begun that the program has, or had.
         self._begun = 0
         # How often the numbers of actions began at 0 again.
@@ -55,7 +61,18 @@ class Calling(Entering, Asked):
         self._left = MOST
         # The identity of the commit that is ready and can be made; None if there is none.
         self._readying: int | None = None
+        # That of the last one that was ready.
+        self._prepared: int | None = None
         self._connect_archive()
+
+    @property
+    def patience(self) -> float:
+        """How many seconds an access waits for its object, at most."""
+        return self._patience
+
+    @patience.setter
+    def patience(self, patience: float) -> None:
+        self._patience = seconds(patience, "patience")
 
     def _connect_archive(self) -> None:
         """Says what each call looks at, by the shortest way."""
@@ -147,7 +164,7 @@ class Calling(Entering, Asked):
             elif self._awaited and action._number in self._within:
                 self._break_circles_within(action._number)
             self._busy = self._awaited
-            return answer
+        return read_late(answer)
 
     # What a call that is made at once asks of the guardian in Python, without the lock.
 
@@ -174,7 +191,7 @@ class Calling(Entering, Asked):
             self._busy = True
             answer = self._answered((status, number), call, action._lineage, action._renewals, action._is_in_loop())
             self._busy = self._awaited
-            return answer
+        return read_late(answer)
 
     def _end_refused(self, action: Action, kind: int, status: int, number: int) -> NoReturn:
         """Raises why an end of an action was refused."""
@@ -264,6 +281,7 @@ class Calling(Entering, Asked):
         for number in self._owners.take_dropped():
             # Nobody knows its parent, which may have its locks alone then.
             waits = self._waits.all() if self._awaited else waits
+            LOGGER.warning("a%d was dropped without an end, and is aborted", number)
             answer = self._archive.make(Kind.ABORT, number)
             self._note_end(Kind.ABORT, number, answer)
             if answer[0] == Status.NO_MEMORY:
@@ -302,7 +320,7 @@ class Calling(Entering, Asked):
             answer = self._make_since(renewals, *call)
             result = self._answered(answer, call, lambda: self._lineage_of(action, lineage), renewals)
             self._busy = self._awaited
-            return result
+        return read_late(result)
 
     def _lineage_of(self, number: int, numbers: Callable[[], set[int]] | None) -> Lineage:
         """That of an action that is named by its number, and maybe by the numbers of its ancestors."""
@@ -388,6 +406,7 @@ class Calling(Entering, Asked):
             if not found:
                 break
             found[0].waits_for = tuple(map(self._ids.actions, search.names(found)))
+            LOGGER.info("refused in a circle: %s", circle(found[0].action, found[0].waits_for))
             if found[0] is not wait:
                 self._wake()
 

@@ -7,10 +7,10 @@ import time
 from collections.abc import Callable
 
 from . import errors
-from .calling import Calling
+from .calling import LOGGER, Calling
 from .entering import one_call
 from .library import Question, Status
-from .ranges import MOST, within
+from .ranges import MOST, seconds, within
 from .telling import error_of
 
 # For so many seconds a checkpoint that a guardian makes by itself holds topactions back, if there is no quiet moment.
@@ -74,6 +74,7 @@ class Folding(Calling):
         status = self._fold_at_once() if self._read_to is None else self._archive.fold()
         # Busy, if an action is live that was begun by its number alone.
         self._left = after if status == Status.DONE else after // 10 + 1
+        LOGGER.debug("a checkpoint by itself: %s", Status(status).name)
         self._let_go()
 
     def _let_go(self) -> None:
@@ -126,7 +127,7 @@ class Folding(Calling):
 
     @one_call
     def _fold_waiting(self, patience: float, fold: Callable[[], int]) -> None:
-        limit, this = time.monotonic() + patience, object()
+        limit, this = time.monotonic() + seconds(patience, "patience"), object()
         try:
             self._folds[this] = threading.get_ident()
             status = fold()

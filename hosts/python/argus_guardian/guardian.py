@@ -11,6 +11,7 @@ from typing import Any, NoReturn, TypeVar
 
 from . import errors, forking
 from .action import Action
+from .archive import read_late
 from .entering import one_call
 from .ids import number_of
 from .library import Kind, Question, Status
@@ -78,8 +79,24 @@ class Guardian(Naming):
     def __del__(self, warn: Callable[..., None] = warnings.warn) -> None:
         # No reference to it is left, so no thread has its lock.
         if getattr(self, "_is_open", False):
+            said = repr(self)
             self._archive.close()
-            warn(f"unclosed guardian {self!r}", ResourceWarning, source=self)
+            warn(f"unclosed guardian {said}", ResourceWarning, source=self)
+
+    def __repr__(self) -> str:
+        """How many objects and entries it has. It waits for nobody, and may be called inside a call."""
+        name = type(self).__name__
+        if not self._is_open:
+            return f"<{name}, closed>"
+        if self._has_lock() or not self._lock.acquire(blocking=False):
+            return f"<{name}, in a call>"
+        try:
+            self._busy = True
+            told = [self._archive.ask(it)[1] for it in (Question.OBJECTS, Question.ENTRIES)]
+            self._busy = self._awaited
+        finally:
+            self._lock.release()
+        return f"<{name} of {told[0]} objects, {told[1]} entries, {len(self._owners.live)} live actions>"
 
     def __reduce__(self) -> NoReturn:
         raise TypeError("a guardian is neither pickled nor copied: it lives in one process")
@@ -183,7 +200,7 @@ class Guardian(Naming):
                 self._begun = answer[1] + 1
             result = self._result(answer, call)
             self._busy = self._awaited
-            return result
+        return read_late(result)
 
     def call_each(self, calls: Iterable[Listed]) -> CallsMade:
         """Makes these calls, each a `Listed`, up to the first whose reply isn't what its demand says.

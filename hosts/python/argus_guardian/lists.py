@@ -50,6 +50,8 @@ def array_of(calls: list[Listed], ids: Ids) -> Any:
 
 
 def _listed_call(call: Listed, ids: Ids) -> ListedCall:
+    if not isinstance(call, Listed):
+        raise TypeError(f"a call of a list is a Listed, and not {call!r}")
     text = call.text.encode()
     return ListedCall(
         kind=u32(call.kind, "kind"),

@@ -41,6 +41,7 @@ from .log_errors import (
 )
 from .log_making import make_log
 from .log_writer import JournalOfLog, LogCounts, LogWriter, Wanted
+from .ranges import seconds
 from .telling import error_of
 
 _Done = TypeVar("_Done")
@@ -252,7 +253,7 @@ class Log:
         patience is over. When half of the numbers for actions are used, it also renews the guardian. OutOfMemory and
         Full are raised at once, and nothing is folded.
         """
-        limit, guardian, this = time.monotonic() + patience, self.guardian, object()
+        limit, guardian, this = time.monotonic() + seconds(patience, "patience"), self.guardian, object()
         self._refuse_reentered()
         try:
             guardian._folds[this] = threading.get_ident()

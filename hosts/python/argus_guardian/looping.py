@@ -7,6 +7,7 @@ import time
 from collections.abc import Callable
 from typing import TYPE_CHECKING, Any, TypeVar
 
+from .archive import read_late
 from .calling import _CONFLICT
 from .circles import Wait
 from .entering import LOOK_AFTER, one_call
@@ -87,13 +88,13 @@ class Looping(Folding):
 
         made = self._tried(action, call, get_running_loop())
         if not isinstance(made, SoonMade):
-            return made
+            return read_late(made)
         try:
             while not self._tried_again(made):
                 await made.turn.wait(made.limit)
         finally:
             self._give_up(made)
-        return made.result
+        return read_late(made.result)
 
     @one_call
     def _tried(self, action: Action, call: Call, loop: AbstractEventLoop) -> Any:

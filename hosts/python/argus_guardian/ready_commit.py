@@ -30,12 +30,11 @@ class ReadyCommit:
     """A prepared commit, so that it is in a log before anybody can see what it leaves.
 
     `Action.ready_commit` makes one for a `with` block, in which the guardian's mutex is held. So any other call of
-    this thread raises Reentered there, and the commit stays ready. `line` is the line that the commit will have in
-    the journal's listing, with its line feed.
+    this thread raises Reentered there, and the commit stays ready.
     """
 
     def __init__(self, action: Action) -> None:
-        self._action, self.line = action, ""
+        self._action, self._line = action, ""
         # After a fork the guardian has another one.
         self._lock: Any = action.guardian._lock
 
@@ -70,7 +69,16 @@ class ReadyCommit:
         status = guardian._archive.ready_commit(action._number)
         if status != Status.DONE:
             raise error_of(status)
-        self.line = guardian._archive.ready_line()
+        self._line = guardian._archive.ready_line()
+        guardian._prepared = id(self)
+
+    @property
+    def line(self) -> str:
+        """The line that the commit will have in the journal's listing, with its line feed. Closed after the block."""
+        guardian = self._action.guardian
+        if guardian._prepared != id(self) or not guardian._has_lock():
+            raise errors.Closed("the commit isn't ready any more")
+        return self._line
 
     def make(self) -> None:
         """Makes the commit, which takes no memory. If it is refused, raises that; the journal has the refusal.

@@ -104,7 +104,7 @@ class Calls(unittest.TestCase):
     def test_queries_and_changes_of_arrays(self):
         with self.guardian.topaction() as top:
             self.assertEqual((top.low(self.array), top.high(self.array), top.size(self.array)), (1, 3, 3))
-            self.assertEqual((top.bottom(self.array), top.fetch(self.array, 2), top.top(self.array)), (10, 20, 30))
+            self.assertEqual((top.first(self.array), top.fetch(self.array, 2), top.last(self.array)), (10, 20, 30))
             top.store(self.array, 2, 21)
             top.addl(self.array, 0)
             top.addh(self.array, 40)

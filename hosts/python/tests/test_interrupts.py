@@ -72,7 +72,7 @@ class Interrupts(unittest.TestCase):
         self.order = order
         for _ in range(self.TIMES):
             self.work_until_interrupted()
-            self.assertFalse(self.guardian._lock._is_owned())
+            self.assertFalse(self.guardian._has_lock())
             self.guardian.checkpoint()
 
     def test_none_leaves_its_thread_inside_a_wait(self):
@@ -160,7 +160,7 @@ class Waits(unittest.TestCase):
                 time.sleep(0.2)
                 signal.pthread_kill(main, signal.SIGALRM)
                 time.sleep(0.1)
-                found.append(guardian._ended._is_owned())
+                found.append(guardian._has_lock())
 
         thread = threading.Thread(target=hold)
         with self.assertRaises(KeyboardInterrupt), guardian.topaction() as top:
@@ -184,7 +184,7 @@ class Waits(unittest.TestCase):
                 top.lock(record)
         self.assertEqual((guardian.live(), guardian._waiting), (holder.number, {}))
         self.assertIsNone(guardian.live(holder.number + 1))
-        self.assertFalse(guardian._lock._is_owned())
+        self.assertFalse(guardian._has_lock())
 
 
 class Forgotten(unittest.TestCase):

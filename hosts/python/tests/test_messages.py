@@ -1,5 +1,6 @@
 """What exceptions say, and how they travel."""
 
+import gc
 import pickle
 import sys
 import threading
@@ -135,6 +136,60 @@ class Messages(unittest.TestCase):
         with self.assertRaises(argus.Closed):
             with self.guardian.topaction():
                 self.guardian.close()
+
+
+class Arguments(unittest.TestCase):
+    """What is wrong with an argument is said when it is given."""
+
+    def setUp(self):
+        self.guardian = argus.Guardian()
+        self.addCleanup(self.guardian.close)
+
+    def test_patience(self):
+        for wrong, error in ("x", TypeError), (None, TypeError), (True, TypeError), (float("nan"), ValueError):
+            for give in (
+                lambda: argus.Guardian(patience=wrong),
+                lambda: setattr(self.guardian, "patience", wrong),
+                lambda: self.guardian.checkpoint(wrong),
+                lambda: self.guardian.renew(wrong),
+            ):
+                with self.assertRaisesRegex(error, "patience"):
+                    give()
+        self.guardian.patience = 2
+        self.assertEqual((self.guardian.patience, self.guardian._folds), (2, {}))
+
+    def test_calls_of_a_list_and_listings(self):
+        with self.assertRaisesRegex(TypeError, "Listed, and not 1"):
+            self.guardian.call_each([1])
+        for wrong in "x", None, 3:
+            with self.assertRaisesRegex(argus.BadKind, "bases, stacks, journal, audit"):
+                self.guardian.list(wrong)
+        self.assertEqual(self.guardian.entries, 0)
+
+
+class Told(unittest.TestCase):
+    """What a guardian says of itself."""
+
+    def test_its_representation(self):
+        guardian = argus.Guardian()
+        guardian.declare("atomic_record[n:int]")
+        top = guardian.topaction()
+        self.assertEqual(repr(guardian), "<Guardian of 1 objects, 2 entries, 1 live actions>")
+        with top.ready_commit():
+            self.assertEqual(repr(guardian), "<Guardian, in a call>")
+        self.assertEqual(guardian.entries, 2)
+        guardian.close()
+        self.assertEqual(repr(guardian), "<Guardian, closed>")
+
+    def test_what_is_logged(self):
+        with argus.Guardian(checkpoint_after=4) as guardian, self.assertLogs("argus_guardian", "DEBUG") as logs:
+            guardian.topaction()
+            gc.collect()
+            for _ in range(3):
+                guardian.topaction().commit()
+        said = [f"{it.levelname} {it.getMessage()}" for it in logs.records]
+        self.assertIn("WARNING a0 was dropped without an end, and is aborted", said)
+        self.assertIn("DEBUG a checkpoint by itself: DONE", said)
 
 
 class Places(unittest.TestCase):

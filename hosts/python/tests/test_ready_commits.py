@@ -37,6 +37,8 @@ class ReadyCommits(unittest.TestCase):
         self.assertIsNone(self.guardian.base(self.record))
         with self.assertRaises(Closed):
             ready.make()
+        with self.assertRaises(Closed):
+            ready.line
         self.top.commit()
         self.assertEqual(self.guardian.base(self.record), (5,))
 

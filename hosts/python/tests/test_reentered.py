@@ -14,6 +14,7 @@ import unittest
 import weakref
 from concurrent.futures import ThreadPoolExecutor
 from pathlib import Path
+from unittest import mock
 
 sys.path.insert(0, str(Path(__file__).resolve().parents[1]))
 
@@ -199,6 +200,27 @@ class Refused(unittest.TestCase):
             self.assertEqual(self.top.field(self.record, 1), "a")
             # It waits for the mutex, and isn't inside.
             self.assertEqual((found[0].result(), found[1]), ((6, "b"), False))
+
+    def test_a_long_text_is_read_when_the_mutex_is_free(self):
+        array = self.guardian.declare("atomic_array[int]")
+        self.top.create(array, list(range(3000)))
+        free, read = [], argus.archive.read_content
+
+        def reading(text):
+            # Another thread is in at once, though this one hasn't its result yet.
+            with ThreadPoolExecutor(1) as pool:
+                free.append(pool.submit(lambda: self.guardian.entries).result(10) > 0)
+            return read(text)
+
+        with mock.patch.object(argus.archive, "read_content", reading), mock.patch.object(argus.calling, "read_content", reading):
+            for result in (
+                self.top.whole(array),
+                self.top.get(array),
+                self.guardian.access(Kind.WHOLE, self.top.number, array),
+                self.guardian.call(Kind.WHOLE, self.top.number, array),
+            ):
+                self.assertEqual(list(result), list(range(3000)))
+        self.assertEqual(free, [True] * 4)
 
     @unittest.skipIf(_call is not None, "_call.c makes the call at once, and nothing comes in between")
     def test_what_is_dropped_inside_is_aborted_afterwards(self):
