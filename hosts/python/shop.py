@@ -25,23 +25,23 @@ class GuardianShop:
             for seat in self._seats:
                 top.create(seat, holder="")
 
-    def sell(self, order: Order) -> list[int]:
+    async def sell(self, order: Order) -> list[int]:
         try:
-            with self._guardian.topaction() as top:
-                wish = self._take_first(top, order)
-                self._card.charge(order, len(wish))
+            async with self._guardian.topaction() as top:
+                wish = await self._take_first(top, order)
+                await self._card.acharge(order, len(wish))
                 return wish
         except BaseException:
             self._card.refund(order)
             raise
 
-    def _take_first(self, top: Action, order: Order) -> list[int]:
+    async def _take_first(self, top: Action, order: Order) -> list[int]:
         """Takes all seats of the earliest wish that can be had."""
         for wish in order.wishes:
             try:
-                with top.subaction() as sub:
+                async with top.subaction() as sub:
                     for seat in sorted(wish):
-                        place = sub.locked(seat)
+                        place = await sub.alocked(seat)
                         if place.holder:
                             raise Taken
                         place.holder = order.customer

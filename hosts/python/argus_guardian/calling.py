@@ -19,7 +19,7 @@ from .action import Action
 from .archive import Archive, read_late
 from .asked import Asked
 from .circles import Search, Wait, Waits, holders_of
-from .entering import LOOK_AFTER, Entering
+from .entering import LOOK_AFTER, Entering, looks
 from .ids import number_of
 from .library import ActionStatus, Kind, Question, Status
 from .lineage import Lineage
@@ -368,14 +368,14 @@ class Calling(Entering, Asked):
 
     def _make_once_had(self, call: Call, wait: Wait, limit: float) -> tuple[int, int]:
         """Makes a refused access again each time that it may go on, until it is refused or the patience is over."""
-        answer = _CONFLICT
+        answer, after = _CONFLICT, looks()
         try:
             self._waits.join(wait)
             if self._awaited or wait.lineage.is_inside:
                 self._break_circles(wait)
             while answer == _CONFLICT:
                 while time.monotonic() < limit and not self._may_go_on(call, wait):
-                    self._wait_until(limit)
+                    self._wait_until(limit, next(after))
                 answer = self._make_since(wait.renewals, *call)
                 if wait.waits_for or time.monotonic() >= limit:
                     break

@@ -5,7 +5,7 @@ from __future__ import annotations
 import functools
 import threading
 import time
-from collections.abc import Callable
+from collections.abc import Callable, Iterator
 from typing import TYPE_CHECKING, Any, TypeVar
 
 from .errors import Reentered
@@ -20,8 +20,16 @@ if TYPE_CHECKING:
 _Self = TypeVar("_Self", bound="Entering")
 _Result = TypeVar("_Result")
 
-# After at most this many seconds a wait looks again.
-LOOK_AFTER = 0.05
+# After how many seconds a wait looks again, first and at most: an action that is dropped without an end wakes nobody.
+LOOK_AFTER, LOOK_AT_LAST = 0.05, 1.0
+
+
+def looks() -> Iterator[float]:
+    """After how many seconds a wait looks again, each time after twice as many."""
+    look = LOOK_AFTER
+    while True:
+        yield look
+        look = min(2 * look, LOOK_AT_LAST)
 
 
 class Entering(Gate):
@@ -70,7 +78,7 @@ class Entering(Gate):
         if self._has_lock() or (wait is not None and wait.locked()):
             raise Reentered
 
-    def _wait_until(self, limit: float) -> None:
+    def _wait_until(self, limit: float, look: float = LOOK_AFTER) -> None:
         """Waits until an action ends, but not for long: one that is dropped notifies nobody."""
         this, wait = threading.get_ident(), threading.Lock()
         # After a fork the guardian has others.
@@ -79,7 +87,7 @@ class Entering(Gate):
             waiting[this] = wait
             self._awaited = True
             try:
-                ended.wait(min(limit - time.monotonic(), LOOK_AFTER))
+                ended.wait(min(limit - time.monotonic(), look))
             finally:
                 # An interrupt at the begin of the wait may have come just after it gave the lock back.
                 if not _has_lock_of(ended):
@@ -95,11 +103,11 @@ class Entering(Gate):
             for wake in list(self._wakers.values()):
                 wake()
 
-    def _wait_alone(self, limit: float) -> None:
+    def _wait_alone(self, limit: float, look: float) -> None:
         """`_wait_until`, which takes the lock itself."""
         with self._lock:
             self._busy = True
-            self._wait_until(limit)
+            self._wait_until(limit, look)
 
     def _wake_alone(self) -> None:
         """`_wake`, which takes the lock itself."""

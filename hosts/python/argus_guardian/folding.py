@@ -8,7 +8,7 @@ from collections.abc import Callable
 
 from . import errors
 from .calling import LOGGER, Calling
-from .entering import one_call
+from .entering import looks, one_call
 from .library import Question, Status
 from .ranges import MOST, seconds, within
 from .telling import error_of
@@ -128,11 +128,12 @@ class Folding(Calling):
     @one_call
     def _fold_waiting(self, patience: float, fold: Callable[[], int]) -> None:
         limit, this = time.monotonic() + seconds(patience, "patience"), object()
+        after = looks()
         try:
             self._folds[this] = threading.get_ident()
             status = fold()
             while status == Status.BUSY and time.monotonic() < limit:
-                self._wait_until(limit)
+                self._wait_until(limit, next(after))
                 status = fold()
         finally:
             self._folds.pop(this, None)

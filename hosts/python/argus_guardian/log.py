@@ -16,6 +16,7 @@ from typing import Any, NoReturn, TypeVar
 from weakref import ref
 
 from .action import Action
+from .entering import looks
 from .errors import Busy, Closed, Full, OutOfMemory
 from .library import Status
 from .log_errors import (
@@ -255,11 +256,12 @@ class Log:
         """
         limit, guardian, this = time.monotonic() + seconds(patience, "patience"), self.guardian, object()
         self._refuse_reentered()
+        after = looks()
         try:
             guardian._folds[this] = threading.get_ident()
             status = self._writer.checkpoint()
             while status == Status.BUSY and time.monotonic() < limit:
-                guardian._wait_alone(limit)
+                guardian._wait_alone(limit, next(after))
                 status = self._writer.checkpoint()
         finally:
             # If an interrupt comes in between, a topaction that waits finds out by itself.

@@ -10,7 +10,7 @@ from typing import TYPE_CHECKING, Any, TypeVar
 from .archive import read_late
 from .calling import _CONFLICT
 from .circles import Wait
-from .entering import LOOK_AFTER, one_call
+from .entering import LOOK_AFTER, looks, one_call
 from .errors import Over
 from .folding import Folding
 from .telling import Call
@@ -24,7 +24,7 @@ class Turn:
     """The turns of one task that waits: each ends when an action ends, or after a while."""
 
     def __init__(self, loop: AbstractEventLoop) -> None:
-        self._loop, self._came = loop, loop.create_future()
+        self._loop, self._came, self._after = loop, loop.create_future(), looks()
 
     def wake(self) -> None:
         """Ends the turn. Any thread may call this, also when the loop is closed."""
@@ -39,7 +39,7 @@ class Turn:
 
     async def wait(self, limit: float) -> None:
         """Waits for the turn's end, at most until the limit. The next turn begins."""
-        seconds = max(0.0, min(limit - time.monotonic(), LOOK_AFTER))
+        seconds = max(0.0, min(limit - time.monotonic(), next(self._after)))
         timer: TimerHandle = self._loop.call_later(seconds, self._come)
         try:
             await self._came

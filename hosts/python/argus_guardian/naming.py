@@ -1,6 +1,7 @@
-"""`Naming`: objects by their names, which are in an object of the guardian, too: its catalogue.
+"""`Naming`: objects by their names, which are in objects of the guardian, too: its catalogues.
 
-So a name outlives the process wherever the journal does, in a log or in lines of one's own.
+So a name outlives the process wherever the journal does, in a log or in lines of one's own. A change of an array copies
+it, so each catalogue has few names, and there are many of them.
 """
 
 from __future__ import annotations
@@ -16,8 +17,9 @@ from .objects import Object, object_of
 from .shapes import Shape, read_shape, shape_of_class
 from .values import Ref, read_content, write_value
 
-# The first object of this shape is the catalogue.
+# Each object of this shape is a catalogue, of so many names.
 CATALOGUE = "atomic_array[struct[name:text,object:atomic]]"
+_NAMES = 64
 
 
 class Naming(Looping):
@@ -25,8 +27,10 @@ class Naming(Looping):
 
     def __init__(self, patience: float) -> None:
         super().__init__(patience)
-        # The number of the catalogue, None if there is none or nobody has looked; and the objects that have a name.
+        # The last catalogue, None if there is none or nobody has looked, and how many names it has; and the objects that
+        # have a name.
         self._catalogue: int | None = None
+        self._catalogued = 0
         self._numbers: dict[str, int] | None = None
         self._named: dict[str, Object] = {}
 
@@ -101,29 +105,33 @@ class Naming(Looping):
         return number, self._archive.told(Question.SHAPE, obj=number)
 
     def _read_catalogue(self) -> dict[str, int]:
-        """The objects that have a name, by that. Among objects without one, only the first of its shape is read."""
+        """The objects that have a name, by that."""
+        found: dict[str, int] = {}
         for number in range(self._archive.told(Question.OBJECTS)):
             if self._archive.told(Question.SHAPE, obj=number) == CATALOGUE:
-                self._catalogue = number
-                base = read_content(self._archive.told(Question.BASE, obj=number))
-                return {name: ref.number for name, ref in base or ()}
-        return {}
+                base = read_content(self._archive.told(Question.BASE, obj=number)) or []
+                self._catalogue, self._catalogued = number, len(base)
+                found.update((name, ref.number) for name, ref in base)
+        return found
 
     def _register(self, name: str, text: str) -> int:
         """Declares an object, and gives it this name."""
-        number = self._declare_at_once(text)
-        catalogue, begun = self._catalogue, self._archive.told(Question.ACTIONS)
-        if catalogue is None:
-            catalogue = self._made(Kind.DECLARE, text=CATALOGUE.encode())
+        number, begun = self._declare_at_once(text), self._archive.told(Question.ACTIONS)
+        if self._catalogue is None or self._catalogued >= _NAMES:
+            self._catalogue, self._catalogued = self._made(Kind.DECLARE, text=CATALOGUE.encode()), 0
+        item = write_value((name, Ref(number)))
         try:
             top = self._made(Kind.BEGIN_TOP)
-            if self._archive.told(Question.BASE, obj=catalogue) == "absent":
-                self._made(Kind.CREATE, top, catalogue, text=b"0[]")
-            self._made(Kind.ADDH, top, catalogue, text=write_value((name, Ref(number))).encode())
+            if self._catalogued == 0:
+                self._made(Kind.CREATE, top, self._catalogue, text=f"0[{item}]".encode())
+            else:
+                self._made(Kind.ADDH, top, self._catalogue, text=item.encode())
             self._made(Kind.COMMIT, top)
-            self._begun, self._catalogue = top + 1, catalogue
+            self._begun, self._catalogued = top + 1, self._catalogued + 1
             return number
         except BaseException:
+            # The name may have got into the catalogue, so the next call reads that again.
+            self._numbers = None
             self._abort_from(begun)
             raise
 

@@ -91,6 +91,40 @@ class Found(unittest.TestCase):
             more = again.object("more", "atomic_array[int]")
             self.assertNotIn(int(more), (int(found), int(again.object(text))))
 
+    def test_many_names(self):
+        names = [f"object {number}" for number in range(300)]
+        numbers = [int(self.guardian.object(name, "atomic_array[int]")) for name in names]
+        self.assertEqual(len(set(numbers)), 300)
+        again = argus.resume(self.guardian.list("journal").splitlines())
+        self.addCleanup(again.close)
+        self.assertEqual([int(again.object(name)) for name in names], numbers)
+        more = int(again.object("more", "atomic_array[int]"))
+        self.assertNotIn(more, numbers)
+        # Few of the objects are catalogues, and each name takes three entries and that of its object.
+        self.assertLess(again.objects, 310)
+        self.assertLess(self.guardian.entries, 4 * 300 + 10)
+
+    def test_a_name_whose_commit_is_interrupted(self):
+        made = self.guardian._made
+        # The first name of a catalogue is in its first content, and so Kind.CREATE comes first.
+        for kind in Kind.CREATE, Kind.COMMIT, Kind.ADDH, Kind.BEGIN_TOP:
+
+            def interrupted_after(which, *given, kind=kind, **named):
+                done = made(which, *given, **named)
+                if which == kind:
+                    raise KeyboardInterrupt
+                return done
+
+            name = f"after {kind.name}"
+            self.guardian._made = interrupted_after
+            with self.assertRaises(KeyboardInterrupt):
+                self.guardian.object(name, "atomic_array[int]")
+            del self.guardian._made
+            found = self.guardian.object(name, "atomic_array[int]")
+            self.guardian.checkpoint()
+            with argus.resume(self.guardian.list("journal").splitlines()) as again:
+                self.assertEqual(int(again.object(name)), int(found))
+
     def test_what_knows_its_guardian(self):
         account = self.guardian.object("account", "atomic_record[balance:int]")
         with argus.Guardian() as other:
