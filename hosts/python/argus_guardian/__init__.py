@@ -1,13 +1,13 @@
 """Atomic objects under nested transactions, in Python over a proved library.
 
     with Guardian() as guardian:
-        account = guardian.declare("atomic_record[balance:int]")
+        account = guardian.object("account", "atomic_record[balance:int]")
         with guardian.topaction() as top:
-            top.create(account, (5,))
+            top.create(account, balance=5)
         with guardian.topaction() as top:
             with top.subaction() as sub:
-                sub.set_field(account, 0, 7)
-        guardian.base(account)                # (7,)
+                sub[account].balance += 2
+        guardian.get(account).balance         # 7
 
 An action commits at the end of its `with` block, and aborts if an exception leaves it. The library is
 proved: each reply follows from the journal before the call. This package isn't: it calls the library,

@@ -11,7 +11,7 @@ from .ids import ActionId, number_of
 from .library import Kind
 from .lineage import Lineage
 from .loops import Entered, watch
-from .quick import Acting
+from .quick import AT_ONCE, Acting
 from .ranges import U32
 from .ready_commit import ReadyCommit
 from .values import AnyObject, Value, object_number, write_content
@@ -19,6 +19,7 @@ from .values import AnyObject, Value, object_number, write_content
 if TYPE_CHECKING:
     from .guardian import Guardian
 
+_MODULES = sys.modules
 # The most frequent kinds, as globals, which are looked up faster than attributes.
 _FIELD, _SET_FIELD, _TOUCH, _CREATE = Kind.FIELD, Kind.SET_FIELD, Kind.TOUCH, Kind.CREATE
 _BEGIN_SUB, _BEGIN_NESTED, _COMMIT, _ABORT = Kind.BEGIN_SUB, Kind.BEGIN_NESTED, Kind.COMMIT, Kind.ABORT
@@ -89,7 +90,7 @@ class Action(Acting):
         raise TypeError("an action is neither pickled nor copied: it belongs to its guardian")
 
     def __enter__(self) -> Action:
-        if "asyncio" in sys.modules:
+        if "asyncio" in _MODULES:
             watch(self)
         return self
 
@@ -151,7 +152,7 @@ class Action(Acting):
         If an interrupt (Ctrl-C) comes during the commit, it may have committed or not.
         """
         try:
-            if not self._end_at_once(_COMMIT):
+            if not (AT_ONCE and self._end_at_once(_COMMIT)):
                 self.guardian._end(self, _COMMIT)
         except BaseException:
             self._abort_quietly()
@@ -174,7 +175,7 @@ class Action(Acting):
 
     def abort(self) -> None:
         """Aborts it and all subactions under it."""
-        if not self._end_at_once(_ABORT):
+        if not (AT_ONCE and self._end_at_once(_ABORT)):
             self.guardian._end(self, _ABORT)
         self._is_ended = True
 
@@ -185,7 +186,7 @@ class Action(Acting):
     def subaction(self) -> Action:
         """Begins a subaction: what it leaves counts only if its ancestors commit."""
         guardian = self.guardian
-        return guardian._begin_at_once(_BEGIN_SUB, self) or guardian._begin(_BEGIN_SUB, self)
+        return (AT_ONCE and guardian._begin_at_once(_BEGIN_SUB, self)) or guardian._begin(_BEGIN_SUB, self)
 
     def nested(self) -> Action:
         """Begins a nested topaction: what it leaves stays, even if this action aborts.
@@ -193,7 +194,7 @@ class Action(Acting):
         It has no privilege from this action, so it waits in vain for a lock that this one has.
         """
         guardian = self.guardian
-        return guardian._begin_at_once(_BEGIN_NESTED, self) or guardian._begin(_BEGIN_NESTED, self)
+        return (AT_ONCE and guardian._begin_at_once(_BEGIN_NESTED, self)) or guardian._begin(_BEGIN_NESTED, self)
 
     def test_read(self, obj: AnyObject) -> bool:
         """Takes a read lock; False if it isn't free. It doesn't wait."""

@@ -16,7 +16,7 @@ from weakref import ref
 
 from . import errors
 from .action import Action
-from .archive import Archive, read_late
+from .archive import Archive, Unread, read_late
 from .asked import Asked
 from .circles import Search, Wait, Waits, holders_of
 from .entering import LOOK_AFTER, Entering, looks
@@ -25,6 +25,7 @@ from .library import ActionStatus, Kind, Question, Status
 from .lineage import Lineage
 from .loops import running_loop
 from .owners import Owners
+from .quick import Acting
 from .ranges import MOST, i64, seconds, u32
 from .telling import Call, circle, deed, error_of
 from .values import AnyObject, object_number, read_content, read_value, written
@@ -111,8 +112,8 @@ class Calling(Entering, Asked):
                 status, number = answer  # type: ignore[misc]
                 if status != _IS_ACTION:
                     raise self._archive.error(status, number, (kind, above))
-                of: Any = self
-                action = Action(of, number, parent, kind == _BEGIN_NESTED, self._renewals)
+                # The number is the library's own, so nobody looks at it.
+                action = Acting.__new__(Action, self, number, parent, kind == _BEGIN_NESTED, self._renewals)
                 owners.live[number] = ref(action, owners.drop)
                 self._begun = number + 1
                 self._busy = self._awaited
@@ -156,15 +157,16 @@ class Calling(Entering, Asked):
             if action._renewals != self._renewals:
                 self._be_since(action, kind, obj)
             self._left -= 1
-            answer = make(archive.at, kind, action._number, obj, first, second, text)
+            answer: Any = make(archive.at, kind, action._number, obj, first, second, text)
             # An integer, or nothing; else its text is read, or the call is made again.
             if type(answer) is tuple:
                 call = kind, action._number, obj, first, second, text
-                answer = self._answered(answer, call, action._lineage, action._renewals, action._is_in_loop())
+                told: tuple[int, int] = answer  # type: ignore[assignment]
+                answer = self._answered(told, call, action._lineage, action._renewals, action._is_in_loop())
             elif self._awaited and action._number in self._within:
                 self._break_circles_within(action._number)
             self._busy = self._awaited
-        return read_late(answer)
+        return answer if type(answer) is not Unread else read_late(answer)
 
     # What a call that is made at once asks of the guardian in Python, without the lock.
 

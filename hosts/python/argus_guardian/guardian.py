@@ -18,6 +18,7 @@ from .library import Kind, Question, Status
 from .lists import CallsMade, Listed, array_of, calls_of
 from .looping import InThread
 from .naming import Naming
+from .quick import AT_ONCE
 from .ranges import MOST, U64, i64, u32, within
 from .telling import Call, error_of
 from .values import AnyObject, object_number
@@ -109,7 +110,7 @@ class Guardian(Naming):
 
     def topaction(self) -> Action:
         """Begins a topaction. While a thread waits in `checkpoint`, it waits for that thread."""
-        return self._begin_at_once(_BEGIN_TOP, None) or self._begin(_BEGIN_TOP)
+        return (AT_ONCE and self._begin_at_once(_BEGIN_TOP, None)) or self._begin(_BEGIN_TOP)
 
     def run(self, work: Callable[[Action], _Done], tries: int = 20) -> _Done:
         """Carries out `work(top)` as a topaction, and returns what it returns.

@@ -119,13 +119,13 @@ class Naming(Looping):
         number, begun = self._declare_at_once(text), self._archive.told(Question.ACTIONS)
         if self._catalogue is None or self._catalogued >= _NAMES:
             self._catalogue, self._catalogued = self._made(Kind.DECLARE, text=CATALOGUE.encode()), 0
-        item = write_value((name, Ref(number)))
+        catalogue, item = int(self._catalogue or 0), write_value((name, Ref(number)))
         try:
             top = self._made(Kind.BEGIN_TOP)
             if self._catalogued == 0:
-                self._made(Kind.CREATE, top, self._catalogue, text=f"0[{item}]".encode())
+                self._made(Kind.CREATE, top, catalogue, text=f"0[{item}]".encode())
             else:
-                self._made(Kind.ADDH, top, self._catalogue, text=item.encode())
+                self._made(Kind.ADDH, top, catalogue, text=item.encode())
             self._made(Kind.COMMIT, top)
             self._begun, self._catalogued = top + 1, self._catalogued + 1
             return number

@@ -12,4 +12,7 @@ else:
     except ImportError:
         from .plain import Acting, Gate, Place, Typed, View
 
-__all__ = ["Acting", "Gate", "Place", "Typed", "View"]
+# Whether calls are made at once.
+AT_ONCE = Gate.__module__ != f"{__package__}.plain"
+
+__all__ = ["AT_ONCE", "Acting", "Gate", "Place", "Typed", "View"]
