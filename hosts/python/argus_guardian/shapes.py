@@ -60,7 +60,7 @@ class Sequence(Type):
     def write(self, value: Any) -> Any:
         if not isinstance(value, (list, tuple)) or isinstance(value, Choice):
             return value
-        return [self.item.write(it) for it in value]
+        return list(value) if self.is_plain else [self.item.write(it) for it in value]
 
     def fits(self, value: Any) -> bool:
         return isinstance(value, list) and all(map(self.item.fits, value))

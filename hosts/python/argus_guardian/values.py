@@ -153,6 +153,9 @@ class _Reader:
     DIGITS = 20
     ESCAPED = re.compile(r'\\(["\\n])')
     WORDS = {"null": None, "true": True, "false": False}
+    # Values that are read at once: words, texts without escapes, and integers that surely have 64 bits.
+    SCALAR = re.compile(r'0|-?[1-9][0-9]{0,17}|"[^"\\\n]*"|null|true|false')
+    SCALARS = re.compile(rf"(?:{SCALAR.pattern})(?:,(?:{SCALAR.pattern}))*(?=[\]}}])")
 
     def __init__(self, text: str) -> None:
         self.text, self.at = text, 0
@@ -222,7 +225,12 @@ class _Reader:
         """The values before the closing bracket, which is taken too."""
         if self.take(close):
             return []
-        values = [self.value(level + 1)]
+        found = self.SCALARS.match(self.text, self.at) if level < MAX_DEPTH else None
+        if found:
+            self.at = found.end()
+            values = _scalars(found.group())
+        else:
+            values = [self.value(level + 1)]
         while not self.take(close):
             self.want(",")
             values.append(self.value(level + 1))
@@ -245,6 +253,21 @@ class _Reader:
         low = self.number(self.INT, LEAST, MOST)
         self.want("[")
         return Array(low, self.values(0, "]"))
+
+
+def _scalars(text: str) -> list[Any]:
+    """The values of this text, of which _Reader.SCALARS says that it is some. Most are integers."""
+    try:
+        return list(map(int, text.split(",")))
+    except ValueError:
+        return [_scalar(it) for it in _Reader.SCALAR.findall(text)]
+
+
+def _scalar(text: str) -> Any:
+    """The value of this text, which is one of _Reader.SCALAR."""
+    if text[0] == '"':
+        return text[1:-1]
+    return _Reader.WORDS[text] if text[0] in "ntf" else int(text)
 
 
 class _Stop(Exception):
