@@ -4,8 +4,8 @@
     hosts/declarations.py
 
 The calls are read from the source of argus_c: each has to be declared everywhere with the same
-parameters, in their order, and the same result; so has argus_c_call in what calls it for Python
-without ctypes. A call of a list, and a status with its number, have to have the same fields, in
+parameters, in their order, and the same result; so have argus_c_call and argus_c_reply in what calls
+them for Python without ctypes. A call of a list, and a status with its number, have to have the same fields, in
 their order, wherever they are declared. A number that has a name in argus.h has to be the same
 wherever that name stands. Each difference is printed, and then the status is 1.
 """
@@ -22,7 +22,7 @@ LISTED = TOP / "crates/argus_embed/src/listed_call.rt"
 HEADER = TOP / "crates/argus_c/include/argus.h"
 RUST = TOP / "hosts/rust/sys/src/lib.rs"
 PYTHON = TOP / "hosts/python/argus_guardian/library.py"
-QUICK = TOP / "hosts/python/argus_guardian/_call.c"
+QUICK = TOP / "hosts/python/argus_guardian/_call.h"
 
 # What each language calls a type of a parameter; a slice is an address and a size.
 IN_RATTLE = {
@@ -71,9 +71,12 @@ def declared_in_c(text):
 
 
 def called_for_python(text):
-    """How argus_c_call is called without ctypes."""
-    found = re.findall(r"^typedef (\w+) library_call\(([^)]*)\);", text, re.M)
-    return [([IN_C[re.sub(r"\w+$", "", it).strip()] for it in parted(given)], IN_C[result]) for result, given in found]
+    """How calls are called without ctypes."""
+    found = re.findall(r"^typedef (\w+) library_(\w+)\(([^)]*)\);", text, re.M)
+    return {
+        f"argus_c_{name}": ([IN_C[re.sub(r"\w+$", "", it).strip()] for it in parted(given)], IN_C[result])
+        for result, name, given in found
+    }
 
 
 def declared_in_rust(text):
@@ -145,8 +148,10 @@ def main():
         for name in sorted({*wanted, *calls}):
             if wanted.get(name) != calls.get(name):
                 failed.append(f"{file}: {name} is {calls.get(name)}, and exported as {wanted.get(name)}")
-    if called_for_python(QUICK.read_text(encoding="utf-8")) != [wanted.get("argus_c_call")]:
-        failed.append(f"{QUICK}: argus_c_call is not called as it is exported, {wanted.get('argus_c_call')}")
+    called = called_for_python(QUICK.read_text(encoding="utf-8"))
+    for name in "argus_c_call", "argus_c_reply":
+        if called.get(name) != wanted.get(name):
+            failed.append(f"{QUICK}: {name} is called as {called.get(name)}, and exported as {wanted.get(name)}")
     answers = answer_fields()
     for file, it in answers.items():
         if not it or it != answers[HEADER]:

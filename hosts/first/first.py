@@ -3,10 +3,10 @@
 from argus_guardian import Guardian, write_content
 
 with Guardian() as guardian:
-    account = guardian.declare("atomic_record[balance:int]")
+    account = guardian.object("account", "atomic_record[balance:int]")
     with guardian.topaction() as top:
-        top.create(account, (5,))
+        top.create(account, balance=5)
         sub = top.subaction()
-        sub.set_field(account, 0, 7)
+        sub[account].balance = 7
         sub.abort()
     print("account", write_content(guardian.base(account)))

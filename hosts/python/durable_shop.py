@@ -4,24 +4,20 @@ import sys
 
 from argus_guardian import Action, Log
 
-HALL = range(40)
 path, customer, seats = sys.argv[1], sys.argv[2], sorted(map(int, sys.argv[3:]))
 
-
-def sell(top: Action) -> str:
-    for seat in seats:
-        top.lock(seat)
-    if any(top.get(seat, "holder") for seat in seats):
-        return "taken"
-    for seat in seats:
-        top.set(seat, holder=customer)
-    return "sold"
-
-
 with Log.open_or_create(path) as shop:
-    for _ in HALL[shop.guardian.objects :]:
-        shop.guardian.declare("atomic_record[holder:text]")
+    hall = [shop.guardian.object(f"seat {it}", "atomic_record[holder:text]") for it in range(40)]
+
+    def sell(top: Action) -> str:
+        places = [top.locked(hall[seat]) for seat in seats]
+        if any(place.holder for place in places):
+            return "taken"
+        for place in places:
+            place.holder = customer
+        return "sold"
+
     with shop.topaction() as top:
-        for seat in (it for it in HALL if shop.guardian.base(it) is None):
-            top.create(seat, ("",))
+        for seat in (it for it in hall if shop.guardian.get(it) is None):
+            top.create(seat, holder="")
     print(shop.run(sell))  # here it is on disk

@@ -3,8 +3,8 @@
 The library is `libargus.so.0`, in the folder that `ARGUS_LIB_DIR` names, or else in `dist/lib` of the repository,
 where `tools/archive.sh` or `tools/dist.sh` makes it.
 
-`_call.c` is built where a compiler and Python's headers are there (Debian: python3-dev); else ctypes does what it
-does. It needs no more of Python than each version from 3.9 on has; to build it, 3.10.
+`_call.c` and what belongs to it are built where a compiler and Python's headers are there (Debian: python3-dev); else
+plain.py and ctypes do what they do. They need Python 3.10 or newer, and are the same for each of these.
 """
 
 from __future__ import annotations
@@ -60,6 +60,14 @@ class WheelOfMachine(bdist_wheel):
         return "py3", "none", super().get_tag()[2]
 
 
-CALL = Extension("argus_guardian._call", ["argus_guardian/_call.c"], py_limited_api=True, optional=True)
+FOLDER = Path(__file__).resolve().parent
+CALL = Extension(
+    "argus_guardian._call",
+    sorted(str(it.relative_to(FOLDER)) for it in FOLDER.glob("argus_guardian/_*.c")),
+    depends=["argus_guardian/_call.h"],
+    extra_compile_args=["-fvisibility=hidden"],
+    py_limited_api=True,
+    optional=True,
+)
 
 setup(ext_modules=[CALL], cmdclass={"build_py": BuildWithLibrary, "bdist_wheel": WheelOfMachine})

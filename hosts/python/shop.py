@@ -8,10 +8,9 @@ others doesn't. shop_in_sqlite.py is the same over SQLite, shop_service.py what 
 
 from __future__ import annotations
 
-from argus_guardian import Action, Busy, Conflict, Guardian, write_content
+from argus_guardian import Action, Conflict, Guardian, write_content
 from shop_service import PATIENCE, SEATS, Card, Order, Taken, serve
 
-HOLDER = 0
 FREE = write_content(("",))
 FOLD_AFTER = 20_000
 
@@ -20,33 +19,32 @@ class GuardianShop:
     """The seats, as records that have the holder's name; an empty one of a seat that is free."""
 
     def __init__(self, card: Card) -> None:
-        self._card, self._guardian, self._folded = card, Guardian(patience=PATIENCE), 0
+        self._card, self._guardian = card, Guardian(patience=PATIENCE, checkpoint_after=FOLD_AFTER)
         self._seats = [self._guardian.declare("atomic_record[holder:text]") for _ in range(SEATS)]
         with self._guardian.topaction() as top:
             for seat in self._seats:
-                top.create(seat, ("",))
+                top.create(seat, holder="")
 
-    def sell(self, order: Order) -> list[int]:
-        self._fold()
+    async def sell(self, order: Order) -> list[int]:
         try:
-            with self._guardian.topaction() as top:
-                wish = self._take_first(top, order)
-                self._card.charge(order, len(wish))
+            async with self._guardian.topaction() as top:
+                wish = await self._take_first(top, order)
+                await self._card.acharge(order, len(wish))
                 return wish
         except BaseException:
             self._card.refund(order)
             raise
 
-    def _take_first(self, top: Action, order: Order) -> list[int]:
+    async def _take_first(self, top: Action, order: Order) -> list[int]:
         """Takes all seats of the earliest wish that can be had."""
         for wish in order.wishes:
             try:
-                with top.subaction() as sub:
+                async with top.subaction() as sub:
                     for seat in sorted(wish):
-                        sub.lock(seat)
-                        if sub.field(seat, HOLDER):
+                        place = await sub.alocked(seat)
+                        if place.holder:
                             raise Taken
-                        sub.set_field(seat, HOLDER, order.customer)
+                        place.holder = order.customer
                 return wish
             except (Taken, Conflict):
                 pass
@@ -65,7 +63,7 @@ class GuardianShop:
 
     def sold(self) -> int:
         def work(top: Action) -> int:
-            return sum(top.field(seat, HOLDER) != "" for seat in self._seats)
+            return sum(top[seat].holder != "" for seat in self._seats)
 
         return self._guardian.run(work)
 
@@ -74,15 +72,6 @@ class GuardianShop:
 
     def close(self) -> None:
         self._guardian.close()
-
-    def _fold(self) -> None:
-        """Folds the journal, once it is long, and has new orders wait for that. Else a later one does it."""
-        if self._guardian.entries > self._folded + FOLD_AFTER:
-            try:
-                self._guardian.checkpoint(PATIENCE)
-                self._folded = self._guardian.entries
-            except Busy:
-                pass
 
 
 if __name__ == "__main__":

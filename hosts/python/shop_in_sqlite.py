@@ -10,6 +10,7 @@ would need an end by the clock, too, for orders that a crash leaves behind.
 
 from __future__ import annotations
 
+import asyncio
 import sqlite3
 import threading
 import time
@@ -42,7 +43,11 @@ class SqliteShop:
                 raise
             self._database.execute("COMMIT")
 
-    def sell(self, order: Order) -> list[int]:
+    async def sell(self, order: Order) -> list[int]:
+        # A thread waits for the database, for seats that are held and for the card.
+        return await asyncio.to_thread(self._sell, order)
+
+    def _sell(self, order: Order) -> list[int]:
         try:
             wish = self._hold_first(order)
             self._card.charge(order, len(wish))

@@ -68,7 +68,16 @@ class Card:
         self._charged: dict[int, int] = {}
 
     def charge(self, order: Order, seats: int) -> None:
+        """Charges it, for a thread. Declined if that can't be."""
         time.sleep(PAYING)
+        self._note(order, seats)
+
+    async def acharge(self, order: Order, seats: int) -> None:
+        """The same for a task."""
+        await asyncio.sleep(PAYING)
+        self._note(order, seats)
+
+    def _note(self, order: Order, seats: int) -> None:
         if order.customer == "Dora":
             raise Declined
         with self._lock:
@@ -88,7 +97,7 @@ class Card:
 class Shop(Protocol):
     """What sells the seats."""
 
-    def sell(self, order: Order) -> list[int]:
+    async def sell(self, order: Order) -> list[int]:
         """The seats that the order gets, all of a wish. Taken or Declined: it has none, and pays nothing."""
 
     def states(self) -> list[str]:
@@ -162,13 +171,13 @@ class Service:
         return web.json_response(self._shop.states())
 
     async def order(self, request: web.Request) -> web.Response:
-        """Answers an order. It is carried out by a thread, since it waits for seats and for the card."""
+        """Answers an order, which may wait for seats and for the card."""
         try:
             order = read_order(next(self._numbers), await request.json())
         except ValueError as error:
             return web.json_response({"why": str(error)}, status=400)
         try:
-            return web.json_response({"seats": await asyncio.to_thread(self._shop.sell, order)})
+            return web.json_response({"seats": await self._shop.sell(order)})
         except Taken:
             return web.json_response({"why": "taken"}, status=409)
         except Declined:

@@ -1,13 +1,13 @@
 """Atomic objects under nested transactions, in Python over a proved library.
 
     with Guardian() as guardian:
-        account = guardian.declare("atomic_record[balance:int]")
+        account = guardian.object("account", "atomic_record[balance:int]")
         with guardian.topaction() as top:
-            top.create(account, (5,))
+            top.create(account, balance=5)
         with guardian.topaction() as top:
             with top.subaction() as sub:
-                sub.set_field(account, 0, 7)
-        guardian.base(account)                # (7,)
+                sub[account].balance += 2
+        guardian.get(account).balance         # 7
 
 An action commits at the end of its `with` block, and aborts if an exception leaves it. The library is
 proved: each reply follows from the journal before the call. This package isn't: it calls the library,
@@ -59,6 +59,7 @@ from .guardian import Guardian
 from .ids import ActionId, ObjectId
 from .library import Demand, Kind
 from .lists import CallsMade, Listed
+from .objects import Object
 from .ready_commit import ReadyCommit
 from .resuming import resume
 from .shapes import Shape
@@ -111,6 +112,7 @@ __all__ = [
     "NoSiblings",
     "NotBegun",
     "NotThere",
+    "Object",
     "ObjectId",
     "OtherGuardian",
     "OutOfMemory",

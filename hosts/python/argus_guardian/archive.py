@@ -4,16 +4,19 @@ from __future__ import annotations
 
 import ctypes
 from collections.abc import Iterator
-from typing import Any
+from typing import Any, NamedTuple
 
-from .errors import OutOfMemory, Refused, Signal
-from .library import Handle, Question, Ready, Status, address, bare, load, opening, quick
-from .telling import Call, error_of, error_of_call, error_of_question
+from .errors import ArgusError, OutOfMemory, Refused, Signal
+from .library import Handle, Question, Ready, Status, address, address_of, bare, load, opening, quick
+from .shapes import read_shape
+from .telling import Call, by_number, error_of, error_of_call, error_of_question, is_ill_typed
 from .values import read_content, read_value
 
 # The most frequent ones, as globals, which are looked up faster than attributes.
 NUMBER, DONE, FLAG = Status.NUMBER, Status.DONE, Status.FLAG
 VALUE, TOO_SMALL = Status.VALUE, Status.TOO_SMALL
+# Texts of so many bytes are read after a call, when others may go on.
+LONG = 4096
 # The most bytes that the line of a commit has: two numbers of 20 and 10 digits, and the longest refusal.
 LINE = 61
 
@@ -36,6 +39,8 @@ class Archive:
         self._ready_commit, self._ready_line = library.argus_c_ready_commit, library.argus_c_ready_line
         self._make_ready, self._cancel_ready = library.argus_c_make_ready, library.argus_c_cancel_ready
         self._resume, self._resumed = library.argus_c_resume, library.argus_c_resumed
+        # The names of objects, by their numbers.
+        self.names: dict[int, str] = {}
         # What the calls take, of the types that library.py declares.
         self._handle, self._number, self._size = Handle(), ctypes.c_int64(), ctypes.c_size_t()
         self._ready = Ready()
@@ -53,6 +58,10 @@ class Archive:
         # While a commit is ready, the library has the guardian closed.
         self.cancel_ready()
         self._close(self._handle_at)
+
+    def addresses(self) -> tuple[int, int, int]:
+        """Where the library's call and reply are, and its handle: for calls without ctypes."""
+        return address_of(self._call), address_of(self._reply), ctypes.addressof(self._handle)
 
     def leave_behind(self) -> None:
         """Closes it without touching its memory."""
@@ -151,13 +160,27 @@ class Archive:
             return None
         if status == FLAG:
             return number != 0
-        if status == VALUE:
-            return _value(self._text())
-        if status == Status.CONTENT:
-            return read_content(self._text().decode())
+        if status in (VALUE, Status.CONTENT):
+            text = self._text()
+            return read_reply(status, text) if len(text) < LONG else Unread(status, text)
         if status in (Status.OBJECT, Status.ACTION):
             return number
-        raise error_of_call(status, number, call)
+        raise self.error(status, number, call)
+
+    def error(self, status: int, number: int, call: Call) -> ArgusError:
+        """The exception for the status and the number of a call, in which objects have their names."""
+        shape = None
+        if is_ill_typed(status, number):
+            try:
+                shape = read_shape(self.told(Question.SHAPE, obj=call[2]))
+            except ArgusError:
+                # It says less without.
+                pass
+        return error_of_call(status, number, call, self.name, shape)
+
+    def name(self, obj: int) -> str:
+        """How an object is called."""
+        return self.names.get(obj) or by_number(obj)
 
     def answers(self, outcomes: list[tuple[int, int]], calls: list[Call]) -> list[Any]:
         """The results of the calls of a list that were made; a Refused or a Signal is a result here.
@@ -170,10 +193,8 @@ class Archive:
 
     def _answer_in(self, lines: Iterator[bytes], status: int, number: int, call: Call) -> Any:
         """The result of a call of a list; its text, if it has one, is the next of these lines."""
-        if status == Status.VALUE:
-            return _value(next(lines))
-        if status == Status.CONTENT:
-            return read_content(next(lines).decode())
+        if status in (VALUE, Status.CONTENT):
+            return read_reply(status, next(lines))
         try:
             return self.answer(status, number, call)
         except (Refused, Signal) as error:
@@ -206,6 +227,23 @@ class Archive:
             self._room, self._room_size = ctypes.create_string_buffer(size), ctypes.c_size_t(size)
         except MemoryError:
             raise OutOfMemory() from None
+
+
+class Unread(NamedTuple):
+    """A long text of a reply, which is read once the guardian's mutex is free."""
+
+    status: int
+    text: bytes
+
+
+def read_late(result: Any) -> Any:
+    """The result of a call, of which a long text is read now."""
+    return read_reply(*result) if type(result) is Unread else result
+
+
+def read_reply(status: int, text: bytes) -> Any:
+    """The value or the content of a reply's text."""
+    return _value(text) if status == VALUE else read_content(text.decode())
 
 
 def _value(written: bytes) -> Any:

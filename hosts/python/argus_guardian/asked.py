@@ -7,9 +7,10 @@ from typing import Any
 from . import errors
 from .ids import Ids, number_of
 from .library import ActionStatus, Question
+from .objects import Object
 from .ranges import U64, within
 from .shapes import Shape, read_shape
-from .values import Object, object_number, read_content
+from .values import AnyObject, object_number, read_content
 
 _LISTINGS = {
     "bases": Question.LIST_BASES,
@@ -29,6 +30,9 @@ class Asked:
         self._ids = Ids()
         # The shapes of objects, by their numbers; those that were asked for.
         self._shapes: dict[int, Shape] = {}
+
+    def _note_read_alone(self, entry: int) -> None:
+        """The program has read the journal up to this entry."""
 
     def _tell(self, question: int, obj: int = 0, entry: int = 0, action: int = 0) -> Any:
         """The result of a question."""
@@ -77,34 +81,32 @@ class Asked:
         """How many entries the journal has had: the next one's number."""
         return self._tell(Question.ENTRIES)
 
-    def base(self, obj: Object) -> Any:
+    def base(self, obj: AnyObject) -> Any:
         """The object's base: what the committed topactions have left in it; None if it has no content yet."""
         return read_content(self._tell(Question.BASE, object_number(obj, self._ids)))
 
-    def shape(self, obj: Object) -> str:
+    def shape(self, obj: AnyObject) -> str:
         """The shape with which the object was declared."""
         return self._tell(Question.SHAPE, object_number(obj, self._ids))
 
-    def shape_of(self, obj: Object) -> Shape:
+    def shape_of(self, obj: AnyObject) -> Shape:
         """The same, parsed: its kind and its names. An object keeps its shape, so it is asked for once."""
         number = object_number(obj, self._ids)
+        if isinstance(obj, Object):
+            return obj.shape
         if number not in self._shapes:
             self._shapes[number] = read_shape(self.shape(number))
         return self._shapes[number]
 
-    def get(self, obj: Object) -> Any:
-        """A record's base, with its fields by name: `guardian.get(seat).taken`; None as for `base`.
+    def get(self, obj: AnyObject) -> Any:
+        """The object's base by names, as `Action.get` has it: `guardian.get(seat).taken`; None as for `base`."""
+        return self.shape_of(obj).read(self.base(obj))
 
-        TypeError if it is no record.
-        """
-        content = self.base(obj)
-        return content if content is None else self.shape_of(obj).named(content)
-
-    def readers(self, obj: Object) -> list[int]:
+    def readers(self, obj: AnyObject) -> list[int]:
         """The actions that hold the object for reading, in increasing number."""
         return actions_of(self._tell(Question.READERS, object_number(obj, self._ids)))
 
-    def versions(self, obj: Object) -> list[tuple[int, Any]]:
+    def versions(self, obj: AnyObject) -> list[tuple[int, Any]]:
         """The actions that hold the object for writing, from ancestor to descendant, each with what it sees."""
         lines = _lines(self._tell(Question.VERSIONS, object_number(obj, self._ids)))
         pairs = (line.split(" ", 1) for line in lines)
@@ -112,10 +114,14 @@ class Asked:
 
     def entry(self, number: int) -> str:
         """The line of a journal's entry. NotThere if a checkpoint has folded it."""
-        return self._tell(Question.ENTRY, entry=within(number, 0, U64, "entry"))
+        line: str = self._tell(Question.ENTRY, entry=within(number, 0, U64, "entry"))
+        self._note_read_alone(number + 1)
+        return line
 
     def list(self, listing: str) -> str:
         """A listing: of `bases`, `stacks`, `journal` or `audit`."""
+        if listing not in _LISTINGS:
+            raise errors.BadKind(f"no listing is called {listing!r}: {', '.join(_LISTINGS)} are")
         return self._tell(_LISTINGS[listing])
 
 

@@ -7,25 +7,29 @@ call.
 
 from __future__ import annotations
 
+import logging
 import threading
 import time
 from collections.abc import Callable
-from typing import Any
+from typing import Any, NoReturn
 from weakref import ref
 
 from . import errors
 from .action import Action
-from .archive import Archive
+from .archive import Archive, Unread, read_late
 from .asked import Asked
 from .circles import Search, Wait, Waits, holders_of
-from .entering import LOOK_AFTER, Entering
+from .entering import LOOK_AFTER, Entering, looks
 from .ids import number_of
 from .library import ActionStatus, Kind, Question, Status
 from .lineage import Lineage
+from .loops import running_loop
 from .owners import Owners
-from .ranges import i64, u32
-from .telling import Call, circle, deed, error_of_call
-from .values import Object, object_number
+from .quick import Acting
+from .ranges import MOST, i64, seconds, u32
+from .telling import Call, circle, deed, error_of
+from .values import AnyObject, object_number, read_content, read_value, written
+from .views import view_class
 
 _DONE = Status.DONE, 0
 _TRUE = Status.FLAG, 1
@@ -36,6 +40,11 @@ _CONFLICT: tuple[int, int] = Status.REFUSED, errors.REFUSALS.index(errors.Confli
 _IS_ACTION, _BEGIN_NESTED = Status.ACTION, Kind.BEGIN_NESTED
 
 
+# What a guardian does by itself is told here. Nobody has to listen.
+LOGGER = logging.getLogger("argus_guardian")
+LOGGER.addHandler(logging.NullHandler())
+
+
 class Calling(Entering, Asked):
     """The calls of actions. What begins with `_` and doesn't take the lock itself is called with the lock held."""
 
@@ -43,16 +52,34 @@ class Calling(Entering, Asked):
         Asked.__init__(self)
         Entering.__init__(self)
         self.patience = patience
-        self._archive = Archive()
-        self._owners = Owners()
-        # What each call looks at, by the shortest way.
-        self._dropped, self._object_id = self._owners.dropped, self._ids.objects
+        self._archive: Archive = Archive()
+        self._owners: Owners = Owners()
         # How many actions were begun that the program has, or had.
         self._begun = 0
         # How often the numbers of actions began at 0 again.
         self._renewals = 0
+        # How many calls are left before it is looked whether there is much to fold.
+        self._left = MOST
         # The identity of the commit that is ready and can be made; None if there is none.
         self._readying: int | None = None
+        # That of the last one that was ready.
+        self._prepared: int | None = None
+        self._connect_archive()
+
+    @property
+    def patience(self) -> float:
+        """How many seconds an access waits for its object, at most."""
+        return self._patience
+
+    @patience.setter
+    def patience(self, patience: float) -> None:
+        self._patience = seconds(patience, "patience")
+
+    def _connect_archive(self) -> None:
+        """Says what each call looks at, by the shortest way."""
+        owners, ids = self._owners, self._ids
+        call, reply, at = self._archive.addresses()
+        self._connect(call, reply, at, owners.live, owners.drop, owners.dropped, ids, ids.objects, Action)
 
     def _make_lock(self) -> None:
         super()._make_lock()
@@ -69,12 +96,13 @@ class Calling(Entering, Asked):
             self._refuse_reentered()
         with self._lock:
             self._busy = True
+            self._left -= 1
             above = 0
             if parent is not None:
                 above = parent._number
                 if parent._renewals != self._renewals:
                     self._be_since(parent, kind)
-            while self._folds and parent is None:
+            while self._folds and parent is None and running_loop() is None:
                 self._wait_for_folds()
             owners = self._owners
             if self._dropped:
@@ -83,8 +111,9 @@ class Calling(Entering, Asked):
                 answer = archive.call(archive.at, kind, above, 0, 0, 0, b"")
                 status, number = answer  # type: ignore[misc]
                 if status != _IS_ACTION:
-                    raise error_of_call(status, number, (kind, above))
-                action = Action(self, number, parent, kind == _BEGIN_NESTED, self._renewals)
+                    raise self._archive.error(status, number, (kind, above))
+                # The number is the library's own, so nobody looks at it.
+                action = Acting.__new__(Action, self, number, parent, kind == _BEGIN_NESTED, self._renewals)
                 owners.live[number] = ref(action, owners.drop)
                 self._begun = number + 1
                 self._busy = self._awaited
@@ -108,7 +137,7 @@ class Calling(Entering, Asked):
     def _be_since(self, action: Action, kind: int, obj: int = 0) -> None:
         """Raises Over for an action from before a renewal: its number now names another one or none."""
         if action._renewals not in (None, self._renewals):
-            raise error_of_call(*_OVER, (kind, action._number, obj))
+            raise self._archive.error(*_OVER, (kind, action._number, obj))
 
     def _access_of(
         self, action: Action, kind: int, obj: Any, first: int = 0, second: int = 0, text: bytes = b""
@@ -127,15 +156,57 @@ class Calling(Entering, Asked):
                 self._abort_dropped()
             if action._renewals != self._renewals:
                 self._be_since(action, kind, obj)
-            answer = make(archive.at, kind, action._number, obj, first, second, text)
+            self._left -= 1
+            answer: Any = make(archive.at, kind, action._number, obj, first, second, text)
             # An integer, or nothing; else its text is read, or the call is made again.
             if type(answer) is tuple:
                 call = kind, action._number, obj, first, second, text
-                answer = self._answered(answer, call, action._lineage, action._renewals)
+                told: tuple[int, int] = answer  # type: ignore[assignment]
+                answer = self._answered(told, call, action._lineage, action._renewals, action._is_in_loop())
             elif self._awaited and action._number in self._within:
                 self._break_circles_within(action._number)
             self._busy = self._awaited
-            return answer
+        return answer if type(answer) is not Unread else read_late(answer)
+
+    # What a call that is made at once asks of the guardian in Python, without the lock.
+
+    def _written(self, value: Any) -> bytes:
+        """The written form of a value."""
+        return written(value, self._ids)
+
+    def _read(self, status: int, text: str) -> Any:
+        """The value or the content of a written form."""
+        return read_content(text) if status == Status.CONTENT else read_value(text)
+
+    def _fail(self, status: int) -> NoReturn:
+        """Raises what a status means of the text of a call that was made."""
+        raise error_of(status)
+
+    def _view_of(self, action: Action, obj: AnyObject) -> Any:
+        """An object within an action."""
+        number = object_number(obj, self._ids)
+        return view_class(self.shape_of(obj))(action, obj, int(number))
+
+    def _late(self, action: Action, status: int, number: int, call: Call) -> Any:
+        """What comes of an access that was made, and didn't end well: it waits for its object, or raises."""
+        with self._lock:
+            self._busy = True
+            answer = self._answered((status, number), call, action._lineage, action._renewals, action._is_in_loop())
+            self._busy = self._awaited
+        return read_late(answer)
+
+    def _end_refused(self, action: Action, kind: int, status: int, number: int) -> NoReturn:
+        """Raises why an end of an action was refused."""
+        with self._lock:
+            self._busy = True
+            self._note_end(kind, action._number, (status, number))
+            raise self._archive.error(status, number, (kind, action._number))
+
+    def _begin_refused(self, status: int, kind: int, above: int, number: int) -> NoReturn:
+        """Raises why a begin was refused."""
+        with self._lock:
+            self._busy = True
+            raise self._archive.error(status, number, (kind, above))
 
     def _end(self, action: Action, kind: int) -> None:
         """Ends an `Action` by a commit or an abort. Takes the lock itself."""
@@ -151,13 +222,19 @@ class Calling(Entering, Asked):
             answer = archive.call(archive.at, kind, number, 0, 0, 0, b"")
             if type(answer) is tuple:
                 self._note_end(kind, number, answer)
-                raise error_of_call(*answer, (kind, number))
+                raise archive.error(*answer, (kind, number))
             self._owners.live.pop(number, None)
             if self._awaited:
                 self._wake_after(action._heir())
+            self._left -= 1
+            if self._left <= 0:
+                self._fold_if_due()
             self._busy = self._awaited
 
-    def _make_of(self, action: Action, kind: int, obj: Object = 0) -> Any:
+    def _fold_if_due(self) -> None:
+        """An action has ended, and there may be much to fold."""
+
+    def _make_of(self, action: Action, kind: int, obj: AnyObject = 0) -> Any:
         """Makes another call of an `Action`: a test, or an abort of its siblings. Takes the lock itself."""
         call = kind, action._number, object_number(obj, self._ids)
         if self._busy:
@@ -184,7 +261,7 @@ class Calling(Entering, Asked):
 
     def _wake_after(self, heir: int | None) -> None:
         """Wakes who waits for the end of an action. If this is its parent, that has its locks now, or its own alone."""
-        self._ended.notify_all()
+        self._wake()
         if heir is not None:
             self._break_circles_within(heir)
 
@@ -206,6 +283,7 @@ class Calling(Entering, Asked):
         for number in self._owners.take_dropped():
             # Nobody knows its parent, which may have its locks alone then.
             waits = self._waits.all() if self._awaited else waits
+            LOGGER.warning("a%d was dropped without an end, and is aborted", number)
             answer = self._archive.make(Kind.ABORT, number)
             self._note_end(Kind.ABORT, number, answer)
             if answer[0] == Status.NO_MEMORY:
@@ -218,7 +296,7 @@ class Calling(Entering, Asked):
         self,
         kind: int,
         action: int,
-        obj: Object,
+        obj: AnyObject,
         first: int = 0,
         second: int = 0,
         text: str = "",
@@ -244,7 +322,7 @@ class Calling(Entering, Asked):
             answer = self._make_since(renewals, *call)
             result = self._answered(answer, call, lambda: self._lineage_of(action, lineage), renewals)
             self._busy = self._awaited
-            return result
+        return read_late(result)
 
     def _lineage_of(self, number: int, numbers: Callable[[], set[int]] | None) -> Lineage:
         """That of an action that is named by its number, and maybe by the numbers of its ancestors."""
@@ -256,12 +334,20 @@ class Calling(Entering, Asked):
         return action._lineage() if action else Lineage(frozenset({number}), (number,), is_known=False)
 
     def _answered(
-        self, answer: tuple[int, int], call: Call, lineage: Callable[[], Lineage], renewals: int | None
+        self,
+        answer: tuple[int, int],
+        call: Call,
+        lineage: Callable[[], Lineage],
+        renewals: int | None,
+        is_in_loop: bool = False,
     ) -> Any:
-        """The result of an access. If it is refused with Conflict, it waits and is made again."""
-        if answer == _CONFLICT:
-            return self._access_refused(call, lineage(), self._renewals if renewals is None else renewals)
-        return self._result(answer, call)
+        """The result of an access. If it is refused with Conflict, it waits and is made again; not in an event loop."""
+        if answer != _CONFLICT:
+            return self._result(answer, call)
+        renewals = self._renewals if renewals is None else renewals
+        if is_in_loop:
+            raise self._conflict(call, Wait(call, lineage(), renewals), "; `await top.alock(..)` would wait")
+        return self._access_refused(call, lineage(), renewals)
 
     def _result(self, answer: tuple[int, int], call: Call) -> Any:
         """The result of a call. If it has got a lock for an action that also waits, that may close a circle."""
@@ -284,14 +370,14 @@ class Calling(Entering, Asked):
 
     def _make_once_had(self, call: Call, wait: Wait, limit: float) -> tuple[int, int]:
         """Makes a refused access again each time that it may go on, until it is refused or the patience is over."""
-        answer = _CONFLICT
+        answer, after = _CONFLICT, looks()
         try:
             self._waits.join(wait)
             if self._awaited or wait.lineage.is_inside:
                 self._break_circles(wait)
             while answer == _CONFLICT:
                 while time.monotonic() < limit and not self._may_go_on(call, wait):
-                    self._wait_until(limit)
+                    self._wait_until(limit, next(after))
                 answer = self._make_since(wait.renewals, *call)
                 if wait.waits_for or time.monotonic() >= limit:
                     break
@@ -322,22 +408,24 @@ class Calling(Entering, Asked):
             if not found:
                 break
             found[0].waits_for = tuple(map(self._ids.actions, search.names(found)))
+            LOGGER.info("refused in a circle: %s", circle(found[0].action, found[0].waits_for))
             if found[0] is not wait:
                 self._wake()
 
-    def _conflict(self, call: Call, wait: Wait) -> errors.Conflict:
+    def _conflict(self, call: Call, wait: Wait, more: str = "") -> errors.Conflict:
         """Which actions hold the object that an access wants, as in `a7 wants to write o3, held by a5`."""
         readers, writers = (holders_of(self._archive, it, wait.obj) for it in (Question.READERS, Question.VERSIONS))
         named = ", ".join(f"a{number}" for number in sorted((readers | writers) - wait.lineage.own))
-        text = f"{deed(*call)}, held by {named or 'another one'}"
+        text = f"{deed(call, self._archive.name)}, held by {named or 'another one'}"
         if not wait.waits_for:
-            return errors.Conflict(text)
+            return errors.Conflict(text + more)
         conflict = errors.Conflict(f"{text}: {circle(wait.action, wait.waits_for)}")
         conflict.waits_for = wait.waits_for
         return conflict
 
     def _make(self, *call: Any) -> tuple[int, int]:
         """The status and the number of a call."""
+        self._left -= 1
         if self._dropped:
             self._abort_dropped()
         return self._archive.make(*call)

@@ -37,7 +37,7 @@ class Wait:
     """An access that waits for its lock."""
 
     def __init__(self, call: Call, lineage: Lineage, renewals: int) -> None:
-        self.is_reading = call[0] < Kind.CREATE
+        self.call, self.is_reading = call, call[0] < Kind.CREATE
         self.action, self.obj = call[1:3]
         self.lineage = lineage
         # How often the guardian had been renewed when its action was begun.

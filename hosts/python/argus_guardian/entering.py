@@ -5,10 +5,11 @@ from __future__ import annotations
 import functools
 import threading
 import time
-from collections.abc import Callable
+from collections.abc import Callable, Iterator
 from typing import TYPE_CHECKING, Any, TypeVar
 
 from .errors import Reentered
+from .quick import Gate
 
 if TYPE_CHECKING:
     # Python 3.9 has none.
@@ -19,11 +20,19 @@ if TYPE_CHECKING:
 _Self = TypeVar("_Self", bound="Entering")
 _Result = TypeVar("_Result")
 
-# After at most this many seconds a wait looks again.
-LOOK_AFTER = 0.05
+# After how many seconds a wait looks again, first and at most: an action that is dropped without an end wakes nobody.
+LOOK_AFTER, LOOK_AT_LAST = 0.05, 1.0
 
 
-class Entering:
+def looks() -> Iterator[float]:
+    """After how many seconds a wait looks again, each time after twice as many."""
+    look = LOOK_AFTER
+    while True:
+        yield look
+        look = min(2 * look, LOOK_AT_LAST)
+
+
+class Entering(Gate):
     """The mutex that is held around each call with its reply.
 
     A signal handler, a `__del__` and a callback may run between any two steps of a call of their thread. The mutex
@@ -53,6 +62,8 @@ class Entering:
         # The threads that wait for that, by their identity, and whether there are any. Each holds its lock here as
         # long as it waits.
         self._waiting: dict[int, threading.Lock] = {}
+        # What wakes the tasks of event loops that wait for it.
+        self._wakers: dict[object, Callable[[], None]] = {}
         self._awaited = False
         self._busy = False
 
@@ -67,16 +78,16 @@ class Entering:
         if self._has_lock() or (wait is not None and wait.locked()):
             raise Reentered
 
-    def _wait_until(self, limit: float) -> None:
+    def _wait_until(self, limit: float, look: float = LOOK_AFTER) -> None:
         """Waits until an action ends, but not for long: one that is dropped notifies nobody."""
         this, wait = threading.get_ident(), threading.Lock()
         # After a fork the guardian has others.
-        lock, ended, waiting = self._lock, self._ended, self._waiting
+        lock, ended, waiting, wakers = self._lock, self._ended, self._waiting, self._wakers
         with wait:
             waiting[this] = wait
             self._awaited = True
             try:
-                ended.wait(min(limit - time.monotonic(), LOOK_AFTER))
+                ended.wait(min(limit - time.monotonic(), look))
             finally:
                 # An interrupt at the begin of the wait may have come just after it gave the lock back.
                 if not _has_lock_of(ended):
@@ -84,17 +95,19 @@ class Entering:
                 # No function is called, so no interrupt comes in between.
                 self._busy = True
                 del waiting[this]
-                self._awaited = not not waiting
+                self._awaited = not not waiting or not not wakers
 
     def _wake(self) -> None:
         if self._awaited:
             self._ended.notify_all()
+            for wake in list(self._wakers.values()):
+                wake()
 
-    def _wait_alone(self, limit: float) -> None:
+    def _wait_alone(self, limit: float, look: float) -> None:
         """`_wait_until`, which takes the lock itself."""
         with self._lock:
             self._busy = True
-            self._wait_until(limit)
+            self._wait_until(limit, look)
 
     def _wake_alone(self) -> None:
         """`_wake`, which takes the lock itself."""

@@ -1,5 +1,7 @@
 """The exceptions: why a call failed."""
 
+from __future__ import annotations
+
 
 class ArgusError(Exception):
     """The base of all exceptions of this package. `str` says what the call wanted, and why it failed."""
@@ -29,9 +31,14 @@ class BadText(ArgusError, ValueError):
 
 
 class BadShape(ArgusError, ValueError):
-    """A text isn't the written form of a shape that can be made. Nothing was journalled."""
+    """A text isn't the written form of a shape that can be made; `at` is how many of its bytes could be read. Or an
+    object of this name has another shape. Nothing was journalled."""
 
     why = "no written form of a shape"
+
+    def __init__(self, *why: str, at: int | None = None) -> None:
+        super().__init__(*why)
+        self.at = at
 
 
 class BadNumber(ArgusError, ValueError):
@@ -167,8 +174,10 @@ class TooDeep(Refused):
 
 
 class TooMany(Refused):
-    """No more objects may be declared (65,535), or no more actions begun (1,000,000)."""
+    """No more objects may be declared (65,535), or no more actions begun (1,000,000) until the guardian is renewed."""
 
+    OBJECTS = "65,535 objects are declared, and no more can be"
+    ACTIONS = "1,000,000 actions were begun: call checkpoint() or renew() when no action is live"
     why = "65,535 objects are declared, or 1,000,000 actions were begun"
 
 
@@ -196,7 +205,7 @@ class Exists(Signal):
     why = "there is a content already"
 
 
-class Bounds(Signal):
+class Bounds(Signal, IndexError):
     """No element has this place, or there is none at all."""
 
     why = "no element has this place, or there is none at all"

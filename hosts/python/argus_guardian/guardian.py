@@ -7,27 +7,31 @@ import random
 import threading
 import time
 import warnings
-from collections.abc import Callable, Iterable
+from collections.abc import Awaitable, Callable, Iterable
 from typing import Any, NoReturn, TypeVar
 
 from . import errors, forking
 from .action import Action
-from .calling import Calling
+from .archive import read_late
 from .entering import one_call
-from .ids import ObjectId, number_of
+from .ids import number_of
 from .library import Kind, Question, Status
 from .lists import CallsMade, Listed, array_of, calls_of
+from .looping import InThread
+from .naming import Naming
+from .quick import AT_ONCE
 from .ranges import MOST, U64, i64, u32, within
 from .telling import Call, error_of
-from .values import Object, object_number
+from .values import AnyObject, object_number
 
 _Done = TypeVar("_Done")
 
+_BEGIN_TOP = Kind.BEGIN_TOP
 _BEGINS = (Kind.BEGIN_TOP, Kind.BEGIN_SUB, Kind.BEGIN_NESTED)
 _ENDS = (Kind.COMMIT, Kind.ABORT, Kind.ABORT_OTHERS)
 
 
-class Guardian(Calling):
+class Guardian(Naming):
     """Atomic objects, and the actions that use them. Threads may share it: each call takes its mutex.
 
     Each call raises Reentered, and does nothing, if its thread is inside another one: if a signal handler, a
@@ -48,13 +52,15 @@ class Guardian(Calling):
 
     It isn't promised that a wait ends.
 
-    The journal keeps each call with its reply, and so grows until a checkpoint. A guardian begins at
-    most MAX_ACTIONS actions until it is renewed, which `checkpoint` does when half of these numbers are
-    used, and declares at most 65,535 objects.
+    The journal keeps each call with its reply, and so grows until a checkpoint. The guardian makes one by itself after
+    `checkpoint_after` entries, as soon as a topaction ends and no action is live; None: never. A guardian begins at
+    most MAX_ACTIONS actions until it is renewed, which a checkpoint does when half of these numbers are used, and
+    declares at most 65,535 objects.
     """
 
-    def __init__(self, patience: float = 1.0) -> None:
+    def __init__(self, patience: float = 1.0, *, checkpoint_after: int | None = 100_000) -> None:
         super().__init__(patience)
+        self.checkpoint_after = checkpoint_after
         self._is_open = True
         forking.add(self)
 
@@ -70,12 +76,29 @@ class Guardian(Calling):
         self._is_open = False
         self._archive.leave_behind()
         self._make_lock()
+        self._connect_archive()
 
     def __del__(self, warn: Callable[..., None] = warnings.warn) -> None:
         # No reference to it is left, so no thread has its lock.
         if getattr(self, "_is_open", False):
+            said = repr(self)
             self._archive.close()
-            warn(f"unclosed guardian {self!r}", ResourceWarning, source=self)
+            warn(f"unclosed guardian {said}", ResourceWarning, source=self)
+
+    def __repr__(self) -> str:
+        """How many objects and entries it has. It waits for nobody, and may be called inside a call."""
+        name = type(self).__name__
+        if not self._is_open:
+            return f"<{name}, closed>"
+        if self._has_lock() or not self._lock.acquire(blocking=False):
+            return f"<{name}, in a call>"
+        try:
+            self._busy = True
+            told = [self._archive.ask(it)[1] for it in (Question.OBJECTS, Question.ENTRIES)]
+            self._busy = self._awaited
+        finally:
+            self._lock.release()
+        return f"<{name} of {told[0]} objects, {told[1]} entries, {len(self._owners.live)} live actions>"
 
     def __reduce__(self) -> NoReturn:
         raise TypeError("a guardian is neither pickled nor copied: it lives in one process")
@@ -86,17 +109,9 @@ class Guardian(Calling):
     def __exit__(self, *_: object) -> None:
         self.close()
 
-    def declare(self, shape: str) -> ObjectId:
-        """Declares an object of this shape, such as `atomic_record[balance:int]`, and returns its number.
-
-        The number knows its guardian: another one raises OtherGuardian. A program that keeps it for another process
-        keeps `int` of it.
-        """
-        return self._ids.objects(self.call(Kind.DECLARE, text=shape))
-
     def topaction(self) -> Action:
         """Begins a topaction. While a thread waits in `checkpoint`, it waits for that thread."""
-        return self._begin(Kind.BEGIN_TOP)
+        return (AT_ONCE and self._begin_at_once(_BEGIN_TOP, None)) or self._begin(_BEGIN_TOP)
 
     def run(self, work: Callable[[Action], _Done], tries: int = 20) -> _Done:
         """Carries out `work(top)` as a topaction, and returns what it returns.
@@ -112,22 +127,48 @@ class Guardian(Calling):
             try:
                 return self._run_once(work)
             except errors.Conflict:
-                time.sleep(random.uniform(0, 0.001 * min(2**number, 100)))
+                time.sleep(_pause(number))
         return self._run_once(work)
 
     def _run_once(self, work: Callable[[Action], _Done]) -> _Done:
         with self.topaction() as top:
             return work(top)
 
-    async def arun(self, work: Callable[[Action], _Done], tries: int = 20) -> _Done:
-        """`run` for asyncio: `work`, which isn't a coroutine, runs in a thread of asyncio's pool.
+    async def arun(self, work: Callable[[Action], Any], tries: int = 20) -> Any:
+        """`run` for asyncio.
 
-        If the task is cancelled meanwhile, the topaction still goes on to its end.
+        If `work` is a coroutine function, it runs in the event loop: `await work(top)`, within `async with`. Else it
+        runs in a thread of asyncio's pool. If the task is cancelled, the topaction is aborted, unless it has committed.
         """
         # asyncio takes longer to load than the rest of the package, and most programs don't need it.
-        from asyncio import to_thread
+        import asyncio
+        from inspect import iscoroutinefunction
 
-        return await to_thread(lambda: self.run(work, tries))
+        if iscoroutinefunction(work):
+            return await self._arun_in_loop(work, tries)
+        in_thread = InThread(work)
+        running = asyncio.create_task(asyncio.to_thread(lambda: self.run(in_thread, tries)))
+        try:
+            return await asyncio.shield(running)
+        except asyncio.CancelledError:
+            # What it raises then is nobody's.
+            running.add_done_callback(lambda it: it.cancelled() or it.exception())
+            in_thread.cancel()
+            raise
+
+    async def _arun_in_loop(self, work: Callable[[Action], Awaitable[_Done]], tries: int) -> _Done:
+        from asyncio import sleep
+
+        for number in range(tries - 1):
+            try:
+                return await self._arun_once(work)
+            except errors.Conflict:
+                await sleep(_pause(number))
+        return await self._arun_once(work)
+
+    async def _arun_once(self, work: Callable[[Action], Awaitable[_Done]]) -> _Done:
+        async with self.topaction() as top:
+            return await work(top)
 
     @one_call
     def abort_live(self) -> None:
@@ -143,67 +184,8 @@ class Guardian(Calling):
         if status != Status.DONE:
             raise error_of(status)
 
-    def checkpoint(self, patience: float = 0.0) -> None:
-        """Folds the journal's entries when no action is live.
-
-        Until then it holds back each `topaction`, for at most `patience` seconds; then it raises Busy. So
-        don't wait here in a thread that has a live action. When half of the numbers for actions are
-        used, it also renews the guardian.
-        """
-        self._fold_waiting(patience, self._fold)
-
-    def renew(self, patience: float = 0.0) -> None:
-        """Numbers actions from 0 again, when no action is live; waits as `checkpoint` does.
-
-        Objects keep their numbers, their shapes and their bases, and entries their numbers; the journal's
-        entries are folded. From then on the number of an earlier action names another action or none, and
-        an `Action` from before is over.
-        """
-        self._fold_waiting(patience, self._begin_anew)
-
-    @one_call
-    def _fold_waiting(self, patience: float, fold: Callable[[], int]) -> None:
-        limit, this = time.monotonic() + patience, object()
-        try:
-            self._folds[this] = threading.get_ident()
-            status = fold()
-            while status == Status.BUSY and time.monotonic() < limit:
-                self._wait_until(limit)
-                status = fold()
-        finally:
-            self._folds.pop(this, None)
-            self._wake()
-        if status != Status.DONE:
-            raise error_of(status)
-
-    def _fold(self) -> int:
-        self._abort_dropped()
-        return self._fold_at_once()
-
-    def _fold_at_once(self) -> int:
-        """Folds the journal as it is: it makes no entry before."""
-        if self._archive.told(Question.ACTIONS) >= self.MAX_ACTIONS // 2:
-            return self._renew_at_once()
-        return self._archive.fold()
-
-    def _begin_anew(self) -> int:
-        self._abort_dropped()
-        return self._renew_at_once()
-
-    def _renew_at_once(self) -> int:
-        """Begins anew with the journal as it is: it makes no entry before."""
-        try:
-            return self._archive.renew()
-        finally:
-            # An interrupt may have lost the status.
-            if self._archive.told(Question.ACTIONS) == 0:
-                self._renewals += 1
-                # All actions that were begun are over, and their numbers are used again.
-                self._owners.live.clear()
-                self._begun = 0
-
     def call(
-        self, kind: int, action: int = 0, obj: Object = 0, first: int = 0, second: int = 0, text: str = ""
+        self, kind: int, action: int = 0, obj: AnyObject = 0, first: int = 0, second: int = 0, text: str = ""
     ) -> Any:
         """Makes one call, of a Kind, and returns its result; raises Refused or Signal if that is the reply."""
         action = number_of(action, self._ids, "action")
@@ -220,7 +202,7 @@ class Guardian(Calling):
                 self._begun = answer[1] + 1
             result = self._result(answer, call)
             self._busy = self._awaited
-            return result
+        return read_late(result)
 
     def call_each(self, calls: Iterable[Listed]) -> CallsMade:
         """Makes these calls, each a `Listed`, up to the first whose reply isn't what its demand says.
@@ -249,6 +231,7 @@ class Guardian(Calling):
 
     def _make_each(self, array: Any) -> CallsMade:
         status, count = self._archive.make_each(array)
+        self._left -= count
         made = array[:count]
         calls, outcomes = calls_of(made), [(it.status, it.number) for it in made]
         try:
@@ -277,7 +260,14 @@ class Guardian(Calling):
         entry, size = within(entry, 0, U64, "entry"), within(size, 0, MOST, "size")
         if self._dropped:
             self._abort_dropped()
-        return self._archive.lines(entry, size)
+        lines = self._archive.lines(entry, size)
+        self._note_read(entry + len(lines))
+        return lines
+
+
+def _pause(number: int) -> float:
+    """How many seconds a topaction waits after a Conflict before it is tried once more, the first time at 0."""
+    return random.uniform(0, 0.001 * min(2**number, 100))
 
 
     def show(self, path: str | os.PathLike[str], names: Iterable[str] = ()) -> None:

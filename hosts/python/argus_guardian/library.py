@@ -243,6 +243,11 @@ def bare(library: ctypes.CDLL, name: str) -> Callable[..., Any]:
     return call
 
 
+def address_of(call: Callable[..., Any]) -> int:
+    """Where a function of the library is."""
+    return ctypes.cast(call, ctypes.c_void_p).value or 0  # type: ignore[arg-type]
+
+
 def address(handle: Handle) -> Any:
     """The address of a handle, as the quick call takes it."""
     return ctypes.byref(handle) if _call is None else ctypes.addressof(handle)
@@ -257,7 +262,7 @@ def quick(library: ctypes.CDLL) -> QuickCall:
     """
     if _call is None:
         return _by_ctypes(library)
-    return _call.of(ctypes.cast(library.argus_c_call, ctypes.c_void_p).value or 0)
+    return _call.of(address_of(library.argus_c_call))
 
 
 def _by_ctypes(library: ctypes.CDLL) -> QuickCall:

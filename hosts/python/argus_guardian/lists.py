@@ -9,7 +9,7 @@ from .ids import Ids, number_of
 from .library import Demand, ListedCall
 from .ranges import U32, i64, u32, within
 from .telling import Call
-from .values import Object, object_number
+from .values import AnyObject, object_number
 
 
 class Listed(NamedTuple):
@@ -21,7 +21,7 @@ class Listed(NamedTuple):
 
     kind: int
     action: int = 0
-    obj: Object = 0
+    obj: AnyObject = 0
     first: int = 0
     second: int = 0
     text: str = ""
@@ -50,6 +50,8 @@ def array_of(calls: list[Listed], ids: Ids) -> Any:
 
 
 def _listed_call(call: Listed, ids: Ids) -> ListedCall:
+    if not isinstance(call, Listed):
+        raise TypeError(f"a call of a list is a Listed, and not {call!r}")
     text = call.text.encode()
     return ListedCall(
         kind=u32(call.kind, "kind"),

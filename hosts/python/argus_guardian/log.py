@@ -16,6 +16,7 @@ from typing import Any, NoReturn, TypeVar
 from weakref import ref
 
 from .action import Action
+from .entering import looks
 from .errors import Busy, Closed, Full, OutOfMemory
 from .library import Status
 from .log_errors import (
@@ -41,6 +42,7 @@ from .log_errors import (
 )
 from .log_making import make_log
 from .log_writer import JournalOfLog, LogCounts, LogWriter, Wanted
+from .ranges import seconds
 from .telling import error_of
 
 _Done = TypeVar("_Done")
@@ -107,7 +109,7 @@ class Log:
         self.checkpoint_after = checkpoint_after
         # Before this entry no checkpoint is tried again.
         self._again_at = 0
-        self.guardian = LoggedGuardian(patience)
+        self.guardian = LoggedGuardian(patience, checkpoint_after=None)
         try:
             self._writer = LogWriter(self.guardian, _resolved(path), wanted, _version())
         except BaseException:
@@ -236,6 +238,15 @@ class Log:
         self._acknowledge()
         return done
 
+    async def arun(self, work: Callable[[Action], Any], tries: int = 20) -> Any:
+        """`Guardian.arun`, which returns when the commit is on disk. A thread waits for that."""
+        from asyncio import to_thread
+
+        self._refuse_broken()
+        done = await self.guardian.arun(work, tries)
+        await to_thread(self._acknowledge)
+        return done
+
     def checkpoint(self, patience: float = 1.0) -> None:
         """Folds the journal when no action is live, and puts what the objects hold in place of the log's batches.
 
@@ -243,13 +254,14 @@ class Log:
         patience is over. When half of the numbers for actions are used, it also renews the guardian. OutOfMemory and
         Full are raised at once, and nothing is folded.
         """
-        limit, guardian, this = time.monotonic() + patience, self.guardian, object()
+        limit, guardian, this = time.monotonic() + seconds(patience, "patience"), self.guardian, object()
         self._refuse_reentered()
+        after = looks()
         try:
             guardian._folds[this] = threading.get_ident()
             status = self._writer.checkpoint()
             while status == Status.BUSY and time.monotonic() < limit:
-                guardian._wait_alone(limit)
+                guardian._wait_alone(limit, next(after))
                 status = self._writer.checkpoint()
         finally:
             # If an interrupt comes in between, a topaction that waits finds out by itself.
@@ -295,6 +307,21 @@ class LoggedTopaction:
         drop, owner = guardian._owners.drop, guardian._owners.live[self._top._number]
         self._dropped = ref(self, lambda _: drop(owner))
         return self._top
+
+    async def __aenter__(self) -> Action:
+        self._log._refuse_broken()
+        self._top = self._log.guardian.topaction()
+        return await self._top.__aenter__()
+
+    async def __aexit__(
+        self, kind: type[BaseException] | None, error: BaseException | None, trace: TracebackType | None
+    ) -> None:
+        from asyncio import to_thread
+
+        if self._top is not None:
+            await self._top.__aexit__(kind, error, trace)
+        if kind is None:
+            await to_thread(self._log._acknowledge)
 
     def __exit__(
         self, kind: type[BaseException] | None, error: BaseException | None, trace: TracebackType | None

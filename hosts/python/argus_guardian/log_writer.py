@@ -12,6 +12,7 @@ from pathlib import Path
 from typing import NamedTuple, TypeVar
 
 from . import forking
+from .calling import LOGGER
 from .entering import one_call
 from .errors import ArgusError
 from .guardian import Guardian
@@ -182,6 +183,7 @@ class LogWriter(Uses):
 
     def _break(self, error: BaseException) -> None:
         self._why = error
+        LOGGER.error("the log %s is broken: %s", self._path, error)
         self._database.give_up()
 
     def _append(self) -> None:

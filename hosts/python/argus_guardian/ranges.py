@@ -19,6 +19,15 @@ def within(number: SupportsIndex, low: int, high: int, what: str) -> int:
     raise OverflowError(f"{what} {plain} is not within {low} to {high}")
 
 
+def seconds(number: float, what: str) -> float:
+    """The number, for how long something waits. TypeError if it is no number, ValueError if it is NaN."""
+    if isinstance(number, bool) or not isinstance(number, (int, float)):
+        raise TypeError(f"{what} {number!r} is no number of seconds")
+    if number != number:
+        raise ValueError(f"{what} is not a number")
+    return number
+
+
 def i64(number: SupportsIndex, what: str) -> int:
     return within(number, LEAST, MOST, what)
 

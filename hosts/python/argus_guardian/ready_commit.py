@@ -7,7 +7,7 @@ from typing import TYPE_CHECKING, Any
 
 from . import errors
 from .library import Kind, Status
-from .telling import error_of, error_of_call
+from .telling import error_of
 
 if TYPE_CHECKING:
     from .action import Action
@@ -30,12 +30,11 @@ class ReadyCommit:
     """A prepared commit, so that it is in a log before anybody can see what it leaves.
 
     `Action.ready_commit` makes one for a `with` block, in which the guardian's mutex is held. So any other call of
-    this thread raises Reentered there, and the commit stays ready. `line` is the line that the commit will have in
-    the journal's listing, with its line feed.
+    this thread raises Reentered there, and the commit stays ready.
     """
 
     def __init__(self, action: Action) -> None:
-        self._action, self.line = action, ""
+        self._action, self._line = action, ""
         # After a fork the guardian has another one.
         self._lock: Any = action.guardian._lock
 
@@ -66,10 +65,20 @@ class ReadyCommit:
         # The next call opens the guardian again, however the block ends.
         guardian._owners.dropped.append(None)
         guardian._readying = id(self)
+        guardian._note_read(0)
         status = guardian._archive.ready_commit(action._number)
         if status != Status.DONE:
             raise error_of(status)
-        self.line = guardian._archive.ready_line()
+        self._line = guardian._archive.ready_line()
+        guardian._prepared = id(self)
+
+    @property
+    def line(self) -> str:
+        """The line that the commit will have in the journal's listing, with its line feed. Closed after the block."""
+        guardian = self._action.guardian
+        if guardian._prepared != id(self) or not guardian._has_lock():
+            raise errors.Closed("the commit isn't ready any more")
+        return self._line
 
     def make(self) -> None:
         """Makes the commit, which takes no memory. If it is refused, raises that; the journal has the refusal.
@@ -83,5 +92,5 @@ class ReadyCommit:
         answer = guardian._archive.make_ready()
         guardian._note_end(Kind.COMMIT, action._number, answer)
         if answer[0] != Status.DONE:
-            raise error_of_call(*answer, (Kind.COMMIT, action._number))
+            raise guardian._archive.error(*answer, (Kind.COMMIT, action._number))
         action._is_ended = True

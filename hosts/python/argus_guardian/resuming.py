@@ -39,6 +39,8 @@ def resume(lines: Iterable[str], patience: float = 1.0) -> Guardian:
     try:
         _take_all(guardian._archive, lines)
         guardian._begun = guardian.actions
+        # The program has these lines.
+        guardian._note_read(guardian.entries)
     except BaseException:
         guardian.close()
         raise

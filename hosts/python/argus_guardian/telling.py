@@ -2,11 +2,12 @@
 
 from __future__ import annotations
 
-from collections.abc import Iterable
+from collections.abc import Callable, Iterable
 from typing import TYPE_CHECKING, Any
 
 from . import errors
 from .library import Kind, Question, Status
+from .shapes import Shape
 
 if TYPE_CHECKING:
     # Python 3.9 has none.
@@ -24,9 +25,13 @@ _DEEDS: dict[int, str] = {
     Kind.COMMIT: "a{} wants to commit",
     Kind.ABORT: "a{} wants to abort",
     Kind.ABORT_OTHERS: "a{} wants to abort its siblings",
-    Kind.TEST_READ: "a{} wants to read o{}",
-    Kind.TEST_WRITE: "a{} wants to write o{}",
+    Kind.TEST_READ: "a{} wants to read {}",
+    Kind.TEST_WRITE: "a{} wants to write {}",
 }
+# The kinds that take an item of an array, and the kind of shape in which others take a field or a tag.
+_ITEMS = (Kind.STORE, Kind.ADDH, Kind.ADDL)
+_NAMED: dict[int, str] = {Kind.FIELD: "record", Kind.SET_FIELD: "record"}
+_NAMED.update(dict.fromkeys((Kind.IS_TAG, Kind.TAG_VALUE, Kind.CHANGE_TAG), "variant"))
 _NUMBERED: tuple[int, ...] = (Kind.FIELD, Kind.FETCH, Kind.IS_TAG, Kind.TAG_VALUE, Kind.SET_FIELD, Kind.STORE)
 _NUMBERED += (Kind.SET_LOW, Kind.CHANGE_TAG)
 _ERRORS: dict[int, type[errors.ArgusError]] = {
@@ -43,11 +48,17 @@ _ERRORS: dict[int, type[errors.ArgusError]] = {
 }
 
 
-def deed(kind: int, action: int = 0, obj: int = 0, *_: object) -> str:
+def by_number(obj: int) -> str:
+    """How an object is called that has no name."""
+    return f"o{obj}"
+
+
+def deed(call: Call, name: Callable[[int], str] = by_number) -> str:
     """What the call wants, as in `a7 wants to write o3`."""
+    kind, action, obj = (*call, 0, 0)[:3]
     if kind > Kind.TEST_WRITE:
         kind = Kind.TEST_READ if kind < Kind.CREATE else Kind.TEST_WRITE
-    return _DEEDS[kind].format(action, obj)
+    return _DEEDS[kind].format(action, name(obj))
 
 
 def circle(action: int, waits_for: Iterable[int]) -> str:
@@ -62,16 +73,40 @@ def _operation(kind: int, action: int, obj: int, first: int = 0, second: int = 0
     return f"trim {first} {second}" if kind == Kind.TRIM else _NAMES[kind]
 
 
-def error_of_call(status: int, number: int, call: Call) -> errors.ArgusError:
-    """The exception for the status and the number of a call."""
+def error_of_call(
+    status: int, number: int, call: Call, name: Callable[[int], str] = by_number, shape: Shape | None = None
+) -> errors.ArgusError:
+    """The exception for the status and the number of a call. IllTyped also says what the object's shape has there."""
     if status == Status.REFUSED and 1 <= number <= len(errors.REFUSALS):
         refused = errors.REFUSALS[number - 1]
         operation = f" by {_operation(*call)}" if refused is errors.IllTyped else ""
-        return refused(f"{deed(*call)}{operation}: {refused.why}")
+        return refused(f"{deed(call, name)}{operation}: {_why(refused, call, shape)}")
     if status == Status.SIGNAL and 1 <= number <= len(errors.SIGNALS):
         signal = errors.SIGNALS[number - 1]
-        return signal(f"{deed(*call)} by {_operation(*call)}: {signal.why}")
+        return signal(f"{deed(call, name)} by {_operation(*call)}: {signal.why}")
     return error_of(status, number)
+
+
+def is_ill_typed(status: int, number: int) -> bool:
+    """Whether a call was refused so."""
+    return (status, number) == (Status.REFUSED, errors.REFUSALS.index(errors.IllTyped) + 1)
+
+
+def _why(refused: type[errors.Refused], call: Call, shape: Shape | None) -> str:
+    if refused is errors.TooMany:
+        return errors.TooMany.OBJECTS if call[0] == Kind.DECLARE else errors.TooMany.ACTIONS
+    return f"{refused.why}; {_typed(call, shape)}" if refused is errors.IllTyped and shape else refused.why
+
+
+def _typed(call: Call, shape: Shape) -> str:
+    """What the shape has where the call wants something, as in `field balance is int`."""
+    kind, number = call[0], (*call, 0, 0)[3]
+    part = shape.part(number)
+    if part is not None and shape.kind == "array" and kind in _ITEMS:
+        return f"an item is {part.text}"
+    if part is not None and shape.kind == _NAMED.get(kind):
+        return f"{'field' if shape.kind == 'record' else 'tag'} {shape.names[number]} is {part.text}"
+    return f"its shape is {shape.text}"
 
 
 def error_of_question(

@@ -12,12 +12,13 @@ are numbered from 0, in the order in which their type has them.
 from __future__ import annotations
 
 import re
-from collections.abc import Callable, Iterable
+from collections.abc import Callable, Iterable, Iterator
 from dataclasses import dataclass
 from typing import TYPE_CHECKING, Any, NamedTuple, TypeVar
 
-from .errors import BadText
+from .errors import BadText, OtherGuardian
 from .ids import Ids, number_of
+from .quick import Typed
 from .ranges import BYTE, LEAST, MOST, U32, i64, within
 
 if TYPE_CHECKING:
@@ -27,9 +28,9 @@ if TYPE_CHECKING:
 MAX_DEPTH = 16
 
 # What is accepted as a value, a content and an object. What is returned is Any: its type depends on the shape.
-Value: TypeAlias = "None | bool | int | str | Ref | Choice | tuple[Value, ...] | list[Any]"
+Value: TypeAlias = "None | bool | int | str | Ref | Typed | Choice | tuple[Value, ...] | list[Any]"
 Content: TypeAlias = "Choice | Array | tuple[Value, ...]"
-Object: TypeAlias = "int | Ref"
+AnyObject: TypeAlias = "int | Ref | Typed"
 _Read = TypeVar("_Read")
 
 
@@ -46,9 +47,9 @@ def _is_same(one: tuple[Any, ...], other: object) -> bool:
 
 
 class Choice(NamedTuple):
-    """A tag of a oneof or of a variant, and its value."""
+    """A tag of a oneof or of a variant, and its value. The tag is a number, or a name where the type is known."""
 
-    tag: int
+    tag: int | str
     value: Any
 
     def __eq__(self, other: object) -> bool:
@@ -61,23 +62,28 @@ class Choice(NamedTuple):
         return hash((Choice, *self))
 
 
-class Array(NamedTuple):
-    """An array's low bound, and its elements."""
+@dataclass(frozen=True)
+class Array:
+    """An array's low bound, and its items, over which it iterates."""
 
     low: int
     items: list[Any]
 
-    def __eq__(self, other: object) -> bool:
-        return _is_same(self, other)
+    def __iter__(self) -> Iterator[Any]:
+        return iter(self.items)
 
-    def __ne__(self, other: object) -> bool:
-        return not _is_same(self, other)
+    def __len__(self) -> int:
+        return len(self.items)
 
 
-def object_number(obj: Object, ids: Ids | None = None) -> int:
+def object_number(obj: AnyObject, ids: Ids | None = None) -> int:
     """The number of an object, which may be given as a Ref. Raises what `number_of` does."""
     if ids is not None and type(obj) is ids.objects:
         return obj  # type: ignore[return-value]
+    if isinstance(obj, Typed):
+        if ids is not None and obj._ids is not ids:
+            raise OtherGuardian(f"{obj!r}: {OtherGuardian.why}")
+        return obj._number
     return number_of(obj.number if isinstance(obj, Ref) else obj, ids, "object")
 
 
@@ -95,13 +101,13 @@ def write_value(value: Value, ids: Ids | None = None) -> str:
         return str(i64(value, "integer"))
     if isinstance(value, str):
         return '"' + value.replace("\\", "\\\\").replace('"', '\\"').replace("\n", "\\n") + '"'
-    if isinstance(value, Ref):
+    if isinstance(value, (Ref, Typed)):
         return f"@{object_number(value, ids)}"
     if isinstance(value, Choice):
-        return f"<{within(value.tag, 0, BYTE, 'tag')}:{write_value(value.value, ids)}>"
+        return f"<{within(value.tag, 0, BYTE, 'tag')}:{write_value(value.value, ids)}>"  # type: ignore[arg-type]
     if isinstance(value, list):
         return "[" + _joined(value, ids) + "]"
-    if isinstance(value, tuple) and not isinstance(value, Array):
+    if isinstance(value, tuple):
         return "{" + _joined(value, ids) + "}"
     raise TypeError(f"no value: {value!r}")
 
@@ -147,6 +153,9 @@ class _Reader:
     DIGITS = 20
     ESCAPED = re.compile(r'\\(["\\n])')
     WORDS = {"null": None, "true": True, "false": False}
+    # Values that are read at once: words, texts without escapes, and integers that surely have 64 bits.
+    SCALAR = re.compile(r'0|-?[1-9][0-9]{0,17}|"[^"\\\n]*"|null|true|false')
+    SCALARS = re.compile(rf"(?:{SCALAR.pattern})(?:,(?:{SCALAR.pattern}))*(?=[\]}}])")
 
     def __init__(self, text: str) -> None:
         self.text, self.at = text, 0
@@ -216,7 +225,12 @@ class _Reader:
         """The values before the closing bracket, which is taken too."""
         if self.take(close):
             return []
-        values = [self.value(level + 1)]
+        found = self.SCALARS.match(self.text, self.at) if level < MAX_DEPTH else None
+        if found:
+            self.at = found.end()
+            values = _scalars(found.group())
+        else:
+            values = [self.value(level + 1)]
         while not self.take(close):
             self.want(",")
             values.append(self.value(level + 1))
@@ -239,6 +253,21 @@ class _Reader:
         low = self.number(self.INT, LEAST, MOST)
         self.want("[")
         return Array(low, self.values(0, "]"))
+
+
+def _scalars(text: str) -> list[Any]:
+    """The values of this text, of which _Reader.SCALARS says that it is some. Most are integers."""
+    try:
+        return list(map(int, text.split(",")))
+    except ValueError:
+        return [_scalar(it) for it in _Reader.SCALAR.findall(text)]
+
+
+def _scalar(text: str) -> Any:
+    """The value of this text, which is one of _Reader.SCALAR."""
+    if text[0] == '"':
+        return text[1:-1]
+    return _Reader.WORDS[text] if text[0] in "ntf" else int(text)
 
 
 class _Stop(Exception):

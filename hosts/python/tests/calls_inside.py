@@ -159,7 +159,7 @@ class Outer:
             same(top.field(record, 2), self.mine.items)
             same(top.whole(record), self.mine.content)
             same([top.low(self.array), top.high(self.array), top.size(self.array)], [5, 7, 3])
-            same([top.fetch(self.array, 6), top.bottom(self.array), top.top(self.array)], [60, 50, 70])
+            same([top.fetch(self.array, 6), top.first(self.array), top.last(self.array)], [60, 50, 70])
             same([top.is_tag(self.variant, 0), top.tag_value(self.variant, 1)], [False, "yes"])
             same(self.guardian.access(Kind.FIELD, top.number, record, 1), self.mine.text)
             try:

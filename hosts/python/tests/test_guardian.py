@@ -14,6 +14,7 @@ sys.path.insert(0, str(Path(__file__).resolve().parents[1]))
 
 import argus_guardian as argus  # noqa: E402
 from argus_guardian import Array, Choice, Ref  # noqa: E402
+from argus_guardian.library import _call  # noqa: E402
 
 
 class Texts(unittest.TestCase):
@@ -45,7 +46,25 @@ class Texts(unittest.TestCase):
             self.assertEqual(argus.read_content(text), content)
         self.assertIsNone(argus.read_content("absent"))
 
+    def test_values_that_are_read_at_once_are_as_others(self):
+        for value in (
+            [0, -1, 10**17, 10**18 - 1, 10**18, 2**63 - 1, -(2**63)],
+            [1, 'a,"b"', "c,d]", "}", ""],
+            (1, True, None, False, "x", [], (), [1, [2, 3], 4]),
+            [[[[1, 2], 3], "a"], "b"],
+            list(range(10_000)),
+        ):
+            self.assertEqual(argus.read_value(argus.write_value(value)), value)
+        deep = "[" * 15 + "1,2" + "]" * 15
+        self.assertEqual(argus.write_value(argus.read_value(deep)), deep)
+
     def test_what_is_none(self):
+        bad = ("[1,2", 4), ("[1,2}", 4), ("{1,2]", 4), ("[1,02]", 4), ("[1,,2]", 3), ("[1, 2]", 3), ("[1,2,]", 5)
+        bad += (("[" * 16 + "1,2" + "]" * 16, 16), ("[1,9999999999999999999]", 21), ("[1_0]", 2), ("[１]", 1))
+        for text, at in bad:
+            with self.assertRaises(argus.BadText) as raised:
+                argus.read_value(text)
+            self.assertEqual((text, raised.exception.at), (text, at))
         for text, at in (("", 0), (" 1", 0), ("1 ", 1), ("007", 1), ("[1,]", 3), ("[" * 17 + "]" * 17, 16)):
             with self.assertRaises(argus.BadText) as raised:
                 argus.read_value(text)
@@ -103,7 +122,7 @@ class Calls(unittest.TestCase):
     def test_queries_and_changes_of_arrays(self):
         with self.guardian.topaction() as top:
             self.assertEqual((top.low(self.array), top.high(self.array), top.size(self.array)), (1, 3, 3))
-            self.assertEqual((top.bottom(self.array), top.fetch(self.array, 2), top.top(self.array)), (10, 20, 30))
+            self.assertEqual((top.first(self.array), top.fetch(self.array, 2), top.last(self.array)), (10, 20, 30))
             top.store(self.array, 2, 21)
             top.addl(self.array, 0)
             top.addh(self.array, 40)
@@ -209,6 +228,7 @@ class Calls(unittest.TestCase):
             self.assertEqual(guardian.entries, before)
         self.assertEqual(guardian.base(self.record), (5, "a"))
 
+    @unittest.skipIf(_call is not None, "_call.c has a buffer for each reply")
     def test_no_memory_for_a_result(self):
         with self.guardian.topaction() as top:
             top.set_field(self.record, 1, 300 * "a")

@@ -13,6 +13,7 @@ from unittest import mock
 sys.path.insert(0, str(Path(__file__).resolve().parents[1]))
 
 import argus_guardian as argus  # noqa: E402
+from argus_guardian.library import _call  # noqa: E402
 
 
 def with_record(patience=1.0):
@@ -71,7 +72,7 @@ class Interrupts(unittest.TestCase):
         self.order = order
         for _ in range(self.TIMES):
             self.work_until_interrupted()
-            self.assertFalse(self.guardian._lock._is_owned())
+            self.assertFalse(self.guardian._has_lock())
             self.guardian.checkpoint()
 
     def test_none_leaves_its_thread_inside_a_wait(self):
@@ -89,6 +90,7 @@ class Interrupts(unittest.TestCase):
             self.assertEqual(self.guardian.live(), holder.number)
             self.assertEqual((self.guardian._waiting, self.guardian._awaited), ({}, False))
 
+    @unittest.skipIf(_call is not None, "_call.c makes the call at once, and nothing comes in between")
     def test_where_the_begin_alone_is_interrupted(self):
         for begin in self.guardian.topaction, self.guardian.topaction().subaction:
             archive, call = self.guardian._archive, self.guardian._archive.call
@@ -104,6 +106,7 @@ class Interrupts(unittest.TestCase):
             entries = self.guardian.entries
             self.assertIn("abort", self.guardian.entry(entries - 1))
 
+    @unittest.skipIf(_call is not None, "_call.c makes the call at once, and nothing comes in between")
     def test_others_stay_where_a_begin_is_interrupted(self):
         # One of a guardian that is made again, one that has a number alone, one of a list, and one that somebody has.
         guardian = argus.resume(["0 begin_top -> a0"])
@@ -123,6 +126,7 @@ class Interrupts(unittest.TestCase):
         statuses = [guardian.status(number) for number in range(top.number + 2)]
         self.assertEqual(statuses, 4 * ["live"] + ["aborted"])
 
+    @unittest.skipIf(_call is not None, "_call.c makes the call at once, and nothing comes in between")
     def test_where_the_commit_is_interrupted(self):
         end = self.guardian._end
 
@@ -156,7 +160,7 @@ class Waits(unittest.TestCase):
                 time.sleep(0.2)
                 signal.pthread_kill(main, signal.SIGALRM)
                 time.sleep(0.1)
-                found.append(guardian._ended._is_owned())
+                found.append(guardian._has_lock())
 
         thread = threading.Thread(target=hold)
         with self.assertRaises(KeyboardInterrupt), guardian.topaction() as top:
@@ -180,7 +184,7 @@ class Waits(unittest.TestCase):
                 top.lock(record)
         self.assertEqual((guardian.live(), guardian._waiting), (holder.number, {}))
         self.assertIsNone(guardian.live(holder.number + 1))
-        self.assertFalse(guardian._lock._is_owned())
+        self.assertFalse(guardian._has_lock())
 
 
 class Forgotten(unittest.TestCase):

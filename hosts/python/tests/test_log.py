@@ -393,7 +393,8 @@ class LogTest(LogCase):
             words = [sys.executable, str(shop), self.path, *order.split(" ")]
             self.assertEqual(subprocess.run(words, capture_output=True, text=True, check=True).stdout, said)
         with Log.open(self.path) as log:
-            self.assertEqual([log.guardian.get(seat).holder for seat in range(3, 7)], ["ann", "ann", "bob", ""])
+            seats = [log.guardian.object(f"seat {it}") for it in range(3, 7)]
+            self.assertEqual([log.guardian.get(seat).holder for seat in seats], ["ann", "ann", "bob", ""])
 
 
 if __name__ == "__main__":

@@ -3,8 +3,9 @@
 import copy
 import pickle
 import unittest
+from unittest import mock
 
-from argus_guardian import Absent, Array, Choice, Guardian, IllTyped, NotThere, Shape
+from argus_guardian import Absent, Action, Array, Choice, Guardian, IllTyped, NotThere, OutOfMemory
 
 
 class Names(unittest.TestCase):
@@ -34,18 +35,21 @@ class Names(unittest.TestCase):
             made = make(got)
             self.assertEqual((made, made.by, repr(made)), ((True, "Ann"), "Ann", "Record(taken=True, by='Ann')"))
 
-    def test_what_is_no_record_has_no_fields(self):
-        variant = self.guardian.declare("atomic_variant[no:null,yes:int]")
-        array = self.guardian.declare("atomic_array[int]")
+    def test_variants_and_arrays_are_got_by_names_too(self):
+        variant = self.guardian.declare("atomic_variant[no:null,yes:struct[n:int]]")
+        array = self.guardian.declare("atomic_array[struct[n:int]]")
         with self.guardian.topaction() as top:
-            top.create(variant, Choice(1, 5))
-            top.create(array, Array(1, [3, 4]))
-            for obj in variant, array:
-                with self.assertRaisesRegex(TypeError, "not a record"):
-                    top.get(obj)
+            top.create(variant, Choice(1, (5,)))
+            top.create(array, Array(1, [(3,), (4,)]))
+            self.assertEqual(top.get(variant, "yes").n, 5)
+            for get in top.get, self.guardian.get:
+                if get == self.guardian.get:
+                    top.commit()
+                self.assertEqual((get(variant).tag, get(variant).value.n), ("yes", 5))
+                self.assertEqual((get(array).low, [it.n for it in get(array)]), (1, [3, 4]))
         for obj in variant, array:
-            with self.assertRaisesRegex(TypeError, "not a record"):
-                self.guardian.get(obj)
+            with self.assertRaises(AttributeError):
+                self.guardian.get(obj).n
 
     def test_fields_may_have_the_names_of_parameters(self):
         record = self.guardian.declare("atomic_record[obj:int,self:int]")
@@ -73,6 +77,27 @@ class Names(unittest.TestCase):
             top.create(self.seat, (False, ""))
             with self.assertRaises(IllTyped):
                 top.set(self.seat, taken=1)
+            # None is set, and the entry is the refusal's.
+            entries = self.guardian.entries
+            for fields in {"taken": True, "by": 1}, {"by": "Ann", "taken": "x"}:
+                with self.assertRaises(IllTyped):
+                    top.set(self.seat, **fields)
+            self.assertEqual((top.get(self.seat), self.guardian.entries), ((False, ""), entries + 3))
+
+    def test_what_was_set_where_there_is_no_memory(self):
+        with self.guardian.topaction() as top:
+            top.create(self.seat, (False, ""))
+            set_field = Action.set_field
+
+            def refused(action, obj, field, value):
+                if field == 1:
+                    raise OutOfMemory
+                set_field(action, obj, field, value)
+
+            with mock.patch.object(Action, "set_field", refused):
+                with self.assertRaisesRegex(OutOfMemory, "; taken was set before"):
+                    top.set(self.seat, taken=True, by="Ann")
+            self.assertEqual(top.get(self.seat), (True, ""))
 
     def test_names_of_each_kind(self):
         shapes = {
@@ -82,7 +107,8 @@ class Names(unittest.TestCase):
             "atomic_record[class:int,_1:int]": ("record", ("class", "_1")),
         }
         for text, wanted in shapes.items():
-            self.assertEqual(self.guardian.shape_of(self.guardian.declare(text)), Shape(*wanted))
+            shape = self.guardian.shape_of(self.guardian.declare(text))
+            self.assertEqual((shape.kind, shape.names, shape.text), (*wanted, text))
         with self.assertRaises(NotThere):
             self.guardian.shape_of(99)
 

@@ -37,6 +37,8 @@ class ReadyCommits(unittest.TestCase):
         self.assertIsNone(self.guardian.base(self.record))
         with self.assertRaises(Closed):
             ready.make()
+        with self.assertRaises(Closed):
+            ready.line
         self.top.commit()
         self.assertEqual(self.guardian.base(self.record), (5,))
 
@@ -171,7 +173,7 @@ class ReadyCommits(unittest.TestCase):
             setattr(archive, name, interrupted_after)
             with self.assertRaises(KeyboardInterrupt), self.top.ready_commit():
                 pass
-            self.assertFalse(self.guardian._lock._is_owned())
+            self.assertFalse(self.guardian._has_lock())
             self.assertEqual(self.guardian.entries, 3)
 
     def test_no_interrupt_keeps_the_mutex_after_the_block(self):
@@ -179,8 +181,8 @@ class ReadyCommits(unittest.TestCase):
         self.assertIsInstance(self.top.ready_commit().__exit__, types.BuiltinMethodType)
         with contextlib.ExitStack() as stack:
             stack.enter_context(self.top.ready_commit())
-            self.assertTrue(self.guardian._lock._is_owned())
-        self.assertFalse(self.guardian._lock._is_owned())
+            self.assertTrue(self.guardian._has_lock())
+        self.assertFalse(self.guardian._has_lock())
 
 
 if __name__ == "__main__":
