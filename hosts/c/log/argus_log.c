@@ -147,21 +147,15 @@ static void note_names(argus_log *log, const log_batch *batch) {
 /* Lists the journal: an opening, and the entries since then. */
 static uint32_t list_whole(argus_log *log, log_batch *batch) {
     pthread_mutex_lock(log->lock);
-    argus_answer answer = argus_list(log->guardian, ARGUS_LIST_JOURNAL);
-    if (answer.status == ARGUS_TEXT) {
-        size_t size = (size_t)argus_reply(log->guardian, NULL, 0).number;
-        answer.status = log_text_reserve(&log->lines, size)
-                            ? argus_reply(log->guardian, log->lines.bytes, size).status
-                            : (uint32_t)ARGUS_NO_MEMORY;
-        log->lines.size = size;
-    }
+    uint32_t status = argus_list(log->guardian, ARGUS_LIST_JOURNAL).status;
+    if (status == ARGUS_TEXT) status = log_text_of_reply(&log->lines, log->guardian);
     int64_t next = argus_entries(log->guardian).number;
     batch->first = argus_first_entry(log->guardian).number;
     batch->entries = next - batch->first;
     batch->names = log->names.unwritten;
     batch->names_count = log_names_due(&log->names, next);
     pthread_mutex_unlock(log->lock);
-    return answer.status;
+    return status;
 }
 
 /* The size of the lines that belong to the opening, with their line feeds. */
@@ -343,7 +337,7 @@ argus_answer argus_log_open(argus_log *log, const char *path, const argus_log_op
     uint32_t status;
     if (log == NULL || path == NULL) return answer_of(ARGUS_NULL);
     if (log->process != getpid()) return answer_of(ARGUS_NOT_OPEN);
-    if (log->is_open || log->guardian->mark == 1) return answer_of(ARGUS_OCCUPIED);
+    if (log->is_open || argus_entries(log->guardian).status != ARGUS_NOT_OPEN) return answer_of(ARGUS_OCCUPIED);
     log->is_broken = log->is_folded = 0;
     status = resolve(log, path, &words);
     if (status == ARGUS_DONE) status = open_both(log, options == NULL ? &none : options, &words);
