@@ -416,7 +416,8 @@ static char *shape_of(argus_guardian *held, uint32_t object, size_t *size, uint3
     char *shape;
     *status = argus_c_tell(held, ARGUS_SHAPE, 0, object, 0, &number);
     if (*status != ARGUS_TEXT) return NULL;
-    argus_c_reply(held, none, 0, size);
+    *status = argus_c_reply(held, none, 0, size);
+    if (*status != ARGUS_TOO_SMALL) return NULL;
     shape = malloc(*size);
     *status = shape == NULL ? (uint32_t)ARGUS_NO_MEMORY : argus_c_reply(held, (uint8_t *)shape, *size, size);
     if (*status == ARGUS_DONE) return shape;

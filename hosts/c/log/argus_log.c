@@ -91,6 +91,15 @@ argus_answer argus_log_create(argus_log *log, const char *path) {
     return status == ARGUS_DONE ? answer_of(status) : told(log, status, &words);
 }
 
+/* Finds the file itself: SQLite puts the WAL beside that, where the path is a link to it. */
+static uint32_t resolve(argus_log *log, const char *path, log_words *words) {
+    log->path = realpath(path, NULL);
+    if (log->path != NULL) return ARGUS_DONE;
+    if (errno == ENOMEM) return log_fail_as_sqlite(words, NULL);
+    if (errno == ENOENT) return log_fail(words, ARGUS_LOG_NO_LOG, "no log is there: %s", path);
+    return log_fail(words, ARGUS_LOG_UNREAD, "the log can't be read: %s: %s", path, strerror(errno));
+}
+
 /* Makes the guardian, and the database this process's. */
 static uint32_t open_both(argus_log *log, const argus_log_options *options, log_words *words) {
     log_found found = {0};
@@ -138,21 +147,15 @@ static void note_names(argus_log *log, const log_batch *batch) {
 /* Lists the journal: an opening, and the entries since then. */
 static uint32_t list_whole(argus_log *log, log_batch *batch) {
     pthread_mutex_lock(log->lock);
-    argus_answer answer = argus_list(log->guardian, ARGUS_LIST_JOURNAL);
-    if (answer.status == ARGUS_TEXT) {
-        size_t size = (size_t)argus_reply(log->guardian, NULL, 0).number;
-        answer.status = log_text_reserve(&log->lines, size)
-                            ? argus_reply(log->guardian, log->lines.bytes, size).status
-                            : (uint32_t)ARGUS_NO_MEMORY;
-        log->lines.size = size;
-    }
+    uint32_t status = argus_list(log->guardian, ARGUS_LIST_JOURNAL).status;
+    if (status == ARGUS_TEXT) status = log_text_of_reply(&log->lines, log->guardian);
     int64_t next = argus_entries(log->guardian).number;
     batch->first = argus_first_entry(log->guardian).number;
     batch->entries = next - batch->first;
     batch->names = log->names.unwritten;
     batch->names_count = log_names_due(&log->names, next);
     pthread_mutex_unlock(log->lock);
-    return answer.status;
+    return status;
 }
 
 /* The size of the lines that belong to the opening, with their line feeds. */
@@ -173,6 +176,8 @@ static uint32_t write_whole(argus_log *log, log_batch *batch, log_words *words) 
     batch->size = batch->entries == 0 ? 0 : log->lines.size - split - 1;
     status = log_database_replace(&log->database, &opening, batch, words);
     if (status == ARGUS_DONE) log->is_folded = 0;
+    /* All that the objects hold isn't kept in memory once more. */
+    if (log->lines.room > 4 * PIECE) log_text_free(&log->lines);
     return status;
 }
 
@@ -332,12 +337,10 @@ argus_answer argus_log_open(argus_log *log, const char *path, const argus_log_op
     uint32_t status;
     if (log == NULL || path == NULL) return answer_of(ARGUS_NULL);
     if (log->process != getpid()) return answer_of(ARGUS_NOT_OPEN);
-    if (log->is_open || log->guardian->mark == 1) return answer_of(ARGUS_OCCUPIED);
+    if (log->is_open || argus_entries(log->guardian).status != ARGUS_NOT_OPEN) return answer_of(ARGUS_OCCUPIED);
     log->is_broken = log->is_folded = 0;
-    log->path = realpath(path, NULL);
-    if (log->path != NULL) status = open_both(log, options == NULL ? &none : options, &words);
-    else status = log_fail(&words, errno == ENOMEM ? (uint32_t)ARGUS_NO_MEMORY : (uint32_t)ARGUS_LOG_NO_LOG,
-                           "no log is there: %s: %s", path, strerror(errno));
+    status = resolve(log, path, &words);
+    if (status == ARGUS_DONE) status = open_both(log, options == NULL ? &none : options, &words);
     if (status == ARGUS_DONE) status = abort_live(log, &words);
     if (status != ARGUS_DONE) {
         close_log(log, 0);

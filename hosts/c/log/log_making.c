@@ -122,6 +122,10 @@ static uint32_t make(const char *path, filling *fill, const char *from, log_word
     char *name = first_name(path);
     if (name == NULL) return log_fail_as_sqlite(words, NULL);
     uint32_t status = make_new(name, fill, from, words);
+    if (status == ARGUS_LOG_UNREAD) {
+        log_words why = *words;
+        log_fail(words, status, "%s can't be made: %s", path, why.text);
+    }
     if (status == ARGUS_DONE) status = name_it(name, path, words);
     remove_all(name);
     free(name);

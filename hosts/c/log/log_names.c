@@ -63,16 +63,12 @@ void log_names_written(log_names *it, size_t count) {
 static uint32_t check_shape(argus_guardian *guardian, int64_t object, const char *shape, log_words *words) {
     log_text text = {0};
     uint32_t number = object >= 0 && object < UINT32_MAX ? (uint32_t)object : UINT32_MAX;
-    argus_answer answer = argus_shape(guardian, number);
-    if (answer.status == ARGUS_TEXT) {
-        size_t size = (size_t)argus_reply(guardian, NULL, 0).number;
-        answer.status = log_text_reserve(&text, size) ? argus_reply(guardian, text.bytes, size).status
-                                                      : (uint32_t)ARGUS_NO_MEMORY;
-        int is_same = size == strlen(shape) && answer.status == ARGUS_DONE && memcmp(text.bytes, shape, size) == 0;
-        log_text_free(&text);
-        if (is_same) return ARGUS_DONE;
-    }
-    if (answer.status == ARGUS_NO_MEMORY) return log_fail_as_sqlite(words, NULL);
+    uint32_t status = argus_shape(guardian, number).status;
+    if (status == ARGUS_TEXT) status = log_text_of_reply(&text, guardian);
+    int is_same = text.size != 0 && text.size == strlen(shape) && memcmp(text.bytes, shape, text.size) == 0;
+    log_text_free(&text);
+    if (status == ARGUS_NO_MEMORY) return log_fail_as_sqlite(words, NULL);
+    if (is_same) return ARGUS_DONE;
     return log_fail(words, ARGUS_LOG_ROW_CHANGED, "row %" PRId64 " of `object` isn't as the journal has the object",
                     object);
 }

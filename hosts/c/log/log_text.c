@@ -23,6 +23,17 @@ int log_text_add(log_text *it, const void *bytes, size_t size) {
     return 1;
 }
 
+uint32_t log_text_of_reply(log_text *it, argus_guardian *guardian) {
+    argus_answer answer = argus_reply(guardian, NULL, 0);
+    it->size = 0;
+    if (answer.status == ARGUS_TOO_SMALL) {
+        if (!log_text_reserve(it, (size_t)answer.number)) return ARGUS_NO_MEMORY;
+        answer = argus_reply(guardian, it->bytes, it->room);
+    }
+    if (answer.status == ARGUS_DONE) it->size = (size_t)answer.number;
+    return answer.status;
+}
+
 void log_text_free(log_text *it) {
     free(it->bytes);
     *it = (log_text){0};

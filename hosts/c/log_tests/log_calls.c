@@ -65,6 +65,8 @@ static void try_made_and_opened(void) {
     start_anew();
     want(bank_open_log(&it, path, NULL) == ARGUS_LOG_NO_LOG, "no log is there");
     want_answer(argus_log_create(it.log, "/nowhere/bank.db"), ARGUS_LOG_UNREAD, "no folder is there");
+    want_words(it.log, "/nowhere/bank.db can't be made");
+    want_answer(argus_log_open(it.log, "/dev/null/bank.db", NULL), ARGUS_LOG_UNREAD, "no folder");
     want_answer(argus_log_create(it.log, path), ARGUS_DONE, "create");
     want_answer(argus_log_create(it.log, path), ARGUS_LOG_EXISTS, "create once more");
     want_answer(argus_log_open(it.log, path, NULL), ARGUS_DONE, "open");

@@ -60,7 +60,7 @@ static void refuse_with(uint32_t status, const char *words, const argus_log_opti
         if (had != status) fprintf(stderr, "%s\n", argus_log_status_name(had));
         want_words(it.log, words);
         want(had == status, argus_log_status_name(status));
-        want(it.guardian.mark != 1, "no guardian is left");
+        want(argus_close(&it.guardian).status == ARGUS_NOT_OPEN, "no guardian is left");
         bank_close(&it);
         want(file_is(path, &before) && file_is(wal, &before_wal), "the log is as it was");
     }
