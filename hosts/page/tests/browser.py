@@ -17,6 +17,7 @@ from typing import Any
 # No answer takes so long, in seconds.
 PATIENCE = 60
 FLAGS = ["--headless", "--disable-gpu", "--no-first-run", "--hide-scrollbars", "--remote-debugging-pipe"]
+THROWN, ASKED = "Runtime.exceptionThrown", "Network.requestWillBeSent"
 KEYS = {"ArrowLeft": 37, "ArrowRight": 39, "Home": 36, "End": 35, "Enter": 13, "Escape": 27}
 
 
@@ -30,6 +31,8 @@ class Browser:
 
     def __init__(self) -> None:
         self._folder = tempfile.TemporaryDirectory()
+        # What was told beside answers: all of it, and what nobody has waited for yet.
+        self.told: list[dict[str, Any]] = []
         self._events: deque[dict[str, Any]] = deque()
         self._rest, self._number = b"", 0
         theirs_in, self._out = os.pipe()
@@ -64,6 +67,7 @@ class Browser:
         self._write(json.dumps(message).encode() + b"\0")
         while (answer := self._next()).get("id") != self._number:
             self._events.append(answer)
+            self.told.append(answer)
         if "error" in answer:
             raise RuntimeError(f"{method}: {answer['error']}")
         return answer["result"]
@@ -71,7 +75,10 @@ class Browser:
     def wait_for(self, method: str, session: str) -> Any:
         """What the next event of this name says, of those that have come or will."""
         while True:
-            event = self._events.popleft() if self._events else self._next()
+            if not self._events:
+                self._events.append(self._next())
+                self.told.append(self._events[0])
+            event = self._events.popleft()
             if event.get("method") == method and event.get("sessionId") == session:
                 return event["params"]
 
@@ -113,7 +120,7 @@ class Tab:
 
     def reopen(self, path: Path) -> None:
         """Opens another page in its place."""
-        self.path = path
+        self.path, self._begin = path, len(self._browser.told)
         self.call("Page.navigate", url=path.as_uri())
         self.wait_for("Page.loadEventFired")
         self.settle()
@@ -130,15 +137,12 @@ class Tab:
         self._browser.call("Target.closeTarget", targetId=self._target)
 
     def faults(self) -> list[str]:
-        """What the page's script threw so far, and the addresses that it asked for."""
-        found = []
-        for event in self._browser._events:
-            if event.get("method") == "Runtime.exceptionThrown":
-                found.append(str(event["params"]["exceptionDetails"]))
-            url = event.get("params", {}).get("request", {}).get("url", "")
-            if event.get("method") == "Network.requestWillBeSent" and url != self.path.as_uri():
-                found.append(url)
-        return found
+        """What the page's script threw since it was opened, and the addresses that it asked for."""
+        events = [it for it in self._browser.told[self._begin :] if it.get("sessionId") == self._session]
+        of = {name: [it["params"] for it in events if it["method"] == name] for name in (THROWN, ASKED)}
+        addresses = [it["request"]["url"] for it in of[ASKED]]
+        thrown = [str(it["exceptionDetails"]) for it in of[THROWN]]
+        return thrown + [it for it in addresses if it not in (self.path.as_uri(), "about:srcdoc")]
 
     def evaluate(self, text: str) -> Any:
         """The value of an expression in the page. RuntimeError if it throws."""
