@@ -60,7 +60,7 @@ class Naming(Looping):
         The shape may be a dataclass, as for `declare`. Without a shape NotThere is raised if there is no such object.
         BadShape if there is one of another shape.
 
-        Names are in an object of the guardian, so they outlive the process where the journal does.
+        Names are in objects of the guardian, 64 in each, so they outlive the process where the journal does.
         """
         if not isinstance(name, str):
             raise TypeError(f"a name is a text: {name!r}")
