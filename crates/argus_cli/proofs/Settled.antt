@@ -11,7 +11,6 @@ use Rattle.argus_journal.specs.Entry.{PlainEntry}
 use Rattle.argus_journal.specs.Folding.{next_entry_number}
 use Rattle.argus_journal.specs.Journal.{plain_opened}
 use Rattle.argus_journal.specs.Opening.{Opening, empty, opening_at}
-use Rattle.argus_guardian.specs.Checking.{entries_since}
 use Rattle.argus_journal.specs.JournalView.{JournalView, next_entry}
 
 -- a new journal's first entry has the number 0
@@ -36,7 +35,7 @@ front_of (x ∷ xs) ys (suc n) e = let rest : length xs ≡ n = omega arith in a
 
 -- there are as many receipts as entries, where the seats' calls are as many as either
 pub as_many : (s : Opening) (j : List PlainEntry) (start before made n : ℕ) → s ≡ empty → start ≡ 0 → before ≡ 0
-    → made ≡ before + n → entries_since start s j ≡ made → n ≡ length j
+    → made ≡ before + n → next_entry_number s j ≡ start + made → n ≡ length j
 as_many s j start before made n p q r m e =
     let first : s.first_entry ≡ 0 = ap (λ o. o.first_entry) p in
     omega arith

@@ -1,5 +1,5 @@
 -- Receipts that show a run and stand, each once, in a journal that began empty, are what workers leave.
-use Rattle.std.proofs.Common.{All, ap, arith, length, map, sum_by, ◌∙◌, ◌≡◌}
+use Rattle.std.proofs.Common.{All, ap, arith, length, map, sum_by, ◌+◌, ◌∙◌, ◌≡◌}
 use Rattle.std.proofs.lemmas.List.{length-map}
 use Rattle.argus_cli.proofs.Settled.{as_many, front_of, none_in_all}
 use Rattle.argus_commands.specs.Script.{plain_script}
@@ -30,5 +30,5 @@ returns-then-is_from_start g c =
       apart = rw c.as_slice.ensures.value at c.in-Ok-settle.ensures.apart;
       count = length-map report.receipts.items plain_receipt
           ∙ as_many left.opening left.entries g.N.Sharing.start _ _ _ fresh c.requires.start none c.in-Ok.ensures.made
-          (c.in-Ok-settle.ensures.count ∙ calls);
+          (c.in-Ok-settle.ensures.count ∙ ap (λ made. g.N.Sharing.start + made) calls);
     }
