@@ -17,4 +17,5 @@ mod owners;
 mod processes;
 mod python;
 mod scratch;
+mod syncs;
 mod wal;
