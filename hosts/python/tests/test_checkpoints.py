@@ -180,7 +180,8 @@ class TooManyOfThem(unittest.TestCase):
         with argus.Guardian() as guardian:
             declare = array_of([Listed(Kind.DECLARE, text="atomic_array[int]")] * 65_535, guardian._ids)
             self.assertEqual(guardian._archive.make_each(declare)[1], 65_535)
-            for more in lambda: guardian.declare("atomic_array[int]"), lambda: guardian.object("it", "atomic_array[int]"):
+            shape = "atomic_array[int]"
+            for more in lambda: guardian.declare(shape), lambda: guardian.object("it", shape):
                 with self.assertRaisesRegex(argus.TooMany, "65,535 objects are declared, and no more can be"):
                     more()
 

@@ -65,7 +65,8 @@ class Found(unittest.TestCase):
             self.guardian.object("account", "atomic_record[balance:text]")
         with self.assertRaisesRegex(argus.BadShape, "at byte 14"):
             self.guardian.object("new", "atomic_record[]")
-        for wrong in lambda: self.guardian.object(5), lambda: self.guardian.object("it", 5), lambda: self.guardian.declare(None):
+        find, declare = self.guardian.object, self.guardian.declare
+        for wrong in lambda: find(5), lambda: find("it", 5), lambda: declare(None):
             with self.assertRaises(TypeError):
                 wrong()
         self.assertEqual(self.guardian.entries, entries)
@@ -201,7 +202,8 @@ class Records(unittest.TestCase):
         entries, account = self.guardian.entries, self.top[self.account]
         with self.assertRaisesRegex(AttributeError, "no 'balanse' among balance, owner, open, next"):
             account.balanse
-        for wrong in lambda: setattr(account, "balanse", 5), lambda: account["balanse"], lambda: delattr(account, "balance"):
+        wrongs = lambda: setattr(account, "balanse", 5), lambda: account["balanse"]
+        for wrong in *wrongs, lambda: delattr(account, "balance"):
             with self.assertRaises(AttributeError):
                 wrong()
         for value in 2**63, 1.5:
@@ -217,7 +219,8 @@ class Records(unittest.TestCase):
 
     def test_locked(self):
         account = self.top.locked(self.account)
-        self.assertEqual(self.guardian.entry(self.guardian.entries - 1), f"{self.guardian.entries - 1} alter a1 o0 touch -> done")
+        last = self.guardian.entries - 1
+        self.assertEqual(self.guardian.entry(last), f"{last} alter a1 o0 touch -> done")
         self.assertEqual(account.balance, 5)
 
     def test_what_has_no_content_and_what_is_over(self):
@@ -239,7 +242,8 @@ class Records(unittest.TestCase):
             self.top[99]
 
     def test_names_that_are_pythons(self):
-        odd = self.guardian.object("odd", "atomic_record[class:int,__class__:int,__init__:int,_shape:int,count:int,_1:int]")
+        names = "class", "__class__", "__init__", "_shape", "count", "_1"
+        odd = self.guardian.object("odd", f"atomic_record[{','.join(f'{it}:int' for it in names)}]")
         self.top.create(odd, (1, 2, 3, 4, 5, 6))
         view = self.top[odd]
         for value, name in enumerate(odd.shape.names, 1):
@@ -272,7 +276,8 @@ class Records(unittest.TestCase):
 class OfDataclasses(unittest.TestCase):
     """Records that are objects of a dataclass."""
 
-    SHAPE = "atomic_record[holder:text,paid:bool,row:struct[number:int,letters:sequence[text]],beside:atomic,nothing:null]"
+    ROW = "struct[number:int,letters:sequence[text]]"
+    SHAPE = f"atomic_record[holder:text,paid:bool,row:{ROW},beside:atomic,nothing:null]"
 
     def setUp(self):
         self.guardian = argus.Guardian(patience=0)
@@ -329,7 +334,8 @@ class Arrays(unittest.TestCase):
         numbers.extend([40, 50])
         numbers.appendleft(0)
         self.assertEqual((len(numbers), list(numbers), numbers[0], numbers[-1]), (6, [0, 10, 20, 30, 40, 50], 0, 50))
-        self.assertEqual((numbers[1:3], numbers[::-1][0], list(reversed(numbers))[0], 30 in numbers), ([10, 20], 50, 50, True))
+        self.assertEqual((numbers[1:3], numbers[::-1][0], 30 in numbers), ([10, 20], 50, True))
+        self.assertEqual(list(reversed(numbers))[0], 50)
         numbers[1], numbers[-1] = 11, 51
         self.assertEqual((numbers.pop(), numbers.popleft(), list(numbers)), (51, 0, [11, 20, 30, 40]))
 
@@ -354,12 +360,14 @@ class Arrays(unittest.TestCase):
                 wrong()
 
     def test_items_with_names(self):
-        queue = self.guardian.object("queue", "atomic_array[struct[who:text,of:oneof[no:null,yes:sequence[struct[n:int]]]]]")
+        item = "struct[who:text,of:oneof[no:null,yes:sequence[struct[n:int]]]]"
+        queue = self.guardian.object("queue", f"atomic_array[{item}]")
         self.top.create(queue, [("Ann", Choice("no", None))])
         view = self.top[queue]
         view.append({"who": "Bob", "of": Choice("yes", [{"n": 1}, (2,)])})
         self.assertEqual([it.who for it in view], ["Ann", "Bob"])
-        self.assertEqual((view[1].of.tag, [it.n for it in view[1].of.value], view[0].of), ("yes", [1, 2], Choice("no", None)))
+        self.assertEqual((view[1].of.tag, [it.n for it in view[1].of.value]), ("yes", [1, 2]))
+        self.assertEqual(view[0].of, Choice("no", None))
         self.assertEqual(self.top.whole(queue).items[1], ("Bob", Choice(1, [(1,), (2,)])))
         self.assertEqual((view.pop().who, self.guardian.get(queue)), ("Bob", None))
 

@@ -212,7 +212,8 @@ class Refused(unittest.TestCase):
                 free.append(pool.submit(lambda: self.guardian.entries).result(10) > 0)
             return read(text)
 
-        with mock.patch.object(argus.archive, "read_content", reading), mock.patch.object(argus.calling, "read_content", reading):
+        patched = [mock.patch.object(it, "read_content", reading) for it in (argus.archive, argus.calling)]
+        with patched[0], patched[1]:
             for result in (
                 self.top.whole(array),
                 self.top.get(array),
@@ -289,7 +290,8 @@ class CallsInside(unittest.TestCase):
         copy = self.room / "package"
         shutil.copytree(PACKAGE, copy / PACKAGE.name, ignore=shutil.ignore_patterns("__pycache__"))
         into = copy / PACKAGE.name / "_call.abi3.so"
-        words = [compiler, "-shared", "-fPIC", "-O2", "-fvisibility=hidden", f"-I{headers}", *map(str, PACKAGE.glob("_*.c")), "-o", str(into)]
+        words = [compiler, "-shared", "-fPIC", "-O2", "-fvisibility=hidden", f"-I{headers}"]
+        words += [*map(str, PACKAGE.glob("_*.c")), "-o", str(into)]
         subprocess.run(words, check=True)
         return copy
 
