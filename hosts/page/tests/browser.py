@@ -14,8 +14,8 @@ from collections import deque
 from pathlib import Path
 from typing import Any
 
-# No answer takes so long, in seconds.
-PATIENCE = 60
+# No answer takes so long, in seconds, on a machine that is busy with proofs either.
+PATIENCE = 240
 FLAGS = ["--headless", "--disable-gpu", "--no-first-run", "--hide-scrollbars", "--remote-debugging-pipe"]
 THROWN, ASKED = "Runtime.exceptionThrown", "Network.requestWillBeSent"
 KEYS = {"ArrowLeft": 37, "ArrowRight": 39, "Home": 36, "End": 35, "Enter": 13, "Escape": 27}
@@ -35,6 +35,7 @@ class Browser:
         self.told: list[dict[str, Any]] = []
         self._events: deque[dict[str, Any]] = deque()
         self._rest, self._number = b"", 0
+        self._tabs: list[Tab] = []
         theirs_in, self._out = os.pipe()
         self._in, theirs_out = os.pipe()
         # It may be root, whom chromium gives no sandbox.
@@ -103,7 +104,13 @@ class Browser:
         made = self.call("Target.createTarget", url="about:blank", width=width, height=height, newWindow=True)
         target = made["targetId"]
         session = self.call("Target.attachToTarget", targetId=target, flatten=True)["sessionId"]
-        return Tab(self, target, session, path)
+        self._tabs.append(Tab(self, target, session, path))
+        return self._tabs[-1]
+
+    def close_tabs(self) -> None:
+        """Closes the pages that are open."""
+        while self._tabs:
+            self._tabs.pop().close()
 
 
 class Tab:

@@ -96,7 +96,6 @@ def grows(entry: Callable[[int], str], pages: Pages) -> str:
             tab.evaluate(WORK)
             tries.append(taken(tab) - before)
         times.append(min(tries))
-    tab.close()
     few, many = times
     return f"{few:.3f} s, and then {many:.3f} s\n" if many > MOST * max(few, LEAST) else ""
 

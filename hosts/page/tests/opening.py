@@ -78,7 +78,6 @@ def of_tab(pages: Pages, tab: Tab, listing: str) -> str:
         or unlike("faults", [], tab.faults())
         or unlike("title", "A run of a guardian", tab.evaluate("document.title"))
     )
-    tab.close()
     return fault or ("" if is_drawn else "nothing is drawn\n")
 
 
@@ -87,7 +86,6 @@ def framed(entries: int, pages: Pages) -> str:
     listing = bank(pages.programs, entries)
     tab = pages.open(listing)
     frame = tab.evaluate('document.querySelector("#picture iframe")?.srcdoc ?? ""')
-    tab.close()
     picture = pages.programs.call("picture", (), listing.encode()).output.decode()
     wanted = picture if entries <= MOST_DRAWN else ""
     return unlike("the picture", wanted, frame[frame.index("<svg") :] if frame else "")
@@ -114,7 +112,6 @@ def unscripted(pages: Pages) -> str:
     tab.wait_for("Page.loadEventFired")
     tree = tab.call("Accessibility.getFullAXTree")["nodes"]
     names = [it.get("name", {}).get("value", "") for it in tree if not it["ignored"]]
-    tab.close()
     return "" if any(listing.strip() in it for it in names) else f"no lines: {names}\n"
 
 

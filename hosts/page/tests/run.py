@@ -5,6 +5,7 @@ from __future__ import annotations
 import os
 import sys
 import tempfile
+from collections.abc import Callable
 from pathlib import Path
 
 TOP = Path(__file__).resolve().parents[3]
@@ -23,13 +24,21 @@ from pages import Pages  # noqa: E402
 TOPICS = {it.__name__: it.tests for it in (opening, handling, looks, states, growth)}
 
 
+def carried_out(test: Callable[[Pages], str], pages: Pages) -> str:
+    """What a test finds wrong. The pages that it opened are closed then."""
+    try:
+        return test(pages)
+    finally:
+        pages.browser.close_tabs()
+
+
 def main() -> int:
     programs = Programs({name: Path(os.environ[name.upper()]) for name in ("argus", "replay", "picture")})
     passed, failed = 0, 0
     with tempfile.TemporaryDirectory() as folder, Browser() as browser:
         pages = Pages(programs, browser, Path(folder))
         for topic in sys.argv[1:] or TOPICS:
-            faults = [(name, test(pages)) for name, test in TOPICS[topic]()]
+            faults = [(name, carried_out(test, pages)) for name, test in TOPICS[topic]()]
             wrong = [f"page: FAILED: {topic}: {name}\n{fault}" for name, fault in faults if fault]
             print(*wrong, f"page: {topic}: {len(faults)} tests, {len(wrong)} wrong", sep="\n", flush=True)
             passed, failed = passed + len(faults) - len(wrong), failed + len(wrong)

@@ -53,7 +53,6 @@ def at_each(pages: Pages, listing: str, counts: list[int]) -> str:
     faults = (at(pages, tab, listing, count) for count in counts)
     fault = next((it for it in faults if it), "") or unlike("bases", [], tab.evaluate(OTHER_BASES))
     fault = fault or unlike("faults", [], tab.faults())
-    tab.close()
     return fault
 
 
