@@ -57,7 +57,10 @@ add_crates() {
     local into=$dist/share/argus/rust
     rm -rf "$into"
     mkdir -p "$into/sys"
-    cp -rL "$top"/hosts/rust/{Cargo.toml,README.md,src,page,examples} "$into"
+    cp -r "$top"/hosts/rust/{Cargo.toml,README.md,src,examples} "$into"
+    # The page's parts come with the crate, which finds them there.
+    cp -r "$top/hosts/page/parts" "$into/page"
+    sed -i 's|"../../page/parts/|"../page/|' "$into/src/page.rs"
     cp -r "$top"/hosts/rust/sys/{Cargo.toml,build.rs,src} "$into/sys"
     # A test is no part of what is handed on.
     sed -i '/^\[\[test\]\]$/,/^$/d' "$into/Cargo.toml"
@@ -149,7 +152,8 @@ make_wheel() {
     if [ "$(printf '%s\n' 2.17 "$(glibc_of "$dist/lib/libargus.so")" | sort -V | tail -n 1)" = 2.17 ]; then
         platform=manylinux_2_17_x86_64
     fi
-    cp -rL "$top/hosts/python" "$room/python"
+    cp -r "$top/hosts/python" "$room/python"
+    cp -r "$top/hosts/page/parts" "$room/python/argus_guardian/page_parts"
     cp "$dist"/share/doc/argus/LICENSE* "$room/python"
     if ! (cd "$room/python" && ARGUS_LIB_DIR=$dist/lib "$python" setup.py -q bdist_wheel --plat-name "$platform" \
         --dist-dir "$dist") > "$room/words" 2>&1; then

@@ -43,8 +43,10 @@ def _put(line: str, data: dict[str, str]) -> str:
 
 
 def _part(name: str) -> str:
-    """A part of the template. In a clone these are those of hosts/page."""
-    return Path(__file__).with_name("page_parts").joinpath(name).read_text(encoding="utf-8")
+    """A part of the template, which a package has beside this file. In a clone it is one of hosts/page."""
+    here = Path(__file__)
+    parts = here.with_name("page_parts")
+    return (parts if parts.exists() else here.parents[2] / "page/parts").joinpath(name).read_text(encoding="utf-8")
 
 
 def _escaped(text: str) -> str:

@@ -6,12 +6,12 @@ use std::path::Path;
 use std::{fs, io};
 
 // The template, in which a line that begins with @ stands for a part.
-const TEMPLATE: &str = include_str!("../page/page.html");
+const TEMPLATE: &str = include_str!("../../page/parts/page.html");
 
 // Each part that is in a file of its own, by its name.
 macro_rules! parts {
     ($($name:literal)*) => {
-        [$(($name, include_str!(concat!("../page/", $name)))),*]
+        [$(($name, include_str!(concat!("../../page/parts/", $name)))),*]
     };
 }
 
