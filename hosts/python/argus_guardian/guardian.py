@@ -264,12 +264,6 @@ class Guardian(Naming):
         self._note_read(entry + len(lines))
         return lines
 
-
-def _pause(number: int) -> float:
-    """How many seconds a topaction waits after a Conflict before it is tried once more, the first time at 0."""
-    return random.uniform(0, 0.001 * min(2**number, 100))
-
-
     def show(self, path: str | os.PathLike[str], names: Iterable[str] = ()) -> None:
         """Writes a page to this file in which a browser shows what the journal says, objects under these names.
 
@@ -280,6 +274,11 @@ def _pause(number: int) -> float:
         from .page import page_of, write_page
 
         write_page(path, page_of(self.list("journal"), names))
+
+
+def _pause(number: int) -> float:
+    """How many seconds a topaction waits after a Conflict before it is tried once more, the first time at 0."""
+    return random.uniform(0, 0.001 * min(2**number, 100))
 
 
 def _end_of(status: int, answers: list[Any], array: Any) -> errors.ArgusError | None:
