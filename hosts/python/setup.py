@@ -40,13 +40,16 @@ def library() -> Path:
 
 
 class BuildWithLibrary(build_py):
-    """Puts the library beside the modules."""
+    """Puts the library beside the modules, and the parts of a page, which a clone has in hosts/page."""
 
     def run(self) -> None:
         super().run()
         into = Path(self.build_lib) / "argus_guardian"
         into.mkdir(parents=True, exist_ok=True)
         shutil.copyfile(library(), into / NAME)
+        parts = Path(__file__).resolve().parents[1] / "page/parts"
+        if parts.is_dir():
+            shutil.copytree(parts, into / "page_parts", dirs_exist_ok=True)
 
 
 class WheelOfMachine(bdist_wheel):
