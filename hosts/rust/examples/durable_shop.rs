@@ -1,0 +1,41 @@
+//! A shop whose orders outlive its process. C's `durable_shop.c` opens the same database.
+//!
+//!     cargo run --release --features sqlite --example durable_shop -- shop.db CUSTOMER SEAT..
+
+use argus_guardian::log::{Logged, LoggedAction, LoggedError};
+use argus_guardian::{Change, ObjId};
+use std::env;
+use std::error::Error;
+
+const SEAT: &str = "atomic_record[holder:text]";
+
+// Whether nobody has the seat, which is created when it is first asked for.
+fn is_free(top: &LoggedAction<'_>, seat: ObjId) -> Result<bool, LoggedError> {
+    // If it is there, the answer is a signal. The action has the write lock all the same.
+    let _ = top.alter(seat, Change::Create("{\"\"}".parse()?))?;
+    Ok(String::try_from(top.get(seat, 0)?)?.is_empty())
+}
+
+// Sells all of these seats, or none; whether it could.
+fn sell(top: &LoggedAction<'_>, seats: &[ObjId], customer: &str) -> Result<bool, LoggedError> {
+    for seat in seats {
+        if !is_free(top, *seat)? {
+            return Ok(false);
+        }
+    }
+    seats.iter().try_for_each(|it| top.set(*it, 0, customer))?;
+    Ok(true)
+}
+
+fn main() -> Result<(), Box<dyn Error>> {
+    let words: Vec<String> = env::args().skip(1).collect();
+    let [path, customer, seats @ ..] = &words[..] else {
+        return Err("durable_shop DATABASE CUSTOMER SEAT..".into());
+    };
+    let shop = Logged::open_or_create(path)?;
+    let named = |it| shop.declare_named(&format!("seat {it}"), SEAT);
+    let seats: Vec<ObjId> = seats.iter().map(named).collect::<Result<_, _>>()?;
+    let is_sold = shop.run(|top| sell(top, &seats, customer))?;
+    println!("{}", if is_sold { "sold" } else { "taken" }); // here it is on disk
+    Ok(())
+}
