@@ -1,8 +1,9 @@
 #!/usr/bin/env bash
 # SPDX-License-Identifier: MIT
 # Looks at the pages of the repository, in a second: what they point to is there, they are no longer than
-# tools/budgets.txt allows, the picture of the design is as its script draws it, README.md and docs/EMBEDDING.md
-# show the texts of files that are run, and the version is the same wherever it stands. All look, and each line that is printed but the count of links is a fault.
+# tools/budgets.txt allows, the picture of the design is as its script draws it, README.md and the pages of
+# tools/shown.py show the texts of files that are run, and the version is the same wherever it stands. Each line that
+# is printed but the count of links is a fault.
 #
 #   tools/pages.sh              the status tells whether all is well
 #   tools/pages.sh --write      first draws the picture anew
@@ -22,7 +23,6 @@ tools/links.py || status=1
 tools/budgets.py || status=1
 tools/design.py --check || status=1
 tools/readme.py --texts || status=1
-awk '/^```$/ { shown = 0 } shown; /^```rust$/ { shown = 1 }' docs/EMBEDDING.md |
-    cmp - crates/argus_embedding_example/src/main.rt || status=1
+tools/shown.py || status=1
 tools/version.py || status=1
 exit "$status"

@@ -1,6 +1,6 @@
 /* SPDX-License-Identifier: MIT */
 /* The log of a guardian in a SQLite database, so that it outlives its process: libargus_log.a, over libsqlite3 and
- * zlib. It isn't proved. docs/OUTLIVING.md says what a log promises, what its tables are, and what to do when it fails.
+ * zlib. It isn't proved. docs/DURABLE.md says what a log promises, what its tables are, and what to do when it fails.
  *
  * The guardian and its mutex are the program's own (argus.h). The program makes its calls as without a log; a commit is
  * acknowledged, so that others may be told of it, when argus_log_wait has returned ARGUS_DONE for the entries up to it:

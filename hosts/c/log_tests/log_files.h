@@ -19,7 +19,7 @@ void file_free(file *it);
 /* Whether the file has this. */
 int file_is(const char *path, const file *it);
 
-/* A sum of a log's chain, by the rule of docs/OUTLIVING.md. */
+/* A sum of a log's chain, by the rule of docs/DURABLE.md. */
 uint32_t file_sum(const char *name, int64_t first, uint32_t before, const char *lines);
 
 #endif

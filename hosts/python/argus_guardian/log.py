@@ -1,6 +1,6 @@
 """`Log`: a guardian whose journal is in a SQLite database, so that it outlives its process.
 
-It stands on the standard library's sqlite3 alone. None of this is proved; docs/OUTLIVING.md says what a log promises,
+It stands on the standard library's sqlite3 alone. None of this is proved; docs/DURABLE.md says what a log promises,
 and what its tables are.
 """
 

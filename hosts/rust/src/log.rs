@@ -5,7 +5,7 @@
 //! `Logged::open` restores it from a SQLite database: it makes each call again, and compares each reply. `LogOptions`
 //! says how. [`BatchLog`] is what a guardian needs from a log: the crate `argus-guardian-etcd` has another one.
 //!
-//! **Nothing here is proved.** The repository's page docs/OUTLIVING.md says what a log promises, what its tables are,
+//! **Nothing here is proved.** The repository's page docs/DURABLE.md says what a log promises, what its tables are,
 //! and what is tested.
 
 mod batch_log;

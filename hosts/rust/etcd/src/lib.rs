@@ -47,7 +47,7 @@
 //! `head`. After a checkpoint the log begins with batches `opening`, and those before it are deleted.
 //!
 //! **Nothing here is proved.** What is promised by whom, what is tried, and what to do when something fails: see the
-//! repository's page docs/OUTLIVING.md.
+//! repository's page docs/ETCD.md.
 
 mod answers;
 mod batch;

@@ -1,7 +1,7 @@
 //! `argus-host`: a small bank over HTTP, over a guardian that outlives its process.
 //!
-//! Neither this program nor the logs that it stands on are proved; the archive of the guardian is. The README beside
-//! it says how to run it, and the repository's page docs/OUTLIVING.md what a log promises.
+//! Neither this program nor the logs that it stands on are proved; the archive of the guardian is. The repository's
+//! page docs/ETCD.md says how to run it, and docs/DURABLE.md what a log promises.
 
 mod arguments;
 mod bank;

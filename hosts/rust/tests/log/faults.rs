@@ -364,7 +364,7 @@ fn the_opening_is_changed() {
     made.has(ORDERS - 1);
 }
 
-// The sum by the rule of docs/OUTLIVING.md.
+// The sum by the rule of docs/DURABLE.md.
 fn summed(name: &str, first: i64, before: u32, lines: &str) -> u32 {
     crc32fast::hash(format!("{name} {first} {before}\n{lines}").as_bytes())
 }
