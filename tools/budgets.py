@@ -7,12 +7,17 @@
 
 Words are what stands between blanks, in all of a page. A sentence ends at a full stop, a question mark, the end of
 a paragraph, of an item or of a table's cell. Blocks of code have none; a link counts as its text, and what stands in
-backticks as one word. Python 3 and its own library are all that it needs.
+backticks as one word. In a pattern `*` stands for any characters, a slash too. Python 3 and its own library are all
+that it needs.
 """
 
+import fnmatch
+import functools
 import pathlib
 import re
 import sys
+
+import links
 
 TOP = pathlib.Path(__file__).resolve().parent.parent
 MOST_WORDS = 40
@@ -28,11 +33,22 @@ def lines():
     return [line.split() for line in text.splitlines() if line and not line.startswith("#")]
 
 
+@functools.cache
+def page_names():
+    """The repository's pages; none of those in folders that builds make."""
+    return sorted(name for name in links.tree()[0] if name.endswith(".md"))
+
+
+def pages_of(pattern):
+    """The pages that a pattern fits."""
+    return [TOP / name for name in fnmatch.filter(page_names(), pattern)]
+
+
 def budgets():
     """For each page the words that it may have, and whether its sentences are looked at."""
     found = {}
     for most, pattern, *plain in (line for line in lines() if line[0] != "all"):
-        pages = sorted(TOP.glob(pattern)) or [TOP / pattern]
+        pages = pages_of(pattern) or [TOP / pattern]
         found |= {page: (int(most), plain == ["plain"]) for page in pages}
     return found
 
@@ -40,7 +56,7 @@ def budgets():
 def faults_together():
     """What is wrong with pages that have a budget together."""
     for _, most, pattern in (line for line in lines() if line[0] == "all"):
-        words = sum(len(page.read_text(encoding="utf-8").split()) for page in TOP.glob(pattern))
+        words = sum(len(page.read_text(encoding="utf-8").split()) for page in pages_of(pattern))
         if words > int(most):
             yield f"{pattern}: {words} words together, and at most {most} are allowed"
 

@@ -43,7 +43,7 @@ count_programs() {
     count "$room/launchers"
 }
 
-# What README.md shows, once the programs and the library for C are there.
+# What README.md and docs/GUIDE.md show, once the programs and the library for C are there.
 count_shown() {
-    count_status "README.md: what it shows" tools/readme.py
+    count_status "README.md, docs/GUIDE.md: what they show" tools/readme.py
 }

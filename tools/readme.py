@@ -1,13 +1,15 @@
 #!/usr/bin/env python3
 # SPDX-License-Identifier: MIT
-"""Checks that README.md shows what is so.
+"""Checks that README.md and docs/GUIDE.md show what is so.
 
-    tools/readme.py --texts    only compares texts: the script with docs/first.argus, the Rust with the
-                               example of hosts/rust/src/lib.rs, which `cargo test` runs, the figures of
-                               what it costs with bench/README.md, where a line has all those of a row
-    tools/readme.py            also runs what it shows: the command lines, by ./argus, and the picture, by
-                               ./picture, have to print what stands there; so do the way in without a kit
-                               and the Python, over what hosts/run has made, build/hosts/dist
+    tools/readme.py --texts    only compares texts: README's script with docs/first.argus, its figures of what
+                               it costs with bench/README.md, where a line has all those of a row; the first
+                               Python of the guide with hosts/python/tickets.py and its twin; the first Rust of
+                               hosts/rust/README.md with the example of src/lib.rs, which `cargo test` runs
+    tools/readme.py            also runs what they show: README's command lines, by ./argus, and the picture, by
+                               ./picture, have to print what stands there; so do its way in without a kit
+                               and its Python, and all other Python of the guide in one program, over what
+                               hosts/run has made, build/hosts/dist
 
 It says what isn't so, and what it leaves out. The status tells whether all is. Python 3 is all that it needs.
 """
@@ -25,15 +27,29 @@ DIST = TOP / "build/hosts/dist"
 LIBRARY = DIST / "lib/libargus.so.0"
 
 
+def read(name):
+    """The text of a file of the repository."""
+    return (TOP / name).read_text(encoding="utf-8")
+
+
+def blocks(text, language):
+    """The blocks of code in a language."""
+    return re.findall(rf"^```{language}\n(.*?)^```$", text, re.MULTILINE | re.DOTALL)
+
+
 def block(text, language):
-    """The first block of code in a language."""
-    found = re.search(rf"^```{language}\n(.*?)^```$", text, re.MULTILINE | re.DOTALL)
-    return found.group(1) if found else ""
+    """The first of them."""
+    return next(iter(blocks(text, language)), "")
+
+
+def twins():
+    """The programs that the guide begins with, each without the line that says what it is, and the blank one."""
+    return [read(f"hosts/python/{name}.py").split("\n", 2)[2] for name in ("tickets", "tickets_in_sqlite")]
 
 
 def example_of_library():
     """The example at the head of the Rust crate, without the lines that its page hides."""
-    source = (TOP / "hosts/rust/src/lib.rs").read_text(encoding="utf-8")
+    source = read("hosts/rust/src/lib.rs")
     lines = [line.removeprefix("//!").removeprefix(" ") for line in source.splitlines() if line.startswith("//!")]
     shown = [line for line in lines if not line.startswith("# ")]
     return block("\n".join(shown).replace("```", "```rust", 1), "rust")
@@ -42,16 +58,16 @@ def example_of_library():
 def figures_not_there(page):
     """The rows of what it costs whose figures stand in no line of bench/README.md."""
     costs = page.partition("## What it costs")[2].partition("\n## ")[0]
-    lines = (TOP / "bench/README.md").read_text(encoding="utf-8").splitlines()
+    lines = read("bench/README.md").splitlines()
     for row in re.findall(r"^\|.*\d.*\|$", costs, re.MULTILINE):
         figures = re.findall(r"\d[\d,.]*\d", row.split("|", 2)[2])
         if not any(all(re.search(rf"(?<![\d.,]){re.escape(it)}(?![\d.])", line) for it in figures) for line in lines):
             yield row
 
 
-def printed_by(command, **more):
+def printed_by(command, cwd=TOP, **more):
     """What a command prints."""
-    return subprocess.run(command, cwd=TOP, capture_output=True, text=True, check=False, **more).stdout
+    return subprocess.run(command, cwd=cwd, capture_output=True, text=True, check=False, **more).stdout
 
 
 def as_shown(console):
@@ -65,7 +81,8 @@ def python_prints(source):
     said = re.findall(r"# prints (.*)$", source, re.MULTILINE)
     paths = {"PYTHONPATH": str(TOP / "hosts/python"), "ARGUS_LIBRARY": str(LIBRARY)}
     settings = {**os.environ, **paths, "PYTHONDONTWRITEBYTECODE": "1"}
-    return printed_by([sys.executable, "-c", source], env=settings).splitlines(), said
+    with tempfile.TemporaryDirectory() as room:
+        return printed_by([sys.executable, "-c", source], room, env=settings).splitlines(), said
 
 
 def has_release():
@@ -96,30 +113,42 @@ def ways_in(source):
     return shown.splitlines(), re.findall(r"# prints (.*)$", source, re.MULTILINE)
 
 
-def main():
-    page = (TOP / "README.md").read_text(encoding="utf-8")
-    pairs = [
-        ("the script", block(page, "text"), (TOP / "docs/first.argus").read_text(encoding="utf-8")),
-        ("the Rust", block(page, "rust"), example_of_library()),
+def texts(page, guide):
+    """What is compared without running it: its name, what is shown, and what is so."""
+    rust = block(read("hosts/rust/README.md"), "rust")
+    return [
+        ("README.md: the script", block(page, "text"), read("docs/first.argus")),
+        ("hosts/rust/README.md: the Rust", rust, example_of_library()),
+        ("docs/GUIDE.md: the shop and its twin", blocks(guide, "python")[:2], twins()),
+        *((f"README.md: the row {row}", row, "") for row in figures_not_there(page)),
     ]
-    pairs += [(f"the row {row}", row, "") for row in figures_not_there(page)]
+
+
+def runs(page, guide):
+    """The same of what is run; what can't be run is said."""
+    picture = "./argus --list journal < docs/first.argus | ./picture"
+    console = block(page, "console")
+    yield "README.md: the listing", console, as_shown(console)
+    yield "README.md: the picture", printed_by(["sh", "-c", picture]), read("docs/first.svg")
+    if LIBRARY.exists():
+        yield "README.md: the Python", *python_prints(block(page, "python"))
+        yield "docs/GUIDE.md: the Python", *python_prints("\n".join(blocks(guide, "python")[2:]))
+    else:
+        print("README.md, docs/GUIDE.md: the Python LEFT OUT: no archive for it")
+    if has_release():
+        yield "README.md: the way in without a kit", *ways_in(block(page, "sh"))
+    else:
+        print("README.md: the way in without a kit LEFT OUT: no release with programs and a wheel, or no ensurepip")
+
+
+def main():
+    page, guide = read("README.md"), read("docs/GUIDE.md")
+    pairs = texts(page, guide)
     if sys.argv[1:] != ["--texts"]:
-        picture = "./argus --list journal < docs/first.argus | ./picture"
-        drawn = (TOP / "docs/first.svg").read_text(encoding="utf-8")
-        console = block(page, "console")
-        pairs.append(("the listing", console, as_shown(console)))
-        pairs.append(("the picture", printed_by(["sh", "-c", picture]), drawn))
-        if LIBRARY.exists():
-            pairs.append(("the Python", *python_prints(block(page, "python"))))
-        else:
-            print("README.md: the Python LEFT OUT: no archive for it")
-        if has_release():
-            pairs.append(("the way in without a kit", *ways_in(block(page, "sh"))))
-        else:
-            print("README.md: the way in without a kit LEFT OUT: no release with programs and a wheel, or no ensurepip")
+        pairs += runs(page, guide)
     wrong = [name for name, shown, so in pairs if not shown or shown != so]
     for name in wrong:
-        print(f"README.md: {name} isn't what it should be")
+        print(f"{name} isn't what it should be")
     return 1 if wrong else 0
 
 

@@ -59,7 +59,7 @@ PLACES = [
     ("hosts/python/argus_guardian/library.py", r"^VERSION_NUMBER = (\d+)$", number),
     ("hosts/python/argus_guardian/__init__.py", r'^__version__ = "(.*)"$', itself),
     ("hosts/python/README.md", r"argus_guardian-([\d.]+)-", itself),
-    ("hosts/first/README.md", r"argus-([\d.]+)-linux", itself),
+    ("docs/GUIDE.md", r"argus(?:_guardian)?-([\d.]+)-", itself),
     ("README.md", r"argus(?:_guardian)?-([\d.]+)-", itself),
 ]
 

@@ -1,4 +1,4 @@
-/* The program of README.md in C: a subaction sets 7 and gives up, so 5 is in the account for good. */
+/* The script of README.md as a program in C: a subaction sets 7 and gives up, so 5 is in the account for good. */
 #include <argus.h>
 #include <stdio.h>
 #include <stdlib.h>

@@ -1,4 +1,4 @@
-"""The program of README.md in Python: a subaction sets 7 and gives up, so 5 is in the account for good."""
+"""The script of README.md as a program in Python: a subaction sets 7 and gives up, so 5 is in the account for good."""
 
 from argus_guardian import Guardian, write_content
 
