@@ -1,15 +1,13 @@
 -- A low bound that was stored is the one that was meant, since it keeps the limits.
-use Rattle.std.proofs.Common.{◌≡◌, ℤ, pos, negsuc, List, length, Some, Result, Ok, Err, IfOk, OnErr, ap, subst, sym}
+use Rattle.std.proofs.Common.{◌≡◌, ℤ, pos, negsuc, List, Some, Result, Ok, Err, IfOk, OnErr, ap, subst, sym}
 use Rattle.std.proofs.Common.{arith, w64, to_z, of_z}
 use Rattle.std.proofs.lemmas.Int.{ints, to_z-of_z}
 use mir.Val.{SFits}
 use Rattle.argus_memory.specs.declared.out_of_memory.OutOfMemory.{OutOfMemory}
-use Rattle.argus_contents.specs.Value.{PlainValue, plain_list}
-use Rattle.argus_contents.specs.declared.value.Value.{Value}
-use Rattle.argus_contents.specs.Content.{PlainContent, arr, KeepsBounds, KeepsLimits}
-use Rattle.argus_contents.specs.Answer.{PlainAnswer, plain_answer}
+use Rattle.argus_contents.specs.Value.{PlainValue}
+use Rattle.argus_contents.specs.Content.{PlainContent, arr, KeepsLimits}
+use Rattle.argus_contents.specs.Answer.{PlainAnswer}
 use Rattle.argus_contents.specs.Change.{PlainChange, Outcome, outcome, CreatesWithin}
-use Rattle.argus_contents.specs.declared.answer.Answer.{Answer}
 use Rattle.argus_contents.proofs.Kept.{outcome_keeps}
 
 -- a bound within the limits fits 64 bits
@@ -22,31 +20,13 @@ bound_fits (negsuc n) vs k =
     record { sfits = omega (arith, ints) }
 
 -- what was stored of an array is what was meant, whatever says the answer
-pub refit_by : {A : Type 0} (said : A → PlainAnswer) (r : Result A OutOfMemory) (low : ℤ) (vs : List PlainValue)
+pub refit : {A : Type 0} (said : A → PlainAnswer) (r : Result A OutOfMemory) (low : ℤ) (vs : List PlainValue)
     (o : Outcome) → KeepsLimits o.0 → IfOk r (λ answer. (Some (arr low vs), said answer) ≡ o)
     → IfOk r (λ answer. (Some (arr (to_z w64 (of_z w64 low)) vs), said answer) ≡ o)
-refit_by said (Ok answer) low vs o k e =
+refit said (Ok answer) low vs o k e =
     let fits : SFits w64 low = bound_fits low vs (subst KeepsLimits (sym (ap (λ (p : Outcome). p.0) e)) k) in
     rw (to_z-of_z w64 low fits) e
-refit_by said (Err refused) low vs o k e = tt
-
-pub refit : (r : Result Answer OutOfMemory) (low : ℤ) (vs : List PlainValue) (o : Outcome) → KeepsLimits o.0
-    → IfOk r (λ answer. (Some (arr low vs), plain_answer answer) ≡ o)
-    → IfOk r (λ answer. (Some (arr (to_z w64 (of_z w64 low)) vs), plain_answer answer) ≡ o)
-refit = refit_by plain_answer
-
--- what a call leaves of an array keeps the limits, whether it succeeds or changes nothing
-pub left_keeps : (r : Result Answer OutOfMemory) (low old_low : ℤ) (items old_items : List Value) (o : Outcome)
-    → KeepsLimits o.0 → KeepsBounds old_low (length (plain_list old_items))
-    → IfOk r (λ answer. (Some (arr low (plain_list items)), plain_answer answer) ≡ o) → OnErr r (low ≡ old_low)
-    → OnErr r (items ≡ old_items) → KeepsLimits (Some (arr (to_z w64 (of_z w64 low)) (plain_list items)))
-left_keeps (Ok answer) low old_low items old_items o k before e same_low same_items =
-    let kept : KeepsLimits (Some (arr low (plain_list items))) =
-    subst KeepsLimits (sym (ap (λ (p : Outcome). p.0) e)) k in
-    rw (to_z-of_z w64 low (bound_fits low (plain_list items) kept)) kept
-left_keeps (Err refused) low old_low items old_items o k before e same_low same_items =
-    let kept : KeepsLimits (Some (arr low (plain_list items))) = rw (same_low, same_items) before in
-    rw (to_z-of_z w64 low (bound_fits low (plain_list items) kept)) kept
+refit said (Err refused) low vs o k e = tt
 
 -- a content that is changed where it lies keeps the limits, whether the change succeeds or changes nothing
 pub changed_keeps : {A : Type 0} (said : A → PlainAnswer) (r : Result A OutOfMemory) (c : PlainChange)

@@ -1,23 +1,14 @@
 //! `Change`: an operation that changes a content.
 
-ghost use Rattle.std.specs.Prelude.{◌≡◌, ◌↔◌, true, IfOk, None, OnErr, Some, length};
-ghost use Rattle.argus_contents.specs.Answer.{plain_answer};
-ghost use Rattle.argus_contents.specs.Change.{absent_outcome, create, gives_value, Leaves};
-ghost use Rattle.argus_contents.specs.Change.{plain_change};
-ghost use Rattle.argus_contents.specs.Change.{record_outcome, variant_outcome};
-ghost use Rattle.argus_contents.specs.Content.{KeepsBounds, plain_content, plain_option, rec, var};
+ghost use Rattle.std.specs.Prelude.{◌≡◌, ◌↔◌, true, IfOk};
+ghost use Rattle.argus_contents.specs.Change.{create, gives_value, plain_change};
+ghost use Rattle.argus_contents.specs.Content.{plain_content};
 ghost use Rattle.argus_contents.specs.Decided.{said_equivalence, change_decided};
 ghost use Rattle.argus_contents.specs.Same.{same_change};
-ghost use Rattle.argus_contents.specs.Value.{plain_list, plain_value};
 
-use crate::answer::Answer;
-use crate::array::{add_high, add_low, move_low, remove_high, remove_low, store_item, trim_items};
 use crate::content::{self, Content};
-use crate::record::set_field;
-use crate::signal::Signal;
 use crate::value::Value;
 use argus_memory::{Heap, OutOfMemory, Room};
-use std::collections::VecDeque;
 
 /// An operation that changes a content. It needs a write lock.
 ///
@@ -61,7 +52,7 @@ use std::collections::VecDeque;
 /// (MIT/LCS/TR-400, 1987); the signals and their order are this project's own.
 ///
 /// ```text
-/// let answer = alter_in_place(&mut content, Change::Addh(Value::Int(5)))?;
+/// let answer = alter_in_place(heap, &mut content, &Change::Addh(Value::Int(5)))?;
 /// ```
 #[derive(Debug)]
 pub enum Change {
@@ -146,102 +137,6 @@ impl Change {
             | Change::Trim(_, _)
             | Change::ChangeTag(_, _)
             | Change::Touch => false,
-        }
-    }
-
-    // Code that takes a change apart is in this file, since the type has a `drop` of its own.
-
-    /// What the change does to an absent content.
-    pub(crate) fn alter_absent(self, content: &mut Option<Content>) -> Answer
-        requires { plain_option content.old ≡ None }
-        ensures { (plain_option content.new, plain_answer result)
-            ≡ absent_outcome (plain_change self) }
-    {
-        match self {
-            Change::Create(made) => {
-                *content = Some(Box::into_inner(made));
-                Answer::Done
-            }
-            Change::Touch => Answer::Done,
-            Change::SetField(_, _)
-            | Change::Store(_, _)
-            | Change::Addh(_)
-            | Change::Addl(_)
-            | Change::Remh
-            | Change::Reml
-            | Change::SetLow(_)
-            | Change::Trim(_, _)
-            | Change::ChangeTag(_, _) => Answer::Signal(Signal::Absent),
-        }
-    }
-
-    /// What the change does to the fields of a record.
-    pub(crate) fn alter_record(self, fields: &mut Vec<Value, Room>) -> Answer
-        ensures { (Some (rec (plain_list fields.new.items)), plain_answer result)
-            ≡ record_outcome (plain_change self) (plain_list fields.old.items) }
-    {
-        match self {
-            Change::Create(_) => Answer::Signal(Signal::Exists),
-            Change::Touch => Answer::Done,
-            Change::SetField(field, value) => set_field(fields, field, value),
-            Change::Store(_, _)
-            | Change::Addh(_)
-            | Change::Addl(_)
-            | Change::Remh
-            | Change::Reml
-            | Change::SetLow(_)
-            | Change::Trim(_, _)
-            | Change::ChangeTag(_, _) => Answer::Signal(Signal::Absent),
-        }
-    }
-
-    /// What the change does to an array.
-    pub(crate) fn alter_array(
-        self,
-        low: &mut i64,
-        items: &mut VecDeque<Value, Room>,
-    ) -> Result<Answer, OutOfMemory>
-        requires { KeepsBounds low.old (length items.old.items) }
-        ensures ok { IfOk result (λ answer. Leaves (plain_change self)
-            low.old items.old.items low.new items.new.items answer) }
-        ensures err_low { OnErr result (low.new ≡ low.old) }
-        ensures err_items { OnErr result (items.new.items ≡ items.old.items) }
-    {
-        match self {
-            Change::Create(_) => Ok(Answer::Signal(Signal::Exists)),
-            Change::Touch => Ok(Answer::Done),
-            Change::Store(index, value) => Ok(store_item(*low, items, index, value)),
-            Change::Addh(value) => add_high(*low, items, value),
-            Change::Addl(value) => add_low(low, items, value),
-            Change::Remh => Ok(remove_high(items)),
-            Change::Reml => Ok(remove_low(low, items)),
-            Change::SetLow(bound) => Ok(move_low(low, items, bound)),
-            Change::Trim(from, count) => Ok(trim_items(low, items, from, count)),
-            Change::SetField(_, _) | Change::ChangeTag(_, _) => Ok(Answer::Signal(Signal::Absent)),
-        }
-    }
-
-    /// What the change does to the tag and the value of a variant.
-    pub(crate) fn alter_variant(self, tag: &mut u8, value: &mut Value) -> Answer
-        ensures { (Some (var tag.new (plain_value value.new)), plain_answer result)
-            ≡ variant_outcome (plain_change self) tag.old (plain_value value.old) }
-    {
-        match self {
-            Change::Create(_) => Answer::Signal(Signal::Exists),
-            Change::Touch => Answer::Done,
-            Change::ChangeTag(new_tag, new_value) => {
-                *tag = new_tag;
-                *value = new_value;
-                Answer::Done
-            }
-            Change::SetField(_, _)
-            | Change::Store(_, _)
-            | Change::Addh(_)
-            | Change::Addl(_)
-            | Change::Remh
-            | Change::Reml
-            | Change::SetLow(_)
-            | Change::Trim(_, _) => Answer::Signal(Signal::Absent),
         }
     }
 }

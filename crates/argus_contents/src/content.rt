@@ -1,17 +1,12 @@
 //! `Content`: what an atomic object holds.
 
 ghost use Rattle.std.specs.Prelude.{[], ◌++◌, ◌≡◌, ◌↔◌, ◌∷◌, true, map};
-ghost use Rattle.std.specs.Prelude.{IfOk, OnErr, OnOk, Some};
-ghost use Rattle.argus_contents.specs.Answer.{plain_answer};
-ghost use Rattle.argus_contents.specs.Change.{CreatesWithin, outcome, plain_change};
-ghost use Rattle.argus_contents.specs.Content.{KeepsLimits, plain_content, plain_option};
+ghost use Rattle.std.specs.Prelude.{IfOk, OnErr, OnOk};
+ghost use Rattle.argus_contents.specs.Content.{plain_content, plain_option};
 ghost use Rattle.argus_contents.specs.Decided.{said_equivalence, content_decided};
 ghost use Rattle.argus_contents.specs.Same.{same_content, same_values};
 ghost use Rattle.argus_contents.specs.Value.{plain_list, listed};
 
-use crate::altering::alter_parts;
-use crate::answer::Answer;
-use crate::change::Change;
 use crate::value::{self, Value, append_copies, duplicate_all};
 use argus_memory::{Heap, OutOfMemory, Room};
 use std::collections::VecDeque;
@@ -76,29 +71,6 @@ impl Content {
                 tag: *tag,
                 value: value.duplicate(heap)?,
             }),
-        }
-    }
-
-    /// Replaces this content by the one that the change leaves, and returns its answer; after
-    /// `OutOfMemory` it is unchanged.
-    pub(crate) fn altered(self, change: Change) -> (Content, Result<Answer, OutOfMemory>)
-        requires { KeepsLimits (Some (plain_content self)) }
-        ensures ok { IfOk result.1 (λ answer. (Some (plain_content result.0), plain_answer answer)
-            ≡ outcome (plain_change change) (Some (plain_content self))) }
-        ensures err { OnErr result.1 (plain_content result.0 ≡ plain_content self) }
-        ensures kept { CreatesWithin (plain_change change)
-            → KeepsLimits (Some (plain_content result.0)) }
-    {
-        match self {
-            Content::Rec(mut fields) => {
-                let answer = change.alter_record(&mut fields);
-                (Content::Rec(fields), Ok(answer))
-            }
-            Content::Arr { low, items } => alter_parts(low, items, change),
-            Content::Var { mut tag, mut value } => {
-                let answer = change.alter_variant(&mut tag, &mut value);
-                (Content::Var { tag, value }, Ok(answer))
-            }
         }
     }
 

@@ -2,9 +2,7 @@
 #![tactic(auto)]
 
 mod altering;
-mod altering_by_reference;
 mod answer;
-mod answering;
 mod array;
 mod asking;
 mod change;
@@ -14,7 +12,7 @@ mod name;
 mod name_error;
 mod obj_id;
 mod query;
-mod record;
+mod removing;
 mod shape;
 mod shape_fault;
 mod shape_kind;
@@ -26,10 +24,8 @@ mod ty;
 mod typing;
 mod value;
 
-pub use altering::{alter, alter_copy, alter_in_place};
-pub use altering_by_reference::alter_by_reference;
+pub use altering::{alter, alter_by_reference, alter_in_place};
 pub use answer::Answer;
-pub use answering::change_answer;
 pub use argus_memory::{Heap, OutOfMemory, Room};
 pub use asking::ask;
 pub use change::Change;
@@ -38,6 +34,7 @@ pub use name::Name;
 pub use name_error::NameError;
 pub use obj_id::ObjId;
 pub use query::Query;
+pub use removing::removal_answer;
 pub use shape::Shape;
 pub use shape_fault::ShapeFault;
 pub use shape_view::ShapeView;

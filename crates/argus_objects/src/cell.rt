@@ -265,7 +265,7 @@ impl Cell {
         &mut self,
         tree: &ActionTree,
         a: ActionId,
-        change: Change,
+        change: &Change,
     ) -> Result<Answer, OutOfMemory>
         requires lawful { is_lawful tree.now self.old ≡ true }
         requires free { commit_refusal tree.now a.0 ≡ None }
@@ -274,12 +274,12 @@ impl Cell {
         ensures base { self.new.base ≡ self.old.base }
         ensures readers { self.new.readers ≡ self.old.readers }
         ensures versions { OnOk result (self.new.versions
-            ≡ with_version a (changed tree.now a (plain_change change) self.old).0
+            ≡ with_version a (changed tree.now a (plain_change change.now) self.old).0
             self.old.versions) }
         ensures answer { IfOk result (λ answer. plain_answer answer
-            ≡ (changed tree.now a (plain_change change) self.old).1) }
-        ensures kept { CreatesWithin (plain_change change)
-            → OnOk result (KeepsLimits (changed tree.now a (plain_change change) self.old).0) }
+            ≡ (changed tree.now a (plain_change change.now) self.old).1) }
+        ensures kept { CreatesWithin (plain_change change.now)
+            → OnOk result (KeepsLimits (changed tree.now a (plain_change change.now) self.old).0) }
         ensures err { OnErr result (self.new.versions ≡ self.old.versions) }
         ensures lawful { is_lawful tree.now self.new ≡ true }
         ensures reader_room { self.new.reader_room ≡ self.old.reader_room }

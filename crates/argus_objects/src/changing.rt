@@ -13,9 +13,7 @@ ghost use Rattle.argus_objects.specs.CellChanges.{changed_top, newest_content, w
 use crate::version::Version;
 use crate::versions::reserve_version;
 use argus_actions::ActionId;
-use argus_contents::{
-    Answer, Change, Content, Signal, alter_by_reference, alter_copy, alter_in_place,
-};
+use argus_contents::{Answer, Change, Content, Signal, alter, alter_by_reference, alter_in_place};
 use argus_memory::{OutOfMemory, Room};
 
 /// The content of the newest version, or the base.
@@ -39,17 +37,17 @@ pub(crate) fn change_version(
     base: &Option<Content>,
     versions: &mut Vec<Version, Room>,
     a: ActionId,
-    change: Change,
+    change: &Change,
 ) -> Result<Answer, OutOfMemory>
     requires ascending { is_ascending (writers versions.old.items) ≡ true }
     requires newest { are_up_to a (writers versions.old.items) ≡ true }
     requires limits { KeepsLimits (newest_content (plain_option base.now)
         (versions_newest_first versions.old.items)) }
     ensures versions { OnOk result (versions_newest_first versions.new.items
-        ≡ with_version a (changed_top (plain_change change) (plain_option base.now)
+        ≡ with_version a (changed_top (plain_change change.now) (plain_option base.now)
         (versions_newest_first versions.old.items)).0 (versions_newest_first versions.old.items)) }
     ensures answer { IfOk result (λ answer. plain_answer answer
-        ≡ (changed_top (plain_change change) (plain_option base.now)
+        ≡ (changed_top (plain_change change.now) (plain_option base.now)
         (versions_newest_first versions.old.items)).1) }
     ensures err { OnErr result (versions_newest_first versions.new.items
         ≡ versions_newest_first versions.old.items) }
@@ -57,11 +55,11 @@ pub(crate) fn change_version(
         ≤ vec_capacity versions.new - vec_len versions.new + 1 }
 {
     let held = versions.len();
-    if held > 0 && versions[held - 1].holder.0 == a.0 {
-        return alter_in_place(&mut versions[held - 1].content, change);
-    }
     let heap = versions.allocator().heap();
-    let (content, answer) = alter_copy(heap, content_on_top(base, versions.as_slice()), change)?;
+    if held > 0 && versions[held - 1].holder.0 == a.0 {
+        return alter_in_place(heap, &mut versions[held - 1].content, change);
+    }
+    let (content, answer) = alter(heap, content_on_top(base, versions.as_slice()), change)?;
     versions.push(Version { holder: a, content })?;
     Ok(answer)
 }

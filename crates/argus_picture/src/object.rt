@@ -50,15 +50,16 @@ pub(crate) fn base_text(heap: Heap, base: &Option<Content>) -> Result<String<Roo
 
 /// Applies the change to the base. `declared` is how many objects there are for references to name.
 pub(crate) fn make_for_good(
+    heap: Heap,
     shape: &Shape,
     base: &mut Option<Content>,
     declared: u32,
-    change: Change,
+    change: &Change,
 ) -> Result<(), CallError> {
-    if !change_fits(shape, declared, &change) || !base_fits(shape, base, declared) {
+    if !change_fits(shape, declared, change) || !base_fits(shape, base, declared) {
         return Err(CallError::Unlawful);
     }
-    alter_in_place(base, change)?;
+    alter_in_place(heap, base, change)?;
     Ok(())
 }
 

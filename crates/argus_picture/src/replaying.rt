@@ -51,7 +51,7 @@ impl<'a> Run<'a> {
         line: &'a str,
     ) -> Result<(), CallError> {
         for at in 0..self.writes.len() {
-            self.settle_change(at, place, object)?;
+            self.settle_change(heap, at, place, object)?;
         }
         let Some(told) = self.objects.get(object) else {
             return Ok(());
@@ -68,7 +68,13 @@ impl<'a> Run<'a> {
     }
 
     // Applies the change at index `at` to the base, if it is the action's and of this object.
-    fn settle_change(&mut self, at: usize, place: usize, object: usize) -> Result<(), CallError> {
+    fn settle_change(
+        &mut self,
+        heap: Heap,
+        at: usize,
+        place: usize,
+        object: usize,
+    ) -> Result<(), CallError> {
         let declared = self.objects.len().min(65_535) as u32;
         let Some(write) = self.writes.get_mut(at) else {
             return Ok(());
@@ -79,7 +85,7 @@ impl<'a> Run<'a> {
         let change = write.change.take();
         match (self.objects.get_mut(object), change) {
             (Some(told), Some(change)) => {
-                make_for_good(&told.shape, &mut told.base, declared, change)
+                make_for_good(heap, &told.shape, &mut told.base, declared, &change)
             }
             (None, _) | (_, None) => Ok(()),
         }

@@ -6,6 +6,7 @@ use Rattle.argus_board.specs.BoardView.{BoardView}
 use Rattle.argus_contents.specs.Effect.{Effect}
 use Rattle.argus_contents.specs.Content.{PlainContent}
 use Rattle.argus_entries.specs.Call.{PlainCall, abort, abort_others, alter, ask, begin_nested}
+use Rattle.argus_entries.specs.Reply.{PlainReply}
 use Rattle.argus_entries.specs.Call.{begin_sub, begin_top, commit, declare, test_read, test_write}
 use Rattle.argus_journal.specs.Legal.{Legal}
 use Rattle.argus_journal.specs.Objects.{declared}
@@ -13,7 +14,7 @@ use Rattle.argus_journal.specs.Opening.{KeepsNumbers, content_in, is_sound}
 use Rattle.argus_journal.specs.JournalFacts.{base_of, effects_of}
 use Rattle.argus_model.specs.Effects.{table}
 use Rattle.argus_sharing.specs.Locked.{LockedState}
-use Rattle.argus_journal.specs.JournalView.{JournalView, next_entry}
+use Rattle.argus_journal.specs.JournalView.{JournalView, next_entry, reply_to}
 
 -- the effects of the journal's entries
 abbrev pub journal_effects : JournalView → List Effect
@@ -31,6 +32,11 @@ FollowsJournal opening journal effects = (earlier : List Effect)
 abbrev pub IsSharedJournal : ℕ → JournalView → Type 0
 IsSharedJournal start journal = (is_sound journal.opening ≡ true) × KeepsNumbers journal.opening
     × Legal journal.opening journal.entries × (start ≤ next_entry journal)
+
+-- the call gets this number and this reply after a journal that a shared guardian may have
+abbrev pub IsNextEntry : ℕ → ℕ → PlainCall → PlainReply → Type 0
+IsNextEntry start at call reply = (journal : JournalView) × IsSharedJournal start journal
+    × (at ≡ next_entry journal) × (reply ≡ reply_to journal call)
 
 -- a shared guardian may have this journal, and the board follows it
 abbrev pub IsFollowed : (ℕ → Option PlainContent) → ℕ → LockedState → Type 0

@@ -13,10 +13,11 @@ ghost use Rattle.argus_sharing.specs.Checking.{AreApart, IsSettleAnswer, Stands,
 ghost use Rattle.argus_sharing.specs.Receipt.{plain_receipt};
 ghost use Rattle.argus_sharing.specs.CallEach.{end_of, replies_of};
 ghost use Rattle.argus_sharing.specs.Checkpoint.{IsCheckpointAnswer};
-ghost use Rattle.argus_sharing.specs.Following.{FollowsJournal, IsFollowed, IsSharedJournal};
+ghost use Rattle.argus_sharing.specs.Following.{FollowsJournal, IsFollowed, IsNextEntry};
+ghost use Rattle.argus_sharing.specs.Following.{IsSharedJournal};
 ghost use Rattle.argus_sharing.specs.Following.{journal_bases, journal_effects};
 ghost use Rattle.argus_sharing.specs.Locked.{LockedState};
-ghost use Rattle.argus_journal.specs.JournalView.{JournalView, next_entry, reply_to};
+ghost use Rattle.argus_journal.specs.JournalView.{JournalView, next_entry};
 ghost use Rattle.argus_sharing.specs.declared.calls_end.CallsEnd.TheVariants as calls_end;
 
 use crate::answered::Answered;
@@ -126,10 +127,8 @@ impl<N: Sharing, R: Wait + Drop> Shared<N, R> {
         call: Call,
     ) -> Result<Receipt, OutOfMemory>
         ensures call { IfOk result (λ receipt. plain_call receipt.call ≡ plain_call call) }
-        ensures reply { IfOk result (λ receipt. (journal : JournalView)
-            × IsSharedJournal N.start journal
-            × (receipt.at ≡ next_entry journal)
-            × (plain_reply receipt.reply ≡ reply_to journal (plain_call call))) }
+        ensures reply { IfOk result (λ receipt.
+            IsNextEntry N.start receipt.at (plain_call call) (plain_reply receipt.reply)) }
         ensures made { OnOk result (seat.new.made ≡ seat.old.made + 1) }
         ensures err { OnErr result (seat.new.made ≡ seat.old.made) }
     {
@@ -151,10 +150,8 @@ impl<N: Sharing, R: Wait + Drop> Shared<N, R> {
         seat: &mut Seat<N>,
         call: Call,
     ) -> Result<Answered, OutOfMemory>
-        ensures reply { IfOk result (λ answered. (journal : JournalView)
-            × IsSharedJournal N.start journal
-            × (answered.at ≡ next_entry journal)
-            × (plain_reply answered.reply ≡ reply_to journal (plain_call call))) }
+        ensures reply { IfOk result (λ answered.
+            IsNextEntry N.start answered.at (plain_call call) (plain_reply answered.reply)) }
         ensures made { OnOk result (seat.new.made ≡ seat.old.made + 1) }
         ensures err { OnErr result (seat.new.made ≡ seat.old.made) }
     {
@@ -179,10 +176,8 @@ impl<N: Sharing, R: Wait + Drop> Shared<N, R> {
         patience: u32,
     ) -> Result<Receipt, OutOfMemory>
         ensures call { IfOk result (λ receipt. plain_call receipt.call ≡ plain_call call) }
-        ensures reply { IfOk result (λ receipt. (journal : JournalView)
-            × IsSharedJournal N.start journal
-            × (receipt.at ≡ next_entry journal)
-            × (plain_reply receipt.reply ≡ reply_to journal (plain_call call))) }
+        ensures reply { IfOk result (λ receipt.
+            IsNextEntry N.start receipt.at (plain_call call) (plain_reply receipt.reply)) }
         ensures made { OnOk result (seat.new.made ≡ seat.old.made + 1) }
         ensures err { OnErr result (seat.new.made ≡ seat.old.made) }
     {
@@ -202,10 +197,8 @@ impl<N: Sharing, R: Wait + Drop> Shared<N, R> {
         call: Call,
         patience: u32,
     ) -> Result<Answered, OutOfMemory>
-        ensures reply { IfOk result (λ answered. (journal : JournalView)
-            × IsSharedJournal N.start journal
-            × (answered.at ≡ next_entry journal)
-            × (plain_reply answered.reply ≡ reply_to journal (plain_call call))) }
+        ensures reply { IfOk result (λ answered.
+            IsNextEntry N.start answered.at (plain_call call) (plain_reply answered.reply)) }
         ensures made { OnOk result (seat.new.made ≡ seat.old.made + 1) }
         ensures err { OnErr result (seat.new.made ≡ seat.old.made) }
     {

@@ -10,8 +10,8 @@
 
 pub use argus_contents::{
     Answer, Change, Content, Name, NameError, ObjId, Query, Shape, ShapeFault, ShapeView, Signal,
-    SmallAnswer, Ty, Value, alter, alter_by_reference, alter_copy, alter_in_place, ask, ask_small,
-    change_answer, change_fits, fits, limits, query_fits, typed,
+    SmallAnswer, Ty, Value, alter, alter_by_reference, alter_in_place, ask, ask_small, change_fits,
+    fits, limits, query_fits, removal_answer, typed,
 };
 pub use argus_memory::{Budget, Heap, OutOfMemory, Room};
 pub use argus_texts::{

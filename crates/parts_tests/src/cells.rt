@@ -95,7 +95,7 @@ fn change(
         _ => return Err(RowFault::NotSpelled),
     }
     let answer = if word == "change" || change.gives_value() {
-        cell.grant_change(tree, a, change)?
+        cell.grant_change(tree, a, &change)?
     } else {
         match cell.grant_change_by_reference(tree, a, &change)? {
             None => Answer::Done,

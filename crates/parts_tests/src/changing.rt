@@ -5,7 +5,7 @@ ghost use Rattle.argus_contents.specs.Content.{KeepsLimits, plain_option};
 use crate::contents::operation_of;
 use crate::kept::kept_of;
 use argus_contents::{
-    Answer, Change, Content, alter, alter_by_reference, alter_copy, alter_in_place, change_answer,
+    Answer, Change, Content, alter, alter_by_reference, alter_in_place, removal_answer,
 };
 use argus_entries::{Call, Reply, write_reply};
 use argus_memory::{OutOfMemory, Room};
@@ -42,11 +42,9 @@ fn do_agree(
 ) -> Result<bool, RowFault>
     requires { KeepsLimits (plain_option content.now) }
 {
-    let foreseen = change_answer(setting.heap, content, change)?;
-    let copied = alter_copy(setting.heap, content, change.duplicate(setting.heap)?)?;
     let in_place = altered_in_place(setting, content, change)?;
     let by_reference = altered_by_reference(setting, content, change)?;
-    Ok(foreseen == made.1 && copied == *made && in_place == *made && by_reference == *made)
+    Ok(in_place == *made && by_reference == *made)
 }
 
 // If memory is refused the content has to be unchanged. It has room for exactly its items.
@@ -57,16 +55,15 @@ fn altered_in_place(
 ) -> Result<(Option<Content>, Answer), RowFault>
     requires { KeepsLimits (plain_option content.now) }
 {
-    let moved = change.duplicate(setting.heap)?;
     let mut left = Content::duplicate_option(setting.heap, content)?;
-    match alter_in_place(&mut left, moved) {
+    match alter_in_place(setting.heap, &mut left, change) {
         Ok(answer) => Ok((left, answer)),
         Err(OutOfMemory) if left == *content => Err(RowFault::OutOfMemory),
         Err(OutOfMemory) => Err(RowFault::Changed),
     }
 }
 
-// The same; a change that returns a value isn't made this way.
+// The same; of a change that returns a value the answer is known before it is made.
 fn altered_by_reference(
     setting: Setting,
     content: &Option<Content>,
@@ -75,7 +72,8 @@ fn altered_by_reference(
     requires { KeepsLimits (plain_option content.now) }
 {
     if change.gives_value() {
-        return Ok(alter(setting.heap, content, change)?);
+        let (left, _) = alter(setting.heap, content, change)?;
+        return Ok((left, removal_answer(setting.heap, content, change)?));
     }
     let mut left = Content::duplicate_option(setting.heap, content)?;
     match alter_by_reference(setting.heap, &mut left, change) {

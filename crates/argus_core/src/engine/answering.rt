@@ -2,7 +2,7 @@
 
 ghost use Rattle.std.specs.Prelude.{◌≡◌, ◌<◌, length, slice_index_or, true, IfOk, IfSome};
 ghost use Rattle.argus_contents.specs.Answer.{plain_answer};
-ghost use Rattle.argus_contents.specs.Change.{outcome, plain_change};
+ghost use Rattle.argus_contents.specs.Change.{gives_value, outcome, plain_change};
 ghost use Rattle.argus_contents.specs.Content.{KeepsLimits};
 ghost use Rattle.argus_contents.specs.Query.{reply};
 ghost use Rattle.argus_contents.specs.SmallAnswer.{plain_small};
@@ -14,9 +14,7 @@ ghost use Rattle.argus_objects.specs.Rules.{may_read, may_write};
 
 use crate::engine::atomic_object::AtomicObject;
 use argus_actions::{ActionId, ActionTree};
-use argus_contents::{
-    Answer, Change, ObjId, Query, SmallAnswer, ask, ask_small, change_answer as answer_of_change,
-};
+use argus_contents::{Answer, Change, ObjId, Query, SmallAnswer, ask, ask_small, removal_answer};
 use argus_entries::Reply;
 use argus_memory::{Heap, OutOfMemory};
 
@@ -60,8 +58,8 @@ pub(crate) fn small_answer(
     ask_small(object.cell.visible(tree, a), query)
 }
 
-/// The answer to a change of the object, at what the action sees there.
-pub(crate) fn change_answer(
+/// The answer to a change that removes an item of the object, at what the action sees there.
+pub(crate) fn answer_of_removal(
     heap: Heap,
     objects: &[AtomicObject],
     tree: &ActionTree,
@@ -69,6 +67,7 @@ pub(crate) fn change_answer(
     o: ObjId,
     change: &Change,
 ) -> Result<Answer, OutOfMemory>
+    requires gives { gives_value (plain_change change.now) ≡ true }
     requires low { o.0 < length objects.now }
     requires granted { (d : AtomicObject)
         → may_read tree.now (slice_index_or objects.now o.0 d).cell a ≡ true }
@@ -77,7 +76,7 @@ pub(crate) fn change_answer(
         ≡ (outcome (plain_change change.now) (seen_at tree.now a objects.now o.0 d)).1) }
 {
     let object = &objects[o.0 as usize];
-    answer_of_change(heap, object.cell.visible(tree, a), change)
+    removal_answer(heap, object.cell.visible(tree, a), change)
 }
 
 /// A reply with this answer, and its duplicate: one for the caller, one for the journal.

@@ -167,13 +167,13 @@ pub(crate) fn grant_removal(
     tree: &ActionTree,
     a: ActionId,
     o: ObjId,
-    change: Change,
+    change: &Change,
 ) -> Result<(), OutOfMemory>
     requires lawful { AreLawful tree.now objects.old }
     requires free { IsFree tree.now objects.old a o (λ cell. may_write tree.now cell a) }
     requires limits { (d : AtomicObject) → KeepsLimits (seen_at tree.now a objects.old o.0 d) }
     requires listed { IsListedIfHeld objects.old holdings.old a o }
-    ensures ok { OnOk result (IsAccessed (IsAltered tree.now a (plain_change change)) a o
+    ensures ok { OnOk result (IsAccessed (IsAltered tree.now a (plain_change change.now)) a o
         objects.old objects.new holdings.old holdings.new) }
     ensures err { OnErr result (IsAsBefore o objects.old objects.new holdings.old holdings.new) }
 {

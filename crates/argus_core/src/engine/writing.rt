@@ -1,13 +1,13 @@
 //! How actions write objects: in place if the action has a version.
 
-ghost use Rattle.std.specs.Prelude.{IfOk, None, OnErr, OnOk, ◌≡◌};
-ghost use Rattle.argus_contents.specs.Change.{plain_change};
+ghost use Rattle.std.specs.Prelude.{IfOk, None, OnErr, OnOk, true, ◌≡◌};
+ghost use Rattle.argus_contents.specs.Change.{gives_value, plain_change};
 ghost use Rattle.argus_entries.specs.Call.{alter, test_write};
 ghost use Rattle.argus_entries.specs.Reply.{plain_reply};
 ghost use Rattle.argus_core.specs.GuardianState.{StateInvariant, journal_view_of};
 ghost use Rattle.argus_journal.specs.JournalView.{after, refusal_to, reply_to};
 
-use crate::engine::answering::{change_answer, is_writable, reply_twice};
+use crate::engine::answering::{answer_of_removal, is_writable, reply_twice};
 use crate::engine::granting::{grant_change, grant_removal};
 use crate::engine::guardian_state::GuardianState;
 use crate::engine::refusing::{alter_refusal, refuse, test_refusal};
@@ -61,8 +61,8 @@ pub(crate) fn alter(
     }
 }
 
-// A granted change of any kind. Its answer is computed first, since it may be the value that the
-// change removes, which both the caller and the entry get.
+// A granted change that removes an item. Its answer is copied first, since both the caller and the
+// entry get it.
 #[inline(never)]
 fn alter_with_value(
     state: &mut GuardianState,
@@ -71,6 +71,7 @@ fn alter_with_value(
     change: Change,
 ) -> Result<Reply, OutOfMemory>
     requires kept { StateInvariant state.old }
+    requires gives { gives_value (plain_change change) ≡ true }
     requires free { refusal_to (journal_view_of state.old) (alter a.0 o.0 (plain_change change))
         ≡ None }
     ensures kept { StateInvariant state.new }
@@ -81,12 +82,11 @@ fn alter_with_value(
     ensures err { OnErr result (journal_view_of state.new ≡ journal_view_of state.old) }
 {
     let seen = state.objects.as_slice();
-    let answer = change_answer(state.heap, seen, &state.tree, a, o, &change)?;
+    let answer = answer_of_removal(state.heap, seen, &state.tree, a, o, &change)?;
     let (reply, again) = reply_twice(state.heap, answer)?;
-    let made = change.duplicate(state.heap)?;
     state.journal.reserve()?;
     let objects = state.objects.as_mut_slice();
-    grant_removal(objects, &mut state.holdings, &state.tree, a, o, made)?;
+    grant_removal(objects, &mut state.holdings, &state.tree, a, o, &change)?;
     state.journal.push(Entry {
         call: Call::Alter(a, o, change),
         reply: again,

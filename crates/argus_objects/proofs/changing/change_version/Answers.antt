@@ -20,14 +20,14 @@ in_place : (c : goal.After-versions-1)
     → let vs = c.args.versions.now.items in
     let new : Version = record { holder = c.index_mut.result.now.holder; content = c.alter_in_place.new.content } in
     let after = versions_newest_first (set vs (c.len-held.result - 1) new) in
-    let changed = changed_top (plain_change c.args.change) (plain_option c.args.base.now) (versions_newest_first vs) in
+    let changed = changed_top (plain_change c.args.change.now) (plain_option c.args.base.now) (versions_newest_first vs) in
     OnOk c.alter_in_place.result (after ≡ with_version c.args.a changed.0 (versions_newest_first vs))
     × IfOk c.alter_in_place.result (λ answer. plain_answer answer ≡ changed.1)
     × OnErr c.alter_in_place.result (after ≡ versions_newest_first vs)
 in_place c =
     let old : Version = c.index_mut.result.now in
     let new : Version = record { holder = old.holder; content = c.alter_in_place.new.content } in
-    changed_in_place plain_answer (plain_change c.args.change) (plain_option c.args.base.now) c.args.a
+    changed_in_place plain_answer (plain_change c.args.change.now) (plain_option c.args.base.now) c.args.a
     c.args.versions.now.items
     (c.len-held.result - 1) c.index.result.now old new (omega arith) c.requires.ascending c.index.ensures
     c.if-index-a.true c.index_mut.ensures.value refl c.alter_in_place.result c.alter_in_place.ensures.ok
@@ -57,6 +57,6 @@ returns-clause-versions c =
     let v : Version = record { holder = c.args.a; content = c.in_ok-content.content } in
     let seen : plain_option c.content_on_top.result.now ≡ newest_content base (versions_newest_first vs) =
     c.content_on_top.ensures ∙ ap (λ ws. newest_content base (versions_newest_first ws)) c.as_slice.ensures.value in
-    changed_copy (plain_change c.args.change) base c.args.a vs c.push.new.self.items v
+    changed_copy (plain_change c.args.change.now) base c.args.a vs c.push.new.self.items v
     (plain_answer c.in_ok-content.answer)
     (plain_option c.content_on_top.result.now) c.in_ok-push.ensures.items refl low c.in_ok-content.ensures.ok seen

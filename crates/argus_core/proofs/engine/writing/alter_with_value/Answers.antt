@@ -24,22 +24,22 @@ refused_not : (p : GuardianState) (k : StateInvariant p) (a : ActionId) (o : Obj
     (λ c. may_write p.tree c a) ≡ None
 refused_not p k a o change free = (alters p k a o change).refuses ∙ free
 
-pub change_answer-requires-clause-low : goal.change_answer-requires-clause-low
-change_answer-requires-clause-low c =
+pub answer_of_removal-requires-clause-low : goal.answer_of_removal-requires-clause-low
+answer_of_removal-requires-clause-low c =
     rw (c.as_slice-seen.ensures.value)
     (alter_free c.args.state.now c.requires.kept c.args.a c.args.o (plain_change c.args.change)
     (refused_not c.args.state.now c.requires.kept c.args.a c.args.o (plain_change c.args.change) c.requires.free)).low
 
-pub change_answer-requires-clause-granted : goal.change_answer-requires-clause-granted
-change_answer-requires-clause-granted c =
+pub answer_of_removal-requires-clause-granted : goal.answer_of_removal-requires-clause-granted
+answer_of_removal-requires-clause-granted c =
     rw (c.as_slice-seen.ensures.value)
     (writer_reads c.args.state.now c.requires.kept c.args.a c.args.o
     (alter_free c.args.state.now c.requires.kept c.args.a c.args.o (plain_change c.args.change)
     (refused_not c.args.state.now c.requires.kept c.args.a c.args.o (plain_change c.args.change)
     c.requires.free))).opens
 
-pub change_answer-requires-clause-limits : goal.change_answer-requires-clause-limits
-change_answer-requires-clause-limits c =
+pub answer_of_removal-requires-clause-limits : goal.answer_of_removal-requires-clause-limits
+answer_of_removal-requires-clause-limits c =
     rw (c.as_slice-seen.ensures.value)
     (writer_limits c.args.state.now c.requires.kept c.args.a c.args.o
     (alter_free c.args.state.now c.requires.kept c.args.a c.args.o (plain_change c.args.change)
@@ -99,4 +99,4 @@ returns-clause-kept c =
     (alter_made p c.requires.kept c.args.a c.args.o (plain_change c.args.change)
     (refused_not c.args.state.now c.requires.kept c.args.a c.args.o (plain_change c.args.change) c.requires.free) _
     (rw (c.as_slice-seen.ensures.value) at c.in_ok-answer.ensures) new c.grant_removal.new.holdings
-    (rw (c.as_mut_slice-objects.ensures.value, c.in_ok-made.ensures) at c.in_ok-grant_removal.ensures.ok))
+    (rw (c.as_mut_slice-objects.ensures.value) at c.in_ok-grant_removal.ensures.ok))

@@ -31,7 +31,7 @@ kept c =
     kept_change c.args.tree.now c.self.inside.readers.items c.self.inside.readers.items c.self.inside.versions.items
     c.change_version.new.versions.items c.self.invariant.readers_ascend
     (subst (λ (o : Object). is_lawful c.args.tree.now o ≡ true) (sym c.self.view_is) c.requires.lawful)
-    c.change_version.result c.args.a (changed_top (plain_change c.args.change) base vs).0
+    c.change_version.result c.args.a (changed_top (plain_change c.args.change.now) base vs).0
     (subst (λ (o : Object). may_write c.args.tree.now o c.args.a ≡ true) (sym c.self.view_is) c.requires.granted)
     refl c.change_version.ensures.versions c.change_version.ensures.err
 
@@ -43,7 +43,7 @@ returns-clause-lawful c = (kept c).lawful
 
 pub returns-clause-versions : goal.returns-clause-versions
 returns-clause-versions c =
-    let change = plain_change c.args.change in
+    let change = plain_change c.args.change.now in
     let new = versions_newest_first c.change_version.new.versions.items in
     subst (λ x. OnOk c.change_version.result
     (new ≡ with_version c.args.a (outcome change x).0 c.args.self.now.versions))
@@ -53,7 +53,7 @@ returns-clause-versions c =
 
 pub returns-clause-answer : goal.returns-clause-answer
 returns-clause-answer c =
-    let change = plain_change c.args.change in
+    let change = plain_change c.args.change.now in
     subst (λ x. IfOk c.change_version.result (λ answer. plain_answer answer ≡ (outcome change x).1))
     (seen_by_writer c.args.tree.now c.args.a c.args.self.now c.requires.granted)
     (subst (λ (o : Object). IfOk c.change_version.result (λ answer. plain_answer answer
@@ -61,4 +61,4 @@ returns-clause-answer c =
 
 pub returns-clause-kept : goal.returns-clause-kept
 returns-clause-kept c = λ within.
-    on_ok c.change_version.result _ (outcome_keeps (plain_change c.args.change) _ within c.requires.limits)
+    on_ok c.change_version.result _ (outcome_keeps (plain_change c.args.change.now) _ within c.requires.limits)

@@ -4,7 +4,7 @@ use Rattle.argus_contents.specs.Answer.{done_or}
 use Rattle.argus_contents.specs.Change.{plain_change}
 use Rattle.argus_contents.specs.Content.{KeepsLimits, plain_content}
 use Rattle.argus_contents.proofs.Refit.{changed_keeps}
-use Rattle.argus_contents.proofs.altering_by_reference.alter_by_reference.Goals as goal
+use Rattle.argus_contents.proofs.altering.alter_by_reference.Goals as goal
 
 pub returns-in-Some-clause-kept : goal.returns-in-Some-clause-kept
 returns-in-Some-clause-kept c =

@@ -1,7 +1,7 @@
 -- A field that is written by a copy.
 use Rattle.std.proofs.Common.{arith}
 use Rattle.argus_contents.proofs.Arrays.{field_written}
-use Rattle.argus_contents.proofs.altering_by_reference.set_field.Goals as goal
+use Rattle.argus_contents.proofs.altering.set_field.Goals as goal
 
 pub returns-clause-ok : goal.returns-clause-ok
 returns-clause-ok c =

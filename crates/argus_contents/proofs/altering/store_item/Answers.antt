@@ -3,7 +3,7 @@ use Rattle.std.proofs.Common.{◌≡◌, length, arith, w64}
 use Rattle.std.proofs.lemmas.Int.{to_z-of_z}
 use mir.Val.{SFits}
 use Rattle.argus_contents.proofs.Arrays.{stored}
-use Rattle.argus_contents.proofs.altering_by_reference.store_item.Goals as goal
+use Rattle.argus_contents.proofs.altering.store_item.Goals as goal
 
 pub returns-in_ok-put-in-Some-clause-ok : goal.returns-in_ok-put-in-Some-clause-ok
 returns-in_ok-put-in-Some-clause-ok c =

@@ -7,8 +7,8 @@ use Rattle.argus_contents.specs.Change.{plain_change, array_outcome}
 use Rattle.argus_contents.specs.Content.{arr, KeepsLimits}
 use Rattle.argus_contents.specs.Value.{plain_list}
 use Rattle.argus_contents.proofs.Kept.{array_keeps}
-use Rattle.argus_contents.proofs.Refit.{refit_by, bound_fits}
-use Rattle.argus_contents.proofs.altering_by_reference.alter_present.Goals as goal
+use Rattle.argus_contents.proofs.Refit.{refit, bound_fits}
+use Rattle.argus_contents.proofs.altering.alter_present.Goals as goal
 
 pub returns-in-Arr-clause-ok : goal.returns-in-Arr-clause-ok
 returns-in-Arr-clause-ok c =
@@ -18,6 +18,6 @@ returns-in-Arr-clause-ok c =
     let within : KeepsLimits (Some (arr low vs)) = rw c.in-Arr.is at c.requires.limits in
     let before : SFits w64 low = bound_fits low vs within in
     rw (c.put_low.ensures, c.in-Arr.is)
-    (refit_by done_or c.alter_array-answer.result c.alter_array-answer.new.low
+    (refit done_or c.alter_array-answer.result c.alter_array-answer.new.low
     (plain_list c.alter_array-answer.new.items.items) (array_outcome change low vs) (array_keeps change low vs within)
     (rw (to_z-of_z w64 low before) at c.alter_array-answer.ensures.ok))
