@@ -37,6 +37,8 @@ class Interrupts(unittest.TestCase):
         self.guardian, self.record = with_record()
         self.addCleanup(self.guardian.close)
         self.addCleanup(signal.signal, signal.SIGALRM, signal.signal(signal.SIGALRM, interrupt))
+        # A timer that is left would end the process, once the handler is gone.
+        self.addCleanup(signal.setitimer, signal.ITIMER_REAL, 0)
         self.draws = random.Random(1)
         self.interrupted = 0
 
@@ -149,6 +151,8 @@ class Waits(unittest.TestCase):
         guardian, record = with_record(patience=60)
         self.addCleanup(guardian.close)
         self.addCleanup(signal.signal, signal.SIGALRM, signal.signal(signal.SIGALRM, interrupt))
+        # A timer that is left would end the process, once the handler is gone.
+        self.addCleanup(signal.setitimer, signal.ITIMER_REAL, 0)
         holder, main, found = guardian.topaction(), threading.main_thread().ident, []
         holder.lock(record)
 

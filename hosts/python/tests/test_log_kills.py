@@ -95,6 +95,8 @@ class Interrupted(LogCase):
         super().setUp()
         self.is_armed, self.interrupts = False, 0
         self.addCleanup(signal.signal, signal.SIGALRM, signal.signal(signal.SIGALRM, self.interrupt))
+        # A timer that is left would end the process, once the handler is gone.
+        self.addCleanup(signal.setitimer, signal.ITIMER_REAL, 0)
 
     def interrupt(self, *_: object) -> None:
         if self.is_armed:

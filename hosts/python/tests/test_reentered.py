@@ -155,6 +155,8 @@ class Refused(unittest.TestCase):
     def by_signal(self):
         """From now on a handler makes the calls, half a tenth of a second later."""
         self.addCleanup(signal.signal, signal.SIGALRM, signal.signal(signal.SIGALRM, lambda *_: self.refuse_each()))
+        # A timer that is left would end the process, once the handler is gone.
+        self.addCleanup(signal.setitimer, signal.ITIMER_REAL, 0)
         signal.setitimer(signal.ITIMER_REAL, 0.05)
 
     def after_a_while(self, call):
