@@ -1,14 +1,12 @@
 //! `Action`: a live action of a guardian that has one caller.
 
-use crate::answer::Answer;
-use crate::call::Call;
-use crate::change::Change;
+use crate::call::{Call, Change, Query};
 use crate::error::Error;
 use crate::guardian::Guardian;
+use crate::ids::{ActionId, ObjId};
 use crate::object::Object;
-use crate::query::Query;
+use crate::reply::Answer;
 use crate::value::Value;
-use crate::{ActionId, ObjId};
 use std::mem;
 
 /// A live action of a guardian that has one caller. It aborts when it is dropped, unless it has

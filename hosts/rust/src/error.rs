@@ -1,12 +1,9 @@
-//! `Error`: why a call of this crate failed.
+//! Why calls of this crate fail.
 
-use crate::checkpoint_error::CheckpointError;
-use crate::deadlock::Deadlock;
-use crate::line_fault::LineFault;
-use crate::refusal::Refusal;
-use crate::signal::Signal;
-use std::error;
-use std::fmt;
+use crate::reply::{Refusal, Signal};
+use crate::resumption::LineFault;
+use crate::shared::circles::Deadlock;
+use std::{error, fmt};
 
 /// Why a call of this crate failed. All other errors of the crate convert into it. `Display` says
 /// everything: no error has a source.
@@ -137,3 +134,31 @@ impl From<Signal> for Error {
         Error::Signal(signal)
     }
 }
+
+/// Why the journal wasn't folded. Nothing has changed.
+///
+/// ```
+/// use argus_guardian::CheckpointError;
+/// assert_eq!(CheckpointError::Busy.to_string(), "an action is live");
+/// ```
+#[derive(Debug, Clone, Copy, PartialEq, Eq)]
+pub enum CheckpointError {
+    /// An action is live.
+    Busy,
+    /// The next entry's number is above 9,223,372,036,854,775,807.
+    Full,
+    /// Out of memory.
+    OutOfMemory,
+}
+
+impl fmt::Display for CheckpointError {
+    fn fmt(&self, f: &mut fmt::Formatter<'_>) -> fmt::Result {
+        f.write_str(match self {
+            CheckpointError::Busy => "an action is live",
+            CheckpointError::Full => "no entry's number is left",
+            CheckpointError::OutOfMemory => "out of memory",
+        })
+    }
+}
+
+impl error::Error for CheckpointError {}

@@ -1,17 +1,14 @@
 //! `Guardian`: atomic objects, for one caller at a time.
 
-use crate::ObjId;
 use crate::action::Action;
-use crate::answer::Answer;
 use crate::call::Call;
-use crate::checkpoint_error::CheckpointError;
-use crate::decoding::{self, error_of, read_as};
-use crate::error::Error;
-use crate::owner::Owner;
-use crate::reader::Reader;
-use crate::reply::Reply;
-use crate::sys::{self, Handle, status};
-use crate::words::Words;
+use crate::error::{CheckpointError, Error};
+use crate::ids::{ObjId, Owner};
+use crate::library::{Words, error_of, read_as};
+use crate::reply::{Answer, Reply};
+use crate::sys::{Handle, status};
+use crate::written_form::Reader;
+use crate::{library, sys};
 use std::cell::{Cell, UnsafeCell};
 use std::fmt;
 
@@ -174,7 +171,7 @@ impl Guardian {
             self.kept.set(status);
         }
         let owner = self.owner.get();
-        decoding::reply_of(owner, kind, status, number, || self.answer_again())
+        library::reply_of(owner, kind, status, number, || self.answer_again())
     }
 
     /// The value or the content that the last call returned, again: for a caller that had no memory

@@ -1,7 +1,7 @@
 //! `Object`: an object with the names that its shape has.
 
-use crate::ObjId;
 use crate::error::Error;
+use crate::ids::ObjId;
 
 /// An object with the names of its fields or tags, from its shape:
 /// [`Guardian::object`](crate::Guardian::object) makes it. It stays right as long as the guardian

@@ -1,15 +1,14 @@
 //! Questions to a guardian, which make no entry in the journal.
 
-use crate::content::Content;
-use crate::decoding::{error_of, one_of};
 use crate::error::Error;
 use crate::guardian::Guardian;
-use crate::listing::{Lines, Listing};
+use crate::ids::{ActionId, ObjId};
+use crate::library::{error_of, one_of};
 use crate::object::Object;
-use crate::reader::Reader;
-use crate::status::Status;
-use crate::sys::{self, question, status};
-use crate::{ActionId, ObjId};
+use crate::sys;
+use crate::sys::{question, status};
+use crate::value::Content;
+use crate::written_form::Reader;
 
 impl Guardian {
     /// Whether the action could get a read lock on the object now: no, if one of them is another
@@ -406,4 +405,68 @@ impl Guardian {
             (status, number) => Err(error_of(status, number)),
         }
     }
+}
+
+/// The state of an action that was begun.
+///
+/// ```
+/// use argus_guardian::{ActionId, Guardian, Status};
+/// let mut guardian = Guardian::new()?;
+/// guardian.topaction()?.abort()?;
+/// assert_eq!(guardian.status(ActionId::numbered(0)), Some(Status::Aborted));
+/// # Ok::<(), argus_guardian::Error>(())
+/// ```
+#[derive(Debug, Clone, Copy, PartialEq, Eq, Hash)]
+pub enum Status {
+    /// It was begun, and neither it nor an ancestor of it has ended.
+    Live,
+    /// It has committed, and none of its ancestors was aborted.
+    Committed,
+    /// It or an ancestor of it was aborted, whether it had committed or not.
+    Aborted,
+    /// It was over at the last checkpoint, and nothing more is known of it.
+    Folded,
+}
+
+impl Status {
+    // By the library's numbers, from 1.
+    pub(crate) const ALL: [Status; 4] = [
+        Status::Live,
+        Status::Committed,
+        Status::Aborted,
+        Status::Folded,
+    ];
+}
+
+/// What is listed of a guardian, one line each. Objects come in the order of their numbers.
+///
+/// ```
+/// use argus_guardian::{Guardian, Listing};
+/// let guardian = Guardian::new()?;
+/// guardian.declare("atomic_record[n:int]")?;
+/// assert_eq!(guardian.list(Listing::Journal)?, "0 declare atomic_record[n:int] -> o0\n");
+/// # Ok::<(), argus_guardian::Error>(())
+/// ```
+#[derive(Debug, Clone, Copy, PartialEq, Eq, Hash)]
+pub enum Listing {
+    /// The base of each object.
+    Bases,
+    /// The same, with each object's readers, and its versions from ancestor to descendant.
+    Stacks,
+    /// The journal's entries.
+    Journal,
+    /// Bases and versions, computed again from the journal's writes.
+    Audit,
+}
+
+/// How many whole lines of the journal were put into a room:
+/// [`Guardian::lines`](crate::Guardian::lines).
+#[derive(Debug, Clone, Copy, PartialEq, Eq)]
+pub struct Lines {
+    /// How many entries' lines they are; 0 if there is none from that number on, or if the room is
+    /// too small for the first line.
+    pub count: u64,
+    /// How many bytes they have, at the beginning of the room. If `count` is 0, how many bytes the
+    /// first line has, or 0 if there is none.
+    pub size: usize,
 }

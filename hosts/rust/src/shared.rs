@@ -1,19 +1,22 @@
 //! `Shared`: a guardian that threads share.
 
-use crate::ActionId;
-use crate::borrower::Borrower;
+pub(crate) mod action;
+pub(crate) mod circles;
+mod folding;
+pub(crate) mod retry;
+mod state;
+mod waits;
+
 use crate::call::Call;
-use crate::deadlock::Deadlock;
 use crate::error::Error;
 use crate::guardian::Guardian;
-use crate::lineage::Lineage;
-use crate::refusal::Refusal;
-use crate::reply::Reply;
-use crate::retrying::{MayConflict, waits};
-use crate::shared_action::SharedAction;
-use crate::shared_state::SharedState;
-use crate::waiter::WaitGoal;
-use crate::waiting_access::WaitingAccess;
+use crate::ids::ActionId;
+use crate::reply::{Refusal, Reply};
+use crate::shared::action::SharedAction;
+use crate::shared::circles::Deadlock;
+use crate::shared::retry::{MayConflict, waits};
+use crate::shared::state::{Borrower, SharedState};
+use crate::shared::waits::{Lineage, WaitGoal, WaitingAccess};
 use std::sync::{Mutex, MutexGuard, PoisonError};
 use std::thread;
 use std::time::{Duration, Instant};

@@ -1,10 +1,7 @@
 //! `Logged`: a guardian that threads share, and whose entries go to a log.
 
-use crate::checkpoint_error::CheckpointError;
-use crate::content::Content;
-use crate::error::Error;
+use crate::error::{CheckpointError, Error};
 use crate::guardian::Guardian;
-use crate::listing::Listing;
 use crate::log::batch_log::{BatchLog, EntryLines, ObjectName, Opening};
 use crate::log::failure::Failure;
 use crate::log::group::{Group, LogCounts};
@@ -13,9 +10,11 @@ use crate::log::logged_action::LoggedAction;
 use crate::log::logged_error::LoggedError;
 use crate::log::open_error::OpenError;
 use crate::object::Object;
-use crate::retrying::{MayConflict, waits};
+use crate::questions::Listing;
 use crate::shared::Shared;
-use crate::shared_action::SharedAction;
+use crate::shared::action::SharedAction;
+use crate::shared::retry::{MayConflict, waits};
+use crate::value::Content;
 use crate::{ActionId, ObjId};
 use std::collections::HashMap;
 use std::sync::atomic::{AtomicU64, Ordering};

@@ -1,12 +1,11 @@
 //! `LoggedAction`: a live action of a guardian with a log.
 
-use crate::answer::Answer;
-use crate::change::Change;
+use crate::call::{Change, Query};
 use crate::log::logged::Logged;
 use crate::log::logged_error::LoggedError;
 use crate::object::Object;
-use crate::query::Query;
-use crate::shared_action::SharedAction;
+use crate::reply::Answer;
+use crate::shared::action::SharedAction;
 use crate::value::Value;
 use crate::{ActionId, ObjId};
 

@@ -2,9 +2,7 @@
 
 use crate::Error;
 use crate::log::failure::Failure;
-use std::error;
-use std::fmt;
-use std::io;
+use std::{error, fmt, io};
 
 /// Why a log wasn't opened. At [`OpenError::Database`] nothing in it has changed.
 #[derive(Debug)]

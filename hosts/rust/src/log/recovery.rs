@@ -2,8 +2,7 @@
 
 use crate::error::Error;
 use crate::guardian::Guardian;
-use crate::line_fault::LineFault;
-use crate::resuming::{Opened, Resuming, TakenEnd};
+use crate::resumption::{LineFault, Opened, Resuming, TakenEnd};
 
 /// Why the lines of a batch weren't taken.
 #[derive(Debug, Clone, PartialEq, Eq)]

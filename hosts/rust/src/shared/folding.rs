@@ -1,9 +1,9 @@
 //! How a guardian that threads share folds its journal, and numbers its actions from 0 again.
 
-use crate::checkpoint_error::CheckpointError;
+use crate::error::CheckpointError;
 use crate::guardian::Guardian;
 use crate::shared::Shared;
-use crate::waiter::WaitGoal;
+use crate::shared::waits::WaitGoal;
 use std::time::Duration;
 
 impl Shared {

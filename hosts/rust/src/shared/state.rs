@@ -1,15 +1,15 @@
-//! `SharedState`: what a shared guardian keeps behind its mutex.
+//! What a shared guardian keeps behind its mutex, and to which thread it is lent.
 
-use crate::ActionId;
-use crate::answer::Answer;
 use crate::call::Call;
-use crate::circles::{Stuck, circle_with};
-use crate::deadlock::Deadlock;
 use crate::error::Error;
 use crate::guardian::Guardian;
-use crate::reply::Reply;
-use crate::waiter::{WaitGoal, Waiter};
-use std::sync::{Arc, Condvar};
+use crate::ids::ActionId;
+use crate::reply::{Answer, Reply};
+use crate::shared::circles::{Deadlock, Stuck, circle_with};
+use crate::shared::waits::{WaitGoal, Waiter};
+use std::sync::atomic::{AtomicUsize, Ordering};
+use std::sync::{Arc, Condvar, Mutex, MutexGuard, PoisonError};
+use std::{mem, ptr};
 
 /// What a shared guardian keeps behind its mutex.
 #[derive(Debug)]
@@ -183,5 +183,55 @@ impl SharedState {
         let youngest = (0..circle.len()).max_by_key(|it| circle[*it].access.age())?;
         circle.rotate_left(youngest);
         Some((circle[0].number, Deadlock::of(&circle)))
+    }
+}
+
+/// Which thread a shared guardian is lent to, by [`Shared::with`](crate::Shared::with), and which actions that thread
+/// has dropped meanwhile. The thread has the guardian's mutex: to lock that again it would wait for itself.
+#[derive(Debug, Default)]
+pub(crate) struct Borrower {
+    // The thread's address of `HERE`, or 0: it isn't lent.
+    thread: AtomicUsize,
+    dropped: Mutex<Vec<ActionId>>,
+}
+
+thread_local! {
+    // Its address is another one in each thread that lives.
+    static HERE: u8 = const { 0 };
+}
+
+fn here() -> usize {
+    HERE.with(|it| ptr::from_ref(it).addr())
+}
+
+impl Borrower {
+    /// Whether it is lent to this thread. No other thread writes this thread's address, so no order is needed.
+    #[inline]
+    pub(crate) fn is_here(&self) -> bool {
+        let thread = self.thread.load(Ordering::Relaxed);
+        thread != 0 && thread == here()
+    }
+
+    /// It is lent to this thread, which has the mutex.
+    pub(crate) fn begin(&self) {
+        self.thread.store(here(), Ordering::Relaxed);
+    }
+
+    /// It is lent no more. Returns the actions that were dropped meanwhile.
+    pub(crate) fn end(&self) -> Vec<ActionId> {
+        self.thread.store(0, Ordering::Relaxed);
+        mem::take(&mut self.dropped())
+    }
+
+    /// This thread, to which it is lent, drops the action. If there is no memory to note that, the action stays live.
+    pub(crate) fn drop_later(&self, action: ActionId) {
+        let mut dropped = self.dropped();
+        if dropped.try_reserve(1).is_ok() {
+            dropped.push(action);
+        }
+    }
+
+    fn dropped(&self) -> MutexGuard<'_, Vec<ActionId>> {
+        self.dropped.lock().unwrap_or_else(PoisonError::into_inner)
     }
 }

@@ -1,16 +1,13 @@
 //! `SharedAction`: a live action of a guardian that threads share.
 
-use crate::answer::Answer;
-use crate::call::Call;
-use crate::change::Change;
+use crate::call::{Call, Change, Query};
 use crate::error::Error;
-use crate::lineage::Lineage;
+use crate::ids::{ActionId, ObjId};
 use crate::object::Object;
-use crate::query::Query;
-use crate::reply::Reply;
+use crate::reply::{Answer, Reply};
 use crate::shared::Shared;
+use crate::shared::waits::Lineage;
 use crate::value::Value;
-use crate::{ActionId, ObjId};
 use std::{iter, mem};
 
 /// A live action of a guardian that threads share. It aborts when it is dropped, unless it has

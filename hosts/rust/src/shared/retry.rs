@@ -3,10 +3,9 @@
 use crate::error::Error;
 #[cfg(all(feature = "logged", unix))]
 use crate::log::LoggedError;
-use std::error;
 use std::hash::{BuildHasher, Hasher, RandomState};
-use std::iter;
 use std::time::Duration;
+use std::{error, iter};
 
 const FIRST: Duration = Duration::from_millis(1);
 const LONGEST: Duration = Duration::from_millis(100);
