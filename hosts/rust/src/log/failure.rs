@@ -1,7 +1,9 @@
 //! `Failure`: why a log is broken.
 
+use std::error;
+use std::fmt;
+use std::io;
 use std::sync::Arc;
-use std::{error, fmt, io};
 
 /// Why a log is broken. What failed is never tried again; a restart reads what is there.
 ///

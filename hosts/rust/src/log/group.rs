@@ -4,11 +4,12 @@ use crate::log::batch_log::BatchLog;
 use crate::log::failure::Failure;
 use crate::log::journal_queue::{Goal, JournalQueue, Piece};
 use crate::shared::Shared;
+use std::fmt;
+use std::io;
 use std::sync::atomic::{AtomicBool, Ordering};
 use std::sync::{Condvar, Mutex, MutexGuard, PoisonError};
 use std::thread::{self, ThreadId};
 use std::time::{Duration, Instant};
-use std::{fmt, io};
 
 /// What a log has done since it was opened.
 #[derive(Debug, Clone, Copy, PartialEq, Eq, Default)]

@@ -2,7 +2,9 @@
 
 use crate::Error;
 use crate::log::failure::Failure;
-use std::{error, fmt, io};
+use std::error;
+use std::fmt;
+use std::io;
 
 /// Why a log wasn't opened. At [`OpenError::Database`] nothing in it has changed.
 #[derive(Debug)]
