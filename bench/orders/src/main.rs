@@ -32,7 +32,7 @@ fn declare_seats(shop: &mut Guardian) -> Result<(), Error> {
 fn take(top: &mut Action<'_>, seat: ObjId, order: u32) -> Result<(), Error> {
     let mut sub = top.subaction()?;
     sub.lock(seat)?;
-    if i64::try_from(sub.get(seat, 0)?)? < i64::from(order) {
+    if sub.get::<i64>(seat, 0)? < i64::from(order) {
         sub.set(seat, 0, order)?;
     }
     sub.commit()
@@ -56,7 +56,7 @@ fn held(shop: &mut Guardian) -> Result<i64, Error> {
     let mut sum = 0;
     let mut top = shop.topaction()?;
     for seat in 0..SEATS {
-        sum += i64::try_from(top.get(ObjId::numbered(seat), 0)?)? * i64::from(seat + 1);
+        sum += top.get::<i64>(ObjId::numbered(seat), 0)? * i64::from(seat + 1);
     }
     top.commit()?;
     Ok(sum)

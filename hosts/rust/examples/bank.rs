@@ -10,7 +10,9 @@
 //! What is printed on standard output doesn't depend on time. `ORDERS` is how many each thread
 //! carries out.
 
-use argus_guardian::{Change, Content, Error, Guardian, ObjId, Shared, SharedAction, Value};
+use argus_guardian::{
+    Access, Change, Content, Error, Guardian, ObjId, Shared, SharedAction, Value,
+};
 use std::ops::AddAssign;
 use std::thread;
 use std::time::{Duration, Instant};
@@ -81,7 +83,7 @@ impl Transfer {
 }
 
 fn balance(action: &SharedAction<'_>, account: ObjId) -> Result<i64, Error> {
-    action.get(account, 0)?.try_into()
+    action.get::<Value>(account, 0)?.try_into()
 }
 
 #[derive(Default)]
@@ -190,7 +192,7 @@ fn open_bank() -> Result<Guardian, Error> {
     let mut guardian = Guardian::new()?;
     for _ in 0..ACCOUNTS {
         let account = guardian.declare("atomic_record[balance:int]")?;
-        let mut top = guardian.topaction()?;
+        let top = guardian.topaction()?;
         let content = Content::Record(vec![Value::Int(BALANCE)]);
         top.alter(account, Change::Create(content))?.done()?;
         top.commit()?;

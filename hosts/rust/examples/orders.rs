@@ -7,7 +7,7 @@
 //! and send the same lines again.
 
 use argus_guardian::log::{Logged, LoggedAction, LoggedError};
-use argus_guardian::{Change, ObjId};
+use argus_guardian::{Access, Change, ObjId};
 use std::env;
 use std::error::Error;
 use std::io::{self, BufRead};
@@ -54,7 +54,7 @@ impl FromStr for Payment {
 }
 
 fn int(action: &LoggedAction<'_>, record: ObjId) -> Result<i64, LoggedError> {
-    Ok(i64::try_from(action.get(record, 0)?)?)
+    Ok(action.get::<i64>(record, 0)?)
 }
 
 // Carries out a client's order once, however often it is sent.

@@ -5,7 +5,7 @@
 //!
 //!     cargo run --release --example random_order [SECONDS]
 
-use argus_guardian::{Change, Error, Guardian, ObjId, Shared};
+use argus_guardian::{Access, Change, Error, Guardian, ObjId, Shared};
 use std::hash::{BuildHasher, Hasher, RandomState};
 use std::thread;
 use std::time::{Duration, Instant};

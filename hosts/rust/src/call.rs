@@ -54,7 +54,8 @@ impl Call {
         refused.unwrap_or(Error::OtherGuardian)
     }
 
-    fn action(&self) -> Option<ActionId> {
+    /// The action that makes it.
+    pub(crate) fn action(&self) -> Option<ActionId> {
         match *self {
             Call::Declare(_) | Call::BeginTop => None,
             Call::BeginSub(action)

@@ -6,6 +6,7 @@ use crate::guardian::Guardian;
 use crate::ids::{ActionId, Owner};
 use crate::library::{Words, error_of, read_as, reply_of};
 use crate::reply::{Answer, Reply};
+use crate::shape::ShapeFault;
 use crate::sys;
 use crate::sys::status;
 use crate::written_form::Reader;
@@ -168,12 +169,11 @@ impl Guardian {
     ///
     /// ```
     /// use argus_guardian::{Call, Change, Guardian, ListEnd, ListedCall, Query, Value};
-    /// # use argus_guardian::Content;
+    /// # use argus_guardian::Access;
     /// let mut guardian = Guardian::new()?;
     /// let account = guardian.declare("atomic_record[balance:int]")?;
-    /// # let five = Change::Create(Content::Record(vec![Value::Int(5)]));
-    /// # let mut top = guardian.topaction()?;
-    /// # top.alter(account, five)?.done()?;
+    /// # let top = guardian.topaction()?;
+    /// # top.create(account, (5,))?;
     /// # top.commit()?;
     /// let set = Change::SetField(0, Value::Int(7));
     /// let made = guardian.call_each(&[
@@ -211,6 +211,10 @@ impl Guardian {
                 ListEnd::Failed(calls[place].refused_by(owner))
             }),
             status::UNMET => ListEnd::Unmet,
+            status::BAD_SHAPE => {
+                let text = words.get(made.len()).map_or("", |it| &it.text);
+                ListEnd::Failed(ShapeFault::of(text).into())
+            }
             status => ListEnd::Failed(error_of(status, rest.first().map_or(0, |it| it.number))),
         };
         let replies = self.replies_of(made)?;

@@ -208,7 +208,6 @@ pub(crate) fn error_of(status: u32, number: i64) -> Error {
         status::BAD_TEXT => Error::BadText {
             at: usize::try_from(number).unwrap_or(0),
         },
-        status::BAD_SHAPE => Error::BadShape,
         status::NOT_THERE => Error::NotThere,
         status::NOT_BEGUN => Error::NotBegun,
         other => Error::Unknown(other),

@@ -4,7 +4,8 @@ use crate::error::Error;
 use crate::guardian::Guardian;
 use crate::ids::{ActionId, ObjId};
 use crate::library::{error_of, one_of};
-use crate::object::Object;
+use crate::object::{AsObject, Object};
+use crate::shape::Shape;
 use crate::sys;
 use crate::sys::{question, status};
 use crate::value::Content;
@@ -152,8 +153,8 @@ impl Guardian {
     /// assert_eq!(guardian.shape(object)?, "atomic_record[balance:int]");
     /// # Ok::<(), argus_guardian::Error>(())
     /// ```
-    pub fn shape(&self, object: ObjId) -> Result<String, Error> {
-        self.told_of(question::SHAPE, object, |shape| Ok(shape.to_owned()))
+    pub fn shape(&self, object: impl AsObject) -> Result<String, Error> {
+        self.told_of(question::SHAPE, object.id(), |shape| Ok(shape.to_owned()))
     }
 
     /// The object with the names that its shape has.
@@ -171,7 +172,8 @@ impl Guardian {
     pub fn object(&self, object: ObjId) -> Result<Object, Error> {
         let object = object.number_for(self.owner.get())?;
         let id = ObjId::of(self.owner.get(), object);
-        self.told(question::SHAPE, object, 0, |shape| {
+        self.told(question::SHAPE, object, 0, |text| {
+            let shape = Shape::read(text).map_err(|_| Error::Unknown(status::TEXT))?;
             Ok(Object::of(id, shape))
         })
     }
@@ -210,9 +212,9 @@ impl Guardian {
     /// assert_eq!(guardian.base(ObjId::numbered(9)), Err(Error::NotThere));
     /// # Ok::<(), Error>(())
     /// ```
-    pub fn base(&self, object: ObjId) -> Result<Option<Content>, Error> {
+    pub fn base(&self, object: impl AsObject) -> Result<Option<Content>, Error> {
         let owner = self.owner.get();
-        self.told_of(question::BASE, object, |text| {
+        self.told_of(question::BASE, object.id(), |text| {
             Reader::whole_of(owner, text, Reader::content_or_absent)
         })
     }
@@ -245,12 +247,12 @@ impl Guardian {
     /// As for [`base`](Self::base).
     ///
     /// ```
-    /// use argus_guardian::{ActionId, Change, Content, Guardian};
+    /// use argus_guardian::{Access, ActionId, Content, Guardian};
     /// let mut guardian = Guardian::new()?;
     /// let object = guardian.declare("atomic_array[int]")?;
-    /// let mut top = guardian.topaction()?;
+    /// let top = guardian.topaction()?;
     /// let empty: Content = "1[]".parse()?;
-    /// top.alter(object, Change::Create(empty.clone()))?.done()?;
+    /// top.create(object, empty.clone())?;
     /// assert_eq!(top.guardian().versions(object)?, [(ActionId::numbered(0), Some(empty))]);
     /// # Ok::<(), argus_guardian::Error>(())
     /// ```
@@ -330,7 +332,11 @@ impl Guardian {
             )
         };
         match status {
-            status::DONE | status::TOO_SMALL => Ok(Lines { count, size }),
+            status::DONE | status::TOO_SMALL => {
+                let read = self.lines_read.get().unwrap_or(0);
+                self.lines_read.set(Some(read.max(from + count)));
+                Ok(Lines { count, size })
+            }
             other => Err(error_of(other, 0)),
         }
     }

@@ -1,6 +1,6 @@
 //! What a guardian returns: replies, with their answers, refusals and signals.
 
-use crate::error::Error;
+use crate::error::{Error, Limit};
 use crate::ids::{ActionId, ObjId};
 use crate::value::{Content, Value};
 use crate::written_form::Reader;
@@ -34,18 +34,19 @@ impl Reply {
     ///
     /// # Errors
     ///
-    /// [`Error::Refused`] if the call was refused, [`Error::OtherAnswer`] if it wasn't a
+    /// [`Error::TooMany`] or [`Error::Refused`] if the call was refused, [`Error::OtherAnswer`] if it wasn't a
     /// declaration.
     ///
     /// ```
-    /// use argus_guardian::{Error, ObjId, Refusal, Reply};
+    /// use argus_guardian::{Error, Limit, ObjId, Refusal, Reply};
     /// assert_eq!(Reply::Object(ObjId::numbered(0)).object(), Ok(ObjId::numbered(0)));
     /// let refused = Reply::Refused(Refusal::TooMany);
-    /// assert_eq!(refused.object(), Err(Error::Refused(Refusal::TooMany)));
+    /// assert_eq!(refused.object(), Err(Error::TooMany(Limit::Objects)));
     /// ```
     pub fn object(self) -> Result<ObjId, Error> {
         match self {
             Reply::Object(object) => Ok(object),
+            Reply::Refused(Refusal::TooMany) => Err(Error::TooMany(Limit::Objects)),
             other => Err(other.no()),
         }
     }
@@ -54,7 +55,7 @@ impl Reply {
     ///
     /// # Errors
     ///
-    /// [`Error::Refused`] if the call was refused, [`Error::OtherAnswer`] if it began nothing.
+    /// [`Error::TooMany`] or [`Error::Refused`] if the call was refused, [`Error::OtherAnswer`] if it began nothing.
     ///
     /// ```
     /// use argus_guardian::{ActionId, Reply};
@@ -63,6 +64,7 @@ impl Reply {
     pub fn action(self) -> Result<ActionId, Error> {
         match self {
             Reply::Begun(action) => Ok(action),
+            Reply::Refused(Refusal::TooMany) => Err(Error::TooMany(Limit::Actions)),
             other => Err(other.no()),
         }
     }

@@ -7,18 +7,19 @@ pub(crate) mod retry;
 mod state;
 mod waits;
 
+use crate::access::explained;
 use crate::call::Call;
 use crate::error::Error;
 use crate::guardian::Guardian;
 use crate::ids::ActionId;
-use crate::reply::{Refusal, Reply};
+use crate::object::{AsObject, Object};
+use crate::reply::{Answer, Refusal, Reply};
 use crate::shared::action::SharedAction;
 use crate::shared::circles::Deadlock;
-use crate::shared::retry::{MayConflict, waits};
+use crate::shared::retry::{MayConflict, retried};
 use crate::shared::state::{Borrower, SharedState};
 use crate::shared::waits::{Lineage, WaitGoal, WaitingAccess};
 use std::sync::{Mutex, MutexGuard, PoisonError};
-use std::thread;
 use std::time::{Duration, Instant};
 
 const CONFLICT: Reply = Reply::Refused(Refusal::Conflict);
@@ -38,7 +39,7 @@ const CONFLICT: Reply = Reply::Refused(Refusal::Conflict);
 /// This costs a topaction, so avoid circles:
 ///
 /// - Two have read an object, and both want to write it. If an action will write what it reads, call
-///   [`lock`](SharedAction::lock) before it reads; then they take turns.
+///   [`lock`](crate::Access::lock) before it reads; then they take turns.
 /// - Each has locked what the next one wants. Take locks in one order, such as by the number of the
 ///   object.
 ///
@@ -48,28 +49,21 @@ const CONFLICT: Reply = Reply::Refused(Refusal::Conflict);
 /// [`with`](Self::with): a circle that these close may last until patience ends.
 ///
 /// ```
-/// use argus_guardian::{Change, Guardian, Shared};
+/// use argus_guardian::{Access, Guardian, Shared};
 /// use std::thread;
-/// use std::time::Duration;
 ///
-/// let guardian = Guardian::new()?;
-/// let account = guardian.declare("atomic_array[int]")?;
-/// let shared = Shared::new(guardian, Duration::from_secs(1));
-/// let top = shared.topaction()?;
-/// top.alter(account, Change::Create("1[]".parse()?))?.done()?;
-/// top.commit()?;
+/// let shared = Shared::from(Guardian::new()?);
+/// let account = shared.named("account", "atomic_record[balance:int]")?;
+/// shared.run(|top| top.create(&account, (0,)))?;
 /// thread::scope(|scope| {
-///     for amount in [70_i64, 30] {
-///         let shared = &shared;
+///     for amount in [70, 30] {
+///         let (shared, account) = (&shared, &account);
 ///         scope.spawn(move || {
-///             let top = shared.topaction()?;
-///             top.alter(account, Change::Addh(amount.into()))?.done()?;
-///             top.commit()
+///             shared.run(|top| top.update(account, "balance", |it: i64| it + amount))
 ///         });
 ///     }
 /// });
-/// let base = shared.into_inner().base(account)?.expect("it was created");
-/// assert!(["1[70,30]", "1[30,70]"].contains(&base.to_string().as_str()));
+/// assert_eq!(shared.into_inner().base(&account)?, Some((100,).into()));
 /// # Ok::<(), argus_guardian::Error>(())
 /// ```
 #[derive(Debug)]
@@ -168,14 +162,25 @@ impl Shared {
         self.lock().call(call)
     }
 
-    // The same, for an end of an action. If that is a subaction, its topaction is named.
-    pub(crate) fn end(&self, call: &Call, topaction: Option<ActionId>) -> Result<Reply, Error> {
+    // Ends an action. If that is a subaction, its topaction is named. After an outermost one the journal is folded, if
+    // that is due.
+    pub(crate) fn end(
+        &self,
+        call: &Call,
+        topaction: Option<ActionId>,
+        is_outermost: bool,
+    ) -> Result<(), Error> {
         let mut state = self.lock();
-        let reply = state.call(call)?;
+        state.call(call)?.answer()?.done()?;
         if let Some(topaction) = topaction {
             state.break_circles_within(topaction);
         }
-        Ok(reply)
+        let number = call.action().map_or(0, ActionId::number);
+        if is_outermost && state.fold_if_due(number) {
+            drop(state);
+            self.fold_holding();
+        }
+        Ok(())
     }
 
     // The same, with how many entries the journal has had up to this call.
@@ -200,7 +205,7 @@ impl Shared {
     /// As for [`Guardian::call`].
     ///
     /// ```
-    /// use argus_guardian::{Call, Change, Guardian, Refusal, Reply, Shared};
+    /// use argus_guardian::{Access, Call, Change, Guardian, Refusal, Reply, Shared};
     /// use std::time::Duration;
     /// let guardian = Guardian::new()?;
     /// let object = guardian.declare("atomic_array[int]")?;
@@ -213,32 +218,50 @@ impl Shared {
     /// # Ok::<(), argus_guardian::Error>(())
     /// ```
     pub fn call_waiting(&self, call: &Call, patience: Duration) -> Result<Reply, Error> {
-        let (reply, _) = self.access(call, patience, Lineage::unknown)?;
+        let (_state, reply, _) = self.access(call, patience, Lineage::unknown)?;
         Ok(reply)
     }
 
-    // The same; the last argument returns an action's lineage. Also returns the circle for which the call is refused.
-    pub(crate) fn access(
+    // The answer to an access by an action of this `Shared`. If it is refused, the error says what is known of that.
+    #[inline]
+    pub(crate) fn answer(
+        &self,
+        call: &Call,
+        lineage_of: impl FnOnce(ActionId) -> Lineage,
+        object: &impl AsObject,
+    ) -> Result<Answer, Error> {
+        let (state, reply, deadlock) = self.access(call, self.patience, lineage_of)?;
+        match deadlock {
+            Some(deadlock) => Err(Error::Deadlock(deadlock)),
+            None => reply
+                .answer()
+                .map_err(|it| explained(&state.guardian, call, object, it)),
+        }
+    }
+
+    // Makes a call that may wait; the last argument returns an action's lineage. Also returns the circle for which the
+    // call is refused.
+    fn access(
         &self,
         call: &Call,
         patience: Duration,
         lineage_of: impl FnOnce(ActionId) -> Lineage,
-    ) -> Result<(Reply, Option<Deadlock>), Error> {
+    ) -> Result<(MutexGuard<'_, SharedState>, Reply, Option<Deadlock>), Error> {
         let mut state = self.lock();
         let mut reply = state.call(call);
         if reply != Ok(CONFLICT) || patience.is_zero() {
-            return Ok((reply?, None));
+            return Ok((state, reply?, None));
         }
         let Some(access) = WaitingAccess::by(call, lineage_of) else {
-            return Ok((reply?, None));
+            return Ok((state, reply?, None));
         };
         let goal = WaitGoal::Access(access);
-        let (_state, deadlock) = Shared::wait_while(state, goal, patience, |state| {
+        let (state, deadlock) = Shared::wait_while(state, goal, patience, |state| {
             reply = state.call(call);
             reply == Ok(CONFLICT)
         });
         let deadlock = deadlock.filter(|_| reply == Ok(CONFLICT));
-        Ok((reply?, deadlock))
+        Ok((state, reply?, deadlock))
     }
 
     /// Begins a topaction. It aborts when it is dropped, unless it has committed. While a thread is in
@@ -250,8 +273,7 @@ impl Shared {
     ///
     /// ```
     /// use argus_guardian::{Guardian, Shared};
-    /// use std::time::Duration;
-    /// let shared = Shared::new(Guardian::new()?, Duration::ZERO);
+    /// let shared = Shared::from(Guardian::new()?);
     /// shared.topaction()?.commit()?;
     /// # Ok::<(), argus_guardian::Error>(())
     /// ```
@@ -262,6 +284,7 @@ impl Shared {
             (state, _) = Shared::wait_while(state, WaitGoal::NoFolding, Duration::MAX, still);
         }
         let id = state.call(&Call::BeginTop)?.action()?;
+        state.growth.begin();
         Ok(SharedAction::of(self, id))
     }
 
@@ -283,30 +306,60 @@ impl Shared {
     /// own error says by [`MayConflict`] whether to try again.
     ///
     /// ```
-    /// use argus_guardian::{Change, Error, Guardian, Shared};
-    /// let guardian = Guardian::new()?;
-    /// let counter = guardian.declare("atomic_record[n:int]")?;
-    /// let shared = Shared::from(guardian);
-    /// shared.run(|top| top.alter(counter, Change::Create("{0}".parse()?))?.done())?;
+    /// use argus_guardian::{Access, Error, Guardian, Shared};
+    /// let shared = Shared::from(Guardian::new()?);
+    /// let counter = shared.named("counter", "atomic_record[n:int]")?;
+    /// shared.run(|top| top.create(&counter, (0,)))?;
     /// let count = shared.run(|top| {
-    ///     let count = i64::try_from(top.get(counter, 0)?)? + 1;
-    ///     top.set(counter, 0, count)?;
-    ///     Ok::<_, Error>(count)
+    ///     top.update(&counter, "n", |it: i64| it + 1)?;
+    ///     top.get::<i64>(&counter, "n")
     /// })?;
     /// assert_eq!(count, 1);
     /// # Ok::<(), Error>(())
     /// ```
     pub fn run<T, E: From<Error> + MayConflict>(
         &self,
+        work: impl FnMut(&SharedAction<'_>) -> Result<T, E>,
+    ) -> Result<T, E> {
+        self.run_if(E::is_conflict, work)
+    }
+
+    /// The same, for an error type that isn't a [`MayConflict`]: this function says whether to try again.
+    /// [`is_conflict`](crate::is_conflict) finds an [`Error`] in any error.
+    ///
+    /// # Errors
+    ///
+    /// As for [`run`](Self::run).
+    ///
+    /// With anyhow it is `shared.run_if(|it: &anyhow::Error| is_conflict(it.as_ref()), |top| ..)`, and here with a type
+    /// of this program:
+    ///
+    /// ```
+    /// use argus_guardian::{Access, Error, Guardian, Shared, is_conflict};
+    ///
+    /// #[derive(Debug)]
+    /// struct Failure(Box<dyn std::error::Error>);
+    ///
+    /// impl<E: std::error::Error + 'static> From<E> for Failure {
+    ///     fn from(error: E) -> Failure {
+    ///         Failure(error.into())
+    ///     }
+    /// }
+    ///
+    /// let shared = Shared::from(Guardian::new()?);
+    /// let counter = shared.named("counter", "atomic_record[n:int]")?;
+    /// shared.run_if(|it: &Failure| is_conflict(it.0.as_ref()), |top| {
+    ///     top.create(&counter, ("7".parse::<i64>()?,))?;
+    ///     Ok(())
+    /// })?;
+    /// # Ok::<(), Failure>(())
+    /// ```
+    pub fn run_if<T, E: From<Error>>(
+        &self,
+        is_conflict: impl Fn(&E) -> bool,
         mut work: impl FnMut(&SharedAction<'_>) -> Result<T, E>,
     ) -> Result<T, E> {
-        for wait in waits(Shared::TRIES - 1) {
-            match self.run_once(&mut work) {
-                Err(error) if error.is_conflict() => thread::sleep(wait),
-                result => return result,
-            }
-        }
-        self.run_once(&mut work)
+        retried(is_conflict, || self.run_once(&mut work))
     }
 
     fn run_once<T, E: From<Error>>(
@@ -320,7 +373,6 @@ impl Shared {
     }
 
     // Lends the guardian for questions only: no thread is woken.
-    #[cfg(all(feature = "logged", unix))]
     pub(crate) fn lend<T>(&self, what: impl FnOnce(&Guardian) -> T) -> T {
         what(&self.lock().guardian)
     }
@@ -365,12 +417,17 @@ impl Shared {
     }
 
     // The action is dropped: it is aborted now, or when this thread's `with` ends.
-    pub(crate) fn abort_dropped(&self, action: ActionId, topaction: Option<ActionId>) {
+    pub(crate) fn abort_dropped(
+        &self,
+        action: ActionId,
+        topaction: Option<ActionId>,
+        is_outermost: bool,
+    ) {
         if self.borrower.is_here() {
             self.borrower.drop_later(action);
         } else {
             // A drop can't report an error.
-            let _ = self.end(&Call::Abort(action), topaction);
+            let _ = self.end(&Call::Abort(action), topaction, is_outermost);
         }
     }
 
@@ -386,6 +443,25 @@ impl Shared {
     #[must_use]
     pub fn patience(&self) -> Duration {
         self.patience
+    }
+
+    /// The object of this name; if there is none, declares one of this shape: [`Guardian::named`].
+    ///
+    /// # Errors
+    ///
+    /// As there.
+    ///
+    /// ```
+    /// use argus_guardian::{Guardian, Shared};
+    /// let shared = Shared::from(Guardian::new()?);
+    /// let account = shared.named("account", "atomic_record[balance:int]")?;
+    /// assert_eq!(account.names(), ["balance"]);
+    /// # Ok::<(), argus_guardian::Error>(())
+    /// ```
+    pub fn named(&self, name: &str, shape: impl AsRef<str>) -> Result<Object, Error> {
+        // Not while the mutex is held, which would call the program's code.
+        let shape = shape.as_ref();
+        self.lend(|guardian| guardian.named(name, shape))
     }
 
     /// The guardian, which is no longer shared.

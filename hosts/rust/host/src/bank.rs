@@ -335,12 +335,12 @@ impl Bank {
             return Ok(TransferEnd::NoAccount);
         };
         let sub = top.subaction()?;
-        let Some(there) = i64::try_from(sub.get(to, 0)?)?.checked_add(it.amount) else {
+        let Some(there) = sub.get::<i64>(to, 0)?.checked_add(it.amount) else {
             sub.abort()?;
             return Ok(TransferEnd::TooMuch);
         };
         sub.set(to, 0, there)?;
-        let here = i64::try_from(sub.get(from, 0)?)?.checked_sub(it.amount);
+        let here = sub.get::<i64>(from, 0)?.checked_sub(it.amount);
         let Some(here) = here.filter(|here| *here >= 0 || it.from == OUTSIDE) else {
             sub.abort()?;
             return Ok(TransferEnd::TooLittle);

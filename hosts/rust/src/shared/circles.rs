@@ -157,31 +157,34 @@ impl<'w> Barrier<'w> {
 /// Actions that wait for one another in a circle, of which the first is refused.
 ///
 /// ```
-/// use argus_guardian::{Error, Guardian, Shared};
-/// let guardian = Guardian::new()?;
-/// let object = guardian.declare("atomic_array[int]")?;
-/// let shared = Shared::from(guardian);
+/// use argus_guardian::{Access, Error, Guardian, Shared};
+/// let shared = Shared::from(Guardian::new()?);
+/// let account = shared.named("account", "atomic_record[balance:int]")?;
 /// let top = shared.topaction()?;
-/// top.lock(object)?;
+/// top.lock(&account)?;
 /// // It would wait for the lock of the action that waits for its end.
 /// let nested = top.nested()?;
-/// let Err(Error::Deadlock(deadlock)) = nested.lock(object) else {
+/// let Err(Error::Deadlock(deadlock)) = nested.lock(&account) else {
 ///     panic!("it is refused at once");
 /// };
-/// assert_eq!(deadlock.waits(), [(nested.id(), object)]);
-/// assert_eq!(deadlock.to_string(), "a1 waits at o0 for an action around it");
+/// assert_eq!(deadlock.waits(), [(nested.id(), account.id())]);
+/// assert_eq!(deadlock.to_string(), "a2 waits at account for an action around it");
 /// # Ok::<(), Error>(())
 /// ```
 #[derive(Debug, Clone, PartialEq, Eq)]
 pub struct Deadlock {
     waits: Vec<(ActionId, ObjId)>,
+    // How their objects are called.
+    names: Vec<String>,
 }
 
 impl Deadlock {
-    pub(crate) fn of(circle: &[Stuck<'_>]) -> Deadlock {
+    pub(crate) fn of(circle: &[Stuck<'_>], guardian: &Guardian) -> Deadlock {
         let waits = circle.iter().map(|it| (it.access.action, it.access.object));
+        let names = circle.iter().map(|it| guardian.called(it.access.object));
         Deadlock {
             waits: waits.collect(),
+            names: names.collect(),
         }
     }
 
@@ -195,11 +198,17 @@ impl Deadlock {
 
 impl fmt::Display for Deadlock {
     fn fmt(&self, f: &mut fmt::Formatter<'_>) -> fmt::Result {
-        if let [(action, object)] = self.waits[..] {
+        let waits: Vec<_> = self
+            .waits
+            .iter()
+            .map(|(it, _)| it)
+            .zip(&self.names)
+            .collect();
+        if let [(action, object)] = waits[..] {
             return write!(f, "{action} waits at {object} for an action around it");
         }
-        let next = self.waits.iter().cycle().skip(1);
-        for (place, ((action, object), (other, _))) in self.waits.iter().zip(next).enumerate() {
+        let next = waits.iter().cycle().skip(1);
+        for (place, ((action, object), (other, _))) in waits.iter().zip(next).enumerate() {
             let (comma, waits) = if place == 0 {
                 ("", "waits ")
             } else {

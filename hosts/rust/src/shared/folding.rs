@@ -3,10 +3,122 @@
 use crate::error::CheckpointError;
 use crate::guardian::Guardian;
 use crate::shared::Shared;
+use crate::shared::state::SharedState;
 use crate::shared::waits::WaitGoal;
+use std::sync::PoisonError;
 use std::time::Duration;
 
+// How long a fold that is made by itself holds back topactions at most, where there is no quiet moment.
+const HOLD: Duration = Duration::from_millis(100);
+
+/// How far the journal of a shared guardian has grown since it was folded.
+#[derive(Debug)]
+pub(crate) struct Growth {
+    /// How many entries it has at least.
+    pub(crate) entries: u64,
+    // How many outermost actions are live that have guards.
+    live: u64,
+    // After how many entries it is folded by itself; and after how many topactions are held back for that.
+    after: Option<u64>,
+    hold_after: u64,
+}
+
+impl Growth {
+    pub(crate) fn of(guardian: &Guardian, after: Option<u64>) -> Growth {
+        Growth {
+            entries: guardian.entries() - guardian.first_entry(),
+            live: 0,
+            after,
+            hold_after: after.unwrap_or(0).saturating_mul(2),
+        }
+    }
+
+    /// An outermost action with a guard has begun.
+    pub(crate) fn begin(&mut self) {
+        self.live += 1;
+    }
+
+    // One has ended, with this number of an action. Whether a fold is due.
+    fn end(&mut self, number: u32) -> bool {
+        self.live = self.live.saturating_sub(1);
+        let is_half_used = number >= Guardian::MAX_ACTIONS / 2;
+        self.after
+            .is_some_and(|after| self.entries >= after || is_half_used)
+    }
+
+    fn reset(&mut self) {
+        self.entries = 0;
+        self.hold_after = self.after.unwrap_or(0).saturating_mul(2);
+    }
+}
+
+impl SharedState {
+    /// The outermost action of this number has ended. Folds the journal if that is due and no action is live. Whether
+    /// topactions have to be held back for it.
+    pub(crate) fn fold_if_due(&mut self, number: u32) -> bool {
+        if !self.growth.end(number) || self.folding > 0 {
+            return false;
+        }
+        // What comes of it isn't reported, since the action has ended. A later end tries again.
+        if self.growth.live == 0 && fold_what_is_read(&self.guardian).is_ok() {
+            self.growth.reset();
+            return false;
+        }
+        let holds = self.growth.entries >= self.growth.hold_after;
+        if holds {
+            self.growth.hold_after = self.growth.entries.saturating_mul(2);
+        }
+        holds
+    }
+}
+
+// Folds what a program has read, if it reads the lines of its journal; then it renews nothing, since a text of lines
+// ends at a renewal.
+fn fold_what_is_read(guardian: &Guardian) -> Result<(), CheckpointError> {
+    match guardian.lines_read.get() {
+        None => Shared::fold(guardian),
+        Some(read) if read >= guardian.entries() => guardian.checkpoint(),
+        Some(_) => Err(CheckpointError::Busy),
+    }
+}
+
 impl Shared {
+    /// After how many entries a `Shared` folds its journal by itself where nothing else is said.
+    pub const FOLD_AFTER: u64 = 100_000;
+
+    /// The same guardian, which folds its journal by itself after so many entries, or never.
+    ///
+    /// It does so when a topaction ends by its [`SharedAction`](crate::SharedAction) and no action is live, as
+    /// [`checkpoint`](Self::checkpoint) does: when half of the numbers for actions are used, it also renews the guardian.
+    /// If there is no such moment within as many entries again, the thread that has ended a topaction holds others back,
+    /// at most for a tenth of a second; then again when the journal is twice as long.
+    ///
+    /// Of a program that reads [`lines`](Guardian::lines) of the journal, it folds no entry that wasn't read, and renews
+    /// nothing.
+    ///
+    /// ```
+    /// use argus_guardian::{Guardian, Shared};
+    /// let shared = Shared::from(Guardian::new()?).fold_after(Some(10));
+    /// for _ in 0..5 {
+    ///     shared.topaction()?.commit()?;
+    /// }
+    /// assert_eq!(shared.with(Guardian::first_entry), 10);
+    /// # Ok::<(), argus_guardian::Error>(())
+    /// ```
+    #[must_use]
+    pub fn fold_after(mut self, entries: Option<u64>) -> Shared {
+        let state = self.state.get_mut();
+        let state = state.unwrap_or_else(PoisonError::into_inner);
+        state.growth = Growth::of(&state.guardian, entries);
+        self
+    }
+
+    // Holds topactions back until no action is live, and folds the journal.
+    pub(crate) fn fold_holding(&self) {
+        // What comes of it isn't reported, since the action has ended. A later end tries again.
+        let _ = self.fold_waiting(HOLD, fold_what_is_read);
+    }
+
     // Folds the journal. When half of the numbers for actions are used, it renews the guardian.
     pub(crate) fn fold(guardian: &Guardian) -> Result<(), CheckpointError> {
         if guardian.actions_left() > Guardian::MAX_ACTIONS / 2 {
@@ -46,7 +158,7 @@ impl Shared {
     /// # Ok::<(), argus_guardian::Error>(())
     /// ```
     pub fn checkpoint(&self) -> Result<(), CheckpointError> {
-        Shared::fold(&self.lock().guardian)
+        self.fold_waiting(Duration::ZERO, Shared::fold)
     }
 
     /// Folds the journal's entries when no action is live, as [`checkpoint`](Self::checkpoint)
@@ -81,6 +193,9 @@ impl Shared {
         let mut state = self.lock();
         let mut result = fold(&state.guardian);
         if !is_busy(&result) || patience.is_zero() {
+            if result.is_ok() {
+                state.growth.reset();
+            }
             return result;
         }
         state.folding += 1;
@@ -89,6 +204,9 @@ impl Shared {
             is_busy(&result)
         });
         state.folding -= 1;
+        if result.is_ok() {
+            state.growth.reset();
+        }
         state.wake();
         result
     }

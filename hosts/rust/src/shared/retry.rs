@@ -3,16 +3,18 @@
 use crate::error::Error;
 #[cfg(all(feature = "logged", unix))]
 use crate::log::LoggedError;
+use crate::shared::Shared;
 use std::hash::{BuildHasher, Hasher, RandomState};
 use std::time::Duration;
-use std::{error, iter};
+use std::{error, iter, thread};
 
 const FIRST: Duration = Duration::from_millis(1);
 const LONGEST: Duration = Duration::from_millis(100);
 
 /// An error by which [`Shared::run`](crate::Shared::run) and `Logged::run` know whether to try
-/// again. A box is asked if it has an [`Error`] or a `LoggedError`. A program's own error asks the
-/// [`Error`] that it carries:
+/// again. A box is asked if it has an [`Error`] or a `LoggedError`, itself or as a source. A program's own error asks
+/// the [`Error`] that it carries; one that has it as its source, by [`is_conflict`]. For a type of another crate there
+/// is [`run_if`](crate::Shared::run_if).
 ///
 /// ```
 /// use argus_guardian::{Error, MayConflict, Refusal};
@@ -54,8 +56,20 @@ impl MayConflict for Box<dyn error::Error + Send + Sync> {
     }
 }
 
-// Whether it is one of the crate's errors, and a refusal with `Conflict`.
-fn is_conflict(error: &(dyn error::Error + 'static)) -> bool {
+/// Whether an error, or one of its sources, is one of the crate's errors and a refusal with `Conflict`: for
+/// [`Shared::run_if`](crate::Shared::run_if), and for a [`MayConflict`] of an error that has a source.
+///
+/// ```
+/// use argus_guardian::{Error, Refusal, is_conflict};
+/// assert!(is_conflict(&Error::from(Refusal::Conflict)));
+/// assert!(!is_conflict(&std::fmt::Error));
+/// ```
+#[must_use]
+pub fn is_conflict(error: &(dyn error::Error + 'static)) -> bool {
+    iter::successors(Some(error), |it| it.source()).any(is_itself_conflict)
+}
+
+fn is_itself_conflict(error: &(dyn error::Error + 'static)) -> bool {
     #[cfg(all(feature = "logged", unix))]
     if let Some(error) = error.downcast_ref::<LoggedError>() {
         return error.is_conflict();
@@ -63,9 +77,24 @@ fn is_conflict(error: &(dyn error::Error + 'static)) -> bool {
     error.downcast_ref().is_some_and(Error::is_conflict)
 }
 
+/// The result of the work, which is carried out again while this function says that its error is a conflict, at most
+/// [`Shared::TRIES`](crate::Shared::TRIES) times in all.
+pub(crate) fn retried<T, E>(
+    is_conflict: impl Fn(&E) -> bool,
+    mut work: impl FnMut() -> Result<T, E>,
+) -> Result<T, E> {
+    for wait in waits(Shared::TRIES - 1) {
+        match work() {
+            Err(error) if is_conflict(&error) => thread::sleep(wait),
+            result => return result,
+        }
+    }
+    work()
+}
+
 /// A wait before each of so many more tries. Each is random, so that actions that met don't meet
 /// again: up to a millisecond at first, then up to twice as much each time, and no more than 100.
-pub(crate) fn waits(tries: usize) -> impl Iterator<Item = Duration> {
+fn waits(tries: usize) -> impl Iterator<Item = Duration> {
     iter::successors(Some(FIRST), |limit| Some((*limit * 2).min(LONGEST)))
         .map(drawn_below)
         .take(tries)

@@ -5,7 +5,9 @@ use crate::error::Error;
 use crate::guardian::Guardian;
 use crate::ids::ActionId;
 use crate::reply::{Answer, Reply};
+use crate::shared::Shared;
 use crate::shared::circles::{Deadlock, Stuck, circle_with};
+use crate::shared::folding::Growth;
 use crate::shared::waits::{WaitGoal, Waiter};
 use std::sync::atomic::{AtomicUsize, Ordering};
 use std::sync::{Arc, Condvar, Mutex, MutexGuard, PoisonError};
@@ -17,6 +19,8 @@ pub(crate) struct SharedState {
     pub(crate) guardian: Guardian,
     /// How many threads wait until no action is live, to fold the journal: meanwhile no topaction begins.
     pub(crate) folding: u32,
+    /// How far the journal has grown.
+    pub(crate) growth: Growth,
     // The threads that wait, in order of arrival.
     waiting: Vec<Waiter>,
     // The actions that can't end before these threads' accesses are made, sorted; once for each access.
@@ -28,6 +32,7 @@ pub(crate) struct SharedState {
 impl SharedState {
     pub(crate) fn new(guardian: Guardian) -> SharedState {
         SharedState {
+            growth: Growth::of(&guardian, Some(Shared::FOLD_AFTER)),
             guardian,
             folding: 0,
             waiting: Vec::new(),
@@ -40,6 +45,7 @@ impl SharedState {
     /// also waits, in another thread, circles are looked for.
     pub(crate) fn call(&mut self, call: &Call) -> Result<Reply, Error> {
         let reply = self.guardian.call(call)?;
+        self.growth.entries += 1;
         match call {
             Call::Commit(_) | Call::Abort(_) | Call::AbortOthers(_) => {
                 if reply == Reply::Answered(Answer::Done) {
@@ -182,7 +188,7 @@ impl SharedState {
         let mut circle = circle_with(&self.guardian, first, &all)?;
         let youngest = (0..circle.len()).max_by_key(|it| circle[*it].access.age())?;
         circle.rotate_left(youngest);
-        Some((circle[0].number, Deadlock::of(&circle)))
+        Some((circle[0].number, Deadlock::of(&circle, &self.guardian)))
     }
 }
 

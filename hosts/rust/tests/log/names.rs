@@ -2,7 +2,7 @@
 
 use crate::faults::Made;
 use argus_guardian::log::{LogFault, Logged, LoggedError, OpenError};
-use argus_guardian::{Change, Error, ObjId};
+use argus_guardian::{Access, Change, Error, ObjId};
 use std::thread;
 use std::time::Duration;
 
@@ -76,7 +76,7 @@ fn another_shape_is_refused() {
         .declare_named("list", "atomic_array[")
         .expect_err("no shape");
     assert!(
-        matches!(error, LoggedError::Guardian(Error::BadShape)),
+        matches!(error, LoggedError::Guardian(Error::BadShape(_))),
         "{error}"
     );
     assert_eq!(logged.objects().expect("told"), 1);
