@@ -54,7 +54,7 @@ impl FromStr for Payment {
 }
 
 fn int(action: &LoggedAction<'_>, record: ObjId) -> Result<i64, LoggedError> {
-    Ok(action.get::<i64>(record, 0)?)
+    action.get(record, 0)
 }
 
 // Carries out a client's order once, however often it is sent.

@@ -40,9 +40,9 @@ pub enum Error {
     /// The object of this name has another shape than the one that was asked for. Nothing was journalled.
     OtherShape {
         /// How the object is called.
-        object: String,
+        object: Box<str>,
         /// The written form of its shape.
-        shape: String,
+        shape: Box<str>,
     },
     /// The call of the list that should have begun the action isn't an earlier one, or began none.
     /// Nothing has changed, and nothing was journalled.

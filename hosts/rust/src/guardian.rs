@@ -46,8 +46,8 @@ pub struct Guardian {
     pub(crate) owner: Cell<Owner>,
     // The objects that have a name, if somebody has asked for one.
     pub(crate) names: Cell<Option<Box<Names>>>,
-    // Up to which entry the program has read the journal's lines; None if it reads none.
-    pub(crate) lines_read: Cell<Option<u64>>,
+    // Up to which entry the program has read the journal's lines; 0 if it reads none.
+    pub(crate) lines_read: Cell<u64>,
 }
 
 // SAFETY: it is proved that the archive's handle may go to another thread. It isn't `Sync`, so no two

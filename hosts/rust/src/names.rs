@@ -60,8 +60,8 @@ impl Guardian {
                 Ok(object)
             } else {
                 Err(Error::OtherShape {
-                    object: name.to_owned(),
-                    shape: object.shape().to_owned(),
+                    object: name.into(),
+                    shape: object.shape().into(),
                 })
             };
         }

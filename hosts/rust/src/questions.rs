@@ -333,8 +333,7 @@ impl Guardian {
         };
         match status {
             status::DONE | status::TOO_SMALL => {
-                let read = self.lines_read.get().unwrap_or(0);
-                self.lines_read.set(Some(read.max(from + count)));
+                self.lines_read.set(self.lines_read.get().max(from + count));
                 Ok(Lines { count, size })
             }
             other => Err(error_of(other, 0)),

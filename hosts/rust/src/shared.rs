@@ -461,7 +461,10 @@ impl Shared {
     pub fn named(&self, name: &str, shape: impl AsRef<str>) -> Result<Object, Error> {
         // Not while the mutex is held, which would call the program's code.
         let shape = shape.as_ref();
-        self.lend(|guardian| guardian.named(name, shape))
+        let mut state = self.lock();
+        let named = state.guardian.named(name, shape);
+        state.return_loan();
+        named
     }
 
     /// The guardian, which is no longer shared.
@@ -492,6 +495,7 @@ impl Drop for Loan<'_> {
             // A drop can't report an error.
             let _ = self.state.guardian.call(&Call::Abort(action));
         }
+        self.state.return_loan();
         // It may have ended other actions, too.
         self.state.wake();
     }

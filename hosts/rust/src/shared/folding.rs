@@ -14,7 +14,7 @@ const HOLD: Duration = Duration::from_millis(100);
 /// How far the journal of a shared guardian has grown since it was folded.
 #[derive(Debug)]
 pub(crate) struct Growth {
-    /// How many entries it has at least.
+    /// How many entries it has.
     pub(crate) entries: u64,
     // How many outermost actions are live that have guards.
     live: u64,
@@ -26,7 +26,7 @@ pub(crate) struct Growth {
 impl Growth {
     pub(crate) fn of(guardian: &Guardian, after: Option<u64>) -> Growth {
         Growth {
-            entries: guardian.entries() - guardian.first_entry(),
+            entries: length_of(guardian),
             live: 0,
             after,
             hold_after: after.unwrap_or(0).saturating_mul(2),
@@ -42,8 +42,11 @@ impl Growth {
     fn end(&mut self, number: u32) -> bool {
         self.live = self.live.saturating_sub(1);
         let is_half_used = number >= Guardian::MAX_ACTIONS / 2;
-        self.after
-            .is_some_and(|after| self.entries >= after || is_half_used)
+        self.is_due() || self.after.is_some() && is_half_used
+    }
+
+    fn is_due(&self) -> bool {
+        self.after.is_some_and(|after| self.entries >= after)
     }
 
     fn reset(&mut self) {
@@ -59,9 +62,7 @@ impl SharedState {
         if !self.growth.end(number) || self.folding > 0 {
             return false;
         }
-        // What comes of it isn't reported, since the action has ended. A later end tries again.
-        if self.growth.live == 0 && fold_what_is_read(&self.guardian).is_ok() {
-            self.growth.reset();
+        if self.growth.live == 0 && self.fold_now() {
             return false;
         }
         let holds = self.growth.entries >= self.growth.hold_after;
@@ -72,13 +73,38 @@ impl SharedState {
     }
 }
 
+impl SharedState {
+    /// The guardian was lent, and may have got entries. A program may have read lines that a fold has waited for.
+    pub(crate) fn return_loan(&mut self) {
+        self.growth.entries = length_of(&self.guardian);
+        let is_read = self.guardian.lines_read.get() == self.guardian.entries();
+        if is_read && self.growth.is_due() && self.folding == 0 {
+            self.fold_now();
+        }
+    }
+
+    // Whether it could. What comes of it isn't reported, since nobody has asked for it. A later call tries again.
+    fn fold_now(&mut self) -> bool {
+        let is_folded = fold_what_is_read(&self.guardian).is_ok();
+        if is_folded {
+            self.growth.reset();
+        }
+        is_folded
+    }
+}
+
+// How many entries its journal has.
+fn length_of(guardian: &Guardian) -> u64 {
+    guardian.entries() - guardian.first_entry()
+}
+
 // Folds what a program has read, if it reads the lines of its journal; then it renews nothing, since a text of lines
 // ends at a renewal.
 fn fold_what_is_read(guardian: &Guardian) -> Result<(), CheckpointError> {
     match guardian.lines_read.get() {
-        None => Shared::fold(guardian),
-        Some(read) if read >= guardian.entries() => guardian.checkpoint(),
-        Some(_) => Err(CheckpointError::Busy),
+        0 => Shared::fold(guardian),
+        read if read >= guardian.entries() => guardian.checkpoint(),
+        _ => Err(CheckpointError::Busy),
     }
 }
 

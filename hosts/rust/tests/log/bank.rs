@@ -30,7 +30,7 @@ pub fn last_of(client: u32) -> ObjId {
 }
 
 fn int(action: &LoggedAction<'_>, record: ObjId) -> Result<i64, LoggedError> {
-    Ok(action.get::<i64>(record, 0)?)
+    action.get(record, 0)
 }
 
 /// The number that a record holds for good.

@@ -3,7 +3,6 @@
 use crate::bank::{CLIENTS, carry_out, last_of, number};
 use crate::opened_bank::open_bank;
 use crate::scratch::Scratch;
-use argus_guardian::Access;
 use argus_guardian::log::{BatchLog, LogFault, LogOptions, Logged, OpenError, Opening, SqliteLog};
 use rusqlite::Connection;
 use std::collections::BTreeMap;

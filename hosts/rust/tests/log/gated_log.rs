@@ -1,6 +1,5 @@
 //! `GatedLog`: a log in memory, whose writes a test lets through one by one.
 
-use argus_guardian::Access;
 use argus_guardian::log::{BatchLog, EntryLines, Failure, Opening};
 use std::io;
 use std::sync::mpsc::{Receiver, Sender, channel};

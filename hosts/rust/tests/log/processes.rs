@@ -4,7 +4,6 @@ use crate::bank::{carry_out, last_of, number};
 use crate::child::Child;
 use crate::faults::{Made, with};
 use crate::opened_bank::{OPTIONS, open_bank};
-use argus_guardian::Access;
 use argus_guardian::log::{LogFault, LogOptions, Logged, LoggedError, OpenError};
 use rusqlite::Connection;
 use std::os::unix::process::CommandExt;
