@@ -56,6 +56,29 @@ impl FromValue for Value {
     }
 }
 
+impl Content {
+    /// The content as this type.
+    ///
+    /// # Errors
+    ///
+    /// [`Error::OtherAnswer`] if it is of another kind.
+    ///
+    /// ```
+    /// use argus_guardian::{Access, Guardian};
+    /// let mut guardian = Guardian::new()?;
+    /// let account = guardian.named("account", "atomic_record[balance:int]")?;
+    /// let top = guardian.topaction()?;
+    /// top.create(&account, (5,))?;
+    /// top.commit()?;
+    /// let (balance,): (i64,) = guardian.base(&account)?.expect("it was created").read()?;
+    /// assert_eq!(balance, 5);
+    /// # Ok::<(), argus_guardian::Error>(())
+    /// ```
+    pub fn read<T: FromContent>(self) -> Result<T, Error> {
+        T::from_content(self)
+    }
+}
+
 impl FromContent for Content {
     fn from_content(content: Content) -> Result<Content, Error> {
         Ok(content)

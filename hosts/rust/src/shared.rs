@@ -16,7 +16,6 @@ use crate::object::{AsObject, Object};
 use crate::reply::{Answer, Refusal, Reply};
 use crate::shared::action::SharedAction;
 use crate::shared::circles::Deadlock;
-use crate::shared::retry::{MayConflict, retried};
 use crate::shared::state::{Borrower, SharedState};
 use crate::shared::waits::{Lineage, WaitGoal, WaitingAccess};
 use std::sync::{Mutex, MutexGuard, PoisonError};
@@ -171,14 +170,9 @@ impl Shared {
         is_outermost: bool,
     ) -> Result<(), Error> {
         let mut state = self.lock();
-        state.call(call)?.answer()?.done()?;
-        if let Some(topaction) = topaction {
-            state.break_circles_within(topaction);
-        }
-        let number = call.action().map_or(0, ActionId::number);
-        if is_outermost && state.fold_if_due(number) {
-            drop(state);
-            self.fold_holding();
+        state.end(call, topaction)?;
+        if is_outermost {
+            self.fold_ended(call, state);
         }
         Ok(())
     }
@@ -288,90 +282,6 @@ impl Shared {
         Ok(SharedAction::of(self, id))
     }
 
-    /// How often [`run`](Self::run) tries at most.
-    pub const TRIES: usize = 20;
-
-    /// Carries out the work as a topaction, which commits if the work returns `Ok`. At a refusal
-    /// with `Conflict` the topaction is aborted, and tried again after a wait: up to a millisecond
-    /// at first, up to twice as much each time, and no more than 100, [`Shared::TRIES`] times in
-    /// all.
-    ///
-    /// **The work may run more than once**, so it must do nothing outside the guardian that mustn't
-    /// be done twice, and begin no nested topaction that mustn't: each try commits it again.
-    ///
-    /// # Errors
-    ///
-    /// The error that the work returns, after which the topaction is aborted; the `Conflict` of the
-    /// last try; as for [`topaction`](Self::topaction) and [`SharedAction::commit`]. A program's
-    /// own error says by [`MayConflict`] whether to try again.
-    ///
-    /// ```
-    /// use argus_guardian::{Access, Error, Guardian, Shared};
-    /// let shared = Shared::from(Guardian::new()?);
-    /// let counter = shared.named("counter", "atomic_record[n:int]")?;
-    /// shared.run(|top| top.create(&counter, (0,)))?;
-    /// let count = shared.run(|top| {
-    ///     top.update(&counter, "n", |it: i64| it + 1)?;
-    ///     top.get::<i64>(&counter, "n")
-    /// })?;
-    /// assert_eq!(count, 1);
-    /// # Ok::<(), Error>(())
-    /// ```
-    pub fn run<T, E: From<Error> + MayConflict>(
-        &self,
-        work: impl FnMut(&SharedAction<'_>) -> Result<T, E>,
-    ) -> Result<T, E> {
-        self.run_if(E::is_conflict, work)
-    }
-
-    /// The same, for an error type that isn't a [`MayConflict`]: this function says whether to try again.
-    /// [`is_conflict`](crate::is_conflict) finds an [`Error`] in any error.
-    ///
-    /// # Errors
-    ///
-    /// As for [`run`](Self::run).
-    ///
-    /// With anyhow it is `shared.run_if(|it: &anyhow::Error| is_conflict(it.as_ref()), |top| ..)`, and here with a type
-    /// of this program:
-    ///
-    /// ```
-    /// use argus_guardian::{Access, Error, Guardian, Shared, is_conflict};
-    ///
-    /// #[derive(Debug)]
-    /// struct Failure(Box<dyn std::error::Error>);
-    ///
-    /// impl<E: std::error::Error + 'static> From<E> for Failure {
-    ///     fn from(error: E) -> Failure {
-    ///         Failure(error.into())
-    ///     }
-    /// }
-    ///
-    /// let shared = Shared::from(Guardian::new()?);
-    /// let counter = shared.named("counter", "atomic_record[n:int]")?;
-    /// shared.run_if(|it: &Failure| is_conflict(it.0.as_ref()), |top| {
-    ///     top.create(&counter, ("7".parse::<i64>()?,))?;
-    ///     Ok(())
-    /// })?;
-    /// # Ok::<(), Failure>(())
-    /// ```
-    pub fn run_if<T, E: From<Error>>(
-        &self,
-        is_conflict: impl Fn(&E) -> bool,
-        mut work: impl FnMut(&SharedAction<'_>) -> Result<T, E>,
-    ) -> Result<T, E> {
-        retried(is_conflict, || self.run_once(&mut work))
-    }
-
-    fn run_once<T, E: From<Error>>(
-        &self,
-        work: &mut impl FnMut(&SharedAction<'_>) -> Result<T, E>,
-    ) -> Result<T, E> {
-        let top = self.topaction()?;
-        let result = work(&top)?;
-        top.commit()?;
-        Ok(result)
-    }
-
     // Lends the guardian for questions only: no thread is woken.
     pub(crate) fn lend<T>(&self, what: impl FnOnce(&Guardian) -> T) -> T {
         what(&self.lock().guardian)
@@ -424,10 +334,14 @@ impl Shared {
         is_outermost: bool,
     ) {
         if self.borrower.is_here() {
-            self.borrower.drop_later(action);
-        } else {
-            // A drop can't report an error.
-            let _ = self.end(&Call::Abort(action), topaction, is_outermost);
+            return self.borrower.drop_later(action);
+        }
+        let abort = Call::Abort(action);
+        let mut state = self.lock();
+        // A drop can't report an error. Where it was over before, its guard is gone all the same.
+        let _ = state.end(&abort, topaction);
+        if is_outermost {
+            self.fold_ended(&abort, state);
         }
     }
 

@@ -1,6 +1,6 @@
 //! A shared guardian folds its journal and numbers its actions from 0 again by itself.
 
-use argus_guardian::{Access, ActionId, Error, Guardian, Object, Shared};
+use argus_guardian::{Access, ActionId, Call, Error, Guardian, Object, Shared};
 use std::thread;
 use std::time::{Duration, Instant};
 
@@ -53,6 +53,23 @@ fn an_action_that_is_dropped_folds_too() -> Result<(), Error> {
     for _ in 0..100 {
         drop(shared.topaction()?);
         assert!(length(&shared) < 10);
+    }
+    Ok(())
+}
+
+#[test]
+fn guards_of_actions_that_are_over_put_nothing_off() -> Result<(), Error> {
+    let (shared, _) = with_record(Some(50))?;
+    let ended = shared.topaction()?;
+    let dropped_inside = shared.topaction()?;
+    shared.with(|guardian| {
+        drop(dropped_inside);
+        guardian.call(&Call::Abort(ended.id())).map(drop)
+    })?;
+    assert!(ended.commit().is_err());
+    for _ in 0..100 {
+        shared.topaction()?.commit()?;
+        assert!(length(&shared) < 50);
     }
     Ok(())
 }

@@ -220,7 +220,7 @@ fn any_error_type_is_tried_again_where_a_function_says_so() -> Result<(), Error>
         }
         Ok::<_, AnyError>("sold".parse::<i64>()?)
     });
-    let error = result.err().expect("it is no number");
+    let error = result.expect_err("it is no number");
     assert!(!may_conflict(&error));
     assert_eq!(
         (tried, error.0.to_string().as_str()),

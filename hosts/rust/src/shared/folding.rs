@@ -1,11 +1,13 @@
 //! How a guardian that threads share folds its journal, and numbers its actions from 0 again.
 
+use crate::call::Call;
 use crate::error::CheckpointError;
 use crate::guardian::Guardian;
+use crate::ids::ActionId;
 use crate::shared::Shared;
 use crate::shared::state::SharedState;
 use crate::shared::waits::WaitGoal;
-use std::sync::PoisonError;
+use std::sync::{MutexGuard, PoisonError};
 use std::time::Duration;
 
 // How long a fold that is made by itself holds back topactions at most, where there is no quiet moment.
@@ -49,8 +51,10 @@ impl Growth {
         self.after.is_some_and(|after| self.entries >= after)
     }
 
+    // The journal is folded, so no action is live.
     fn reset(&mut self) {
         self.entries = 0;
+        self.live = 0;
         self.hold_after = self.after.unwrap_or(0).saturating_mul(2);
     }
 }
@@ -77,6 +81,9 @@ impl SharedState {
     /// The guardian was lent, and may have got entries. A program may have read lines that a fold has waited for.
     pub(crate) fn return_loan(&mut self) {
         self.growth.entries = length_of(&self.guardian);
+        if self.guardian.live(0).is_none() {
+            self.growth.live = 0;
+        }
         let is_read = self.guardian.lines_read.get() == self.guardian.entries();
         if is_read && self.growth.is_due() && self.folding == 0 {
             self.fold_now();
@@ -139,10 +146,14 @@ impl Shared {
         self
     }
 
-    // Holds topactions back until no action is live, and folds the journal.
-    pub(crate) fn fold_holding(&self) {
-        // What comes of it isn't reported, since the action has ended. A later end tries again.
-        let _ = self.fold_waiting(HOLD, fold_what_is_read);
+    // The guard of an outermost action is gone, after this call: folds the journal, if that is due.
+    pub(crate) fn fold_ended(&self, call: &Call, mut state: MutexGuard<'_, SharedState>) {
+        let number = call.action().map_or(0, ActionId::number);
+        if state.fold_if_due(number) {
+            drop(state);
+            // What comes of it isn't reported, since the action has ended. A later end tries again.
+            let _ = self.fold_waiting(HOLD, fold_what_is_read);
+        }
     }
 
     // Folds the journal. When half of the numbers for actions are used, it renews the guardian.

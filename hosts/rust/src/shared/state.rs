@@ -65,6 +65,15 @@ impl SharedState {
         Ok(reply)
     }
 
+    /// Ends an action. If that is a subaction, its topaction is named.
+    pub(crate) fn end(&mut self, call: &Call, topaction: Option<ActionId>) -> Result<(), Error> {
+        self.call(call)?.answer()?.done()?;
+        if let Some(topaction) = topaction {
+            self.break_circles_within(topaction);
+        }
+        Ok(())
+    }
+
     /// This thread waits for that from now on. Returns its number, and the condition on which it waits.
     pub(crate) fn join(&mut self, goal: WaitGoal) -> (u64, Arc<Condvar>) {
         let condition = Arc::new(Condvar::new());
