@@ -1,6 +1,6 @@
 //! `Access`: what an action does with objects, said once for all kinds of actions.
 
-use crate::access_error::{Held, IllTyped, OtherType};
+use crate::access_error::{Contention, TypeFault, TypeMismatch};
 use crate::call::{Call, Change, Query};
 use crate::conversion::{FromContent, FromValue};
 use crate::error::Error;
@@ -132,7 +132,7 @@ pub trait Access: Caller {
         if let Some(fields) = T::FIELDS {
             let found = self.find(&object)?;
             if found.names() != fields {
-                let other = OtherType::of(&found, Query::Whole, type_name::<T>());
+                let other = TypeMismatch::of(&found, Query::Whole, type_name::<T>());
                 return Err(Error::from(other).into());
             }
         }
@@ -316,7 +316,7 @@ pub trait Access: Caller {
     #[cold]
     fn other_type<T, R>(&self, object: &impl AsObject, query: Query) -> Result<R, Self::Error> {
         let found = self.find(object)?;
-        Err(Error::from(OtherType::of(&found, query, type_name::<T>())).into())
+        Err(Error::from(TypeMismatch::of(&found, query, type_name::<T>())).into())
     }
 }
 
@@ -345,8 +345,8 @@ pub(crate) fn explained(
         return error;
     };
     if refusal == Refusal::IllTyped {
-        IllTyped::of(call, &found).into()
+        TypeFault::of(call, &found).into()
     } else {
-        Held::of(guardian, call, &found).into()
+        Contention::of(guardian, call, &found).into()
     }
 }

@@ -24,21 +24,23 @@ use std::fmt;
 /// # Ok::<(), Error>(())
 /// ```
 #[derive(Debug, Clone, PartialEq, Eq)]
-pub struct Held {
+pub struct Contention {
     wish: Wish,
     holders: Vec<ActionId>,
 }
 
-impl Held {
+impl Contention {
     // Who holds the object when the call has been refused. If there is no memory to ask, nobody is named.
-    pub(crate) fn of(guardian: &Guardian, call: &Call, object: &Object) -> Held {
-        let mut holders = guardian.writers(object.id()).unwrap_or_default();
-        holders.extend(guardian.readers(object.id()).unwrap_or_default());
+    pub(crate) fn of(guardian: &Guardian, call: &Call, object: &Object) -> Contention {
         let wish = Wish::of(call, object);
+        let mut holders = guardian.writers(object.id()).unwrap_or_default();
+        if wish.writes {
+            holders.extend(guardian.readers(object.id()).unwrap_or_default());
+        }
         holders.retain(|it| *it != wish.action);
         holders.sort_unstable();
         holders.dedup();
-        Held { wish, holders }
+        Contention { wish, holders }
     }
 
     /// The object.
@@ -47,14 +49,15 @@ impl Held {
         self.wish.object
     }
 
-    /// The other actions that held it then, in increasing number. Ancestors may be among them, which kept nobody out.
+    /// The other actions that held it then, for writing, or also for reading where the access was to change it; in
+    /// increasing number. Ancestors of the action may be among them, which kept nobody out.
     #[must_use]
     pub fn holders(&self) -> &[ActionId] {
         &self.holders
     }
 }
 
-impl fmt::Display for Held {
+impl fmt::Display for Contention {
     fn fmt(&self, f: &mut fmt::Formatter<'_>) -> fmt::Result {
         write!(f, "{}, held by ", self.wish)?;
         if self.holders.is_empty() {
@@ -68,8 +71,8 @@ impl fmt::Display for Held {
     }
 }
 
-impl From<Held> for Error {
-    fn from(held: Held) -> Error {
+impl From<Contention> for Error {
+    fn from(held: Contention) -> Error {
         Error::Held(Box::new(held))
     }
 }
@@ -88,15 +91,15 @@ impl From<Held> for Error {
 /// # Ok::<(), Error>(())
 /// ```
 #[derive(Debug, Clone, PartialEq, Eq)]
-pub struct IllTyped {
+pub struct TypeFault {
     wish: Wish,
     operation: String,
     expected: String,
 }
 
-impl IllTyped {
-    pub(crate) fn of(call: &Call, object: &Object) -> IllTyped {
-        IllTyped {
+impl TypeFault {
+    pub(crate) fn of(call: &Call, object: &Object) -> TypeFault {
+        TypeFault {
             wish: Wish::of(call, object),
             operation: operation_of(call),
             expected: object.place_of(call),
@@ -116,30 +119,30 @@ impl IllTyped {
     }
 }
 
-impl fmt::Display for IllTyped {
+impl fmt::Display for TypeFault {
     fn fmt(&self, f: &mut fmt::Formatter<'_>) -> fmt::Result {
         write!(f, "{} by {}: {}", self.wish, self.operation, self.expected)
     }
 }
 
-impl From<IllTyped> for Error {
-    fn from(fault: IllTyped) -> Error {
+impl From<TypeFault> for Error {
+    fn from(fault: TypeFault) -> Error {
         Error::IllTyped(Box::new(fault))
     }
 }
 
 /// A value that was read, and isn't of the type that was asked for. The read is in the journal.
 #[derive(Debug, Clone, PartialEq, Eq)]
-pub struct OtherType {
+pub struct TypeMismatch {
     object: String,
     place: String,
     wanted: &'static str,
 }
 
-impl OtherType {
-    pub(crate) fn of(object: &Object, query: Query, wanted: &'static str) -> OtherType {
+impl TypeMismatch {
+    pub(crate) fn of(object: &Object, query: Query, wanted: &'static str) -> TypeMismatch {
         let call = Call::Ask(ActionId::numbered(0), object.id(), query);
-        OtherType {
+        TypeMismatch {
             object: object.to_string(),
             place: object.place_of(&call),
             wanted,
@@ -147,7 +150,7 @@ impl OtherType {
     }
 }
 
-impl fmt::Display for OtherType {
+impl fmt::Display for TypeMismatch {
     fn fmt(&self, f: &mut fmt::Formatter<'_>) -> fmt::Result {
         // A plain name without its modules.
         let plain = self.wanted.rsplit("::").next();
@@ -157,24 +160,24 @@ impl fmt::Display for OtherType {
     }
 }
 
-impl From<OtherType> for Error {
-    fn from(fault: OtherType) -> Error {
+impl From<TypeMismatch> for Error {
+    fn from(fault: TypeMismatch) -> Error {
         Error::OtherType(Box::new(fault))
     }
 }
 
 /// A name that the object's shape hasn't got. No call was made.
 #[derive(Debug, Clone, PartialEq, Eq)]
-pub struct NoName {
+pub struct NameFault {
     object: String,
     name: String,
     shape: String,
 }
 
-impl NoName {
+impl NameFault {
     #[cold]
-    pub(crate) fn of(object: &Object, name: &str) -> NoName {
-        NoName {
+    pub(crate) fn of(object: &Object, name: &str) -> NameFault {
+        NameFault {
             object: object.to_string(),
             name: name.to_owned(),
             shape: object.shape().to_owned(),
@@ -188,9 +191,9 @@ impl NoName {
     }
 }
 
-impl fmt::Display for NoName {
+impl fmt::Display for NameFault {
     fn fmt(&self, f: &mut fmt::Formatter<'_>) -> fmt::Result {
-        let NoName {
+        let NameFault {
             object,
             name,
             shape,
@@ -199,8 +202,8 @@ impl fmt::Display for NoName {
     }
 }
 
-impl From<NoName> for Error {
-    fn from(fault: NoName) -> Error {
+impl From<NameFault> for Error {
+    fn from(fault: NameFault) -> Error {
         Error::NoName(Box::new(fault))
     }
 }

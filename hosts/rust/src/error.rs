@@ -1,6 +1,6 @@
 //! Why calls of this crate fail.
 
-use crate::access_error::{Held, IllTyped, NoName, OtherType};
+use crate::access_error::{Contention, NameFault, TypeFault, TypeMismatch};
 use crate::reply::{Refusal, Signal};
 use crate::resumption::LineFault;
 use crate::shape::ShapeFault;
@@ -36,7 +36,7 @@ pub enum Error {
     /// The object isn't declared, or no entry has this number, or a checkpoint has folded it.
     NotThere,
     /// The object's shape has no field or tag of this name. Nothing was journalled.
-    NoName(Box<NoName>),
+    NoName(Box<NameFault>),
     /// The object of this name has another shape than the one that was asked for. Nothing was journalled.
     OtherShape {
         /// How the object is called.
@@ -59,10 +59,10 @@ pub enum Error {
     TooMany(Limit),
     /// The guardian has refused an action's access with `IllTyped`: what the object's shape has there. The journal has
     /// the refusal.
-    IllTyped(Box<IllTyped>),
+    IllTyped(Box<TypeFault>),
     /// The guardian has refused an action's access with `Conflict`, at the end of patience: who holds the object. The
     /// journal has the refusal.
-    Held(Box<Held>),
+    Held(Box<Contention>),
     /// The guardian has refused the call with `Conflict`, and the call doesn't wait: the action and others would wait for
     /// one another in a circle. The journal has the refusal.
     Deadlock(Deadlock),
@@ -75,7 +75,7 @@ pub enum Error {
     /// The answer isn't of the kind that was asked for. It is in the journal.
     OtherAnswer,
     /// The value that was read isn't of the type that was asked for. The read is in the journal.
-    OtherType(Box<OtherType>),
+    OtherType(Box<TypeMismatch>),
     /// The library returned a number that this crate doesn't know: their versions differ.
     Unknown(u32),
     /// The library has another version than the crate: this one.

@@ -56,7 +56,7 @@ mod views;
 mod written_form;
 
 pub use access::Access;
-pub use access_error::{Held, IllTyped, NoName, OtherType};
+pub use access_error::{Contention, NameFault, TypeFault, TypeMismatch};
 pub use action::Action;
 use argus_guardian_sys as sys;
 pub use call::{Call, Change, Query};
@@ -74,7 +74,10 @@ pub use ready_commit::{NotReady, ReadyCommit};
 pub use record::struct_of;
 pub use record::{FieldType, Record};
 pub use reply::{Answer, Refusal, Reply, Signal};
-pub use resumption::{LineFault, Opened, Resuming, Taken, TakenEnd};
+pub use resumption::{LineFault, RestoredGuardian, Resumption, TakenEnd, TakenLines};
+// Their names until now.
+#[doc(hidden)]
+pub use resumption::{RestoredGuardian as Opened, Resumption as Resuming, TakenLines as Taken};
 pub use shape::ShapeFault;
 pub use shared::Shared;
 pub use shared::action::SharedAction;

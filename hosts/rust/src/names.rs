@@ -41,7 +41,7 @@ impl Guardian {
     /// # Errors
     ///
     /// [`Error::OtherShape`] if the object has another shape; [`Error::BadShape`]; [`Error::TooMany`];
-    /// [`Error::Held`] if an action of the program has locked a catalogue; [`Error::OutOfMemory`]. Then
+    /// [`Error::Refused`] with `Conflict` if an action has locked a catalogue; [`Error::OutOfMemory`]. Then
     /// no object has got the name, but one may have been declared.
     ///
     /// ```

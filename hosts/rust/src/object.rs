@@ -1,6 +1,6 @@
 //! `Object`: an object with the names and types that its shape has; what names one to an access.
 
-use crate::access_error::NoName;
+use crate::access_error::NameFault;
 use crate::call::Call;
 use crate::error::Error;
 use crate::ids::ObjId;
@@ -127,7 +127,7 @@ impl Object {
         let place = self.shape.names.iter().position(|it| it == name);
         place
             .and_then(|place| u8::try_from(place).ok())
-            .ok_or_else(|| NoName::of(self, name).into())
+            .ok_or_else(|| NameFault::of(self, name).into())
     }
 
     /// What its shape has where a call accesses it, as in `field balance is int`.

@@ -9,7 +9,7 @@ use crate::log::journal_queue::Goal;
 use crate::log::logged_action::LoggedAction;
 use crate::log::logged_error::LoggedError;
 use crate::log::open_error::OpenError;
-use crate::object::Object;
+use crate::object::{AsObject, Object};
 use crate::questions::Listing;
 use crate::shared::Shared;
 use crate::shared::action::SharedAction;
@@ -48,10 +48,10 @@ const AGAIN: u64 = 10_000;
 /// # let path = std::env::temp_dir().join(format!("argus-bank-{}.db", std::process::id()));
 /// let bank = Logged::open_or_create(&path).expect("a new log, or all that the log has");
 /// let account = bank.named("account", "atomic_record[balance:int]")?;
-/// if bank.base(account.id())?.is_none() {
+/// if bank.base(&account)?.is_none() {
 ///     bank.run(|top| top.create(&account, (5,)))?; // Ok: it is on disk
 /// }
-/// assert_eq!(bank.base(account.id())?, Some((5,).into()));
+/// assert_eq!(bank.base(&account)?, Some((5,).into()));
 /// # drop(bank);
 /// # std::fs::remove_file(&path).expect("removed");
 /// # std::fs::remove_file(path.with_extension("db-owner")).expect("removed");
@@ -317,7 +317,8 @@ impl Logged {
     /// # Errors
     ///
     /// As for [`Guardian::base`]; [`LoggedError::Broken`]; [`LoggedError::InDoubt`].
-    pub fn base(&self, object: ObjId) -> Result<Option<Content>, LoggedError> {
+    pub fn base(&self, object: impl AsObject) -> Result<Option<Content>, LoggedError> {
+        let object = object.id();
         self.acknowledged(|guardian| guardian.base(object))
     }
 
