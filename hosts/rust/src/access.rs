@@ -12,7 +12,8 @@ use crate::value::{Content, Value};
 use crate::views::{ArrayView, VariantView};
 use std::any::type_name;
 
-/// How a kind of action makes calls. Only this crate's actions are some.
+/// How a kind of action makes calls. It has no public name, so that only this crate's actions are some: others could
+/// make calls that are no accesses.
 pub trait Caller {
     /// Why calls fail.
     type Error: From<Error>;
@@ -30,8 +31,8 @@ pub trait Caller {
 /// What an action does with objects: [`Action`](crate::Action), [`SharedAction`](crate::SharedAction) and
 /// `log::LoggedAction` have these methods, so a function over `&impl Access` works with each.
 ///
-/// An object is named by its [`Object`] or its [`ObjId`](crate::ObjId), a field by its name or its number, from 0. A name
-/// with an id alone costs a question for the shape each time; a handle knows its names.
+/// An object is named by its [`Object`] or its [`ObjId`](crate::ObjId), a field by its name or its number, from 0.
+/// A name with an id alone costs a question for the shape each time; a handle knows its names.
 ///
 /// Each access takes its lock, and the action keeps it to its end: a read lock to look, the write lock to change. The
 /// other kinds than [`Action`](crate::Action) wait for it until patience ends.
@@ -57,12 +58,16 @@ pub trait Caller {
 ///
 /// # Errors
 ///
-/// Each method fails with [`Error::Refused`]: `Over`, `Suspended` or `NoObject`; with [`Error::IllTyped`]: the operation
-/// or the value doesn't suit the shape; with [`Error::Held`] or [`Error::Deadlock`], of which
-/// [`is_conflict`](Error::is_conflict) is true; with [`Error::OtherGuardian`]: an id or a reference is another
-/// guardian's; with [`Error::OutOfMemory`] or [`Error::NoRoom`]. Those that return no [`Answer`] fail with
-/// [`Error::Signal`] in place of one; those that take a name, with [`Error::NoName`]; those that read, with
-/// [`Error::OtherType`]. A `LoggedAction` also fails with `LoggedError::Broken`.
+/// The type of errors is [`Error`], and `LoggedError` for a `LoggedAction`. Each method fails with
+///
+/// - [`Error::Refused`]: `Over`, `Suspended` or `NoObject`;
+/// - [`Error::IllTyped`]: the operation or the value doesn't suit the shape;
+/// - [`Error::Held`] or [`Error::Deadlock`], of which [`is_conflict`](Error::is_conflict) is true;
+/// - [`Error::OtherGuardian`]: an id or a reference is another guardian's;
+/// - [`Error::OutOfMemory`] or [`Error::NoRoom`]; of a `LoggedAction` also `LoggedError::Broken`.
+///
+/// Those that return no [`Answer`] fail with [`Error::Signal`] in place of one; those that take a name, with
+/// [`Error::NoName`]; those that read, with [`Error::OtherType`].
 #[allow(clippy::missing_errors_doc, reason = "the trait says how each fails")]
 pub trait Access: Caller {
     /// Looks at an object. The answer may be a signal.
@@ -190,8 +195,8 @@ pub trait Access: Caller {
         Ok(self.alter(object, change)?.done()?)
     }
 
-    /// Sets a field of a record to what the change makes of it. It takes the write lock before it reads, so two that do
-    /// this at once take turns.
+    /// Sets a field of a record to what the change makes of it. It takes the write lock before it reads, so two that
+    /// do this at once take turns.
     ///
     /// ```
     /// use argus_guardian::{Access, Guardian};

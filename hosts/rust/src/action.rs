@@ -93,13 +93,26 @@ impl<'g> Action<'g> {
     ///
     /// # Errors
     ///
-    /// [`Error::Refused`] with `TooDeep` or `TooMany`; [`Error::OutOfMemory`].
+    /// [`Error::Refused`] with `TooDeep`; [`Error::TooMany`]; [`Error::OutOfMemory`].
     ///
     /// ```
     /// let mut guardian = argus_guardian::Guardian::new()?;
     /// let mut top = guardian.topaction()?;
     /// top.subaction()?.commit()?;
     /// top.commit()?;
+    /// # Ok::<(), argus_guardian::Error>(())
+    /// ```
+    ///
+    /// An action is suspended while it has a subaction, and can't be used:
+    ///
+    /// ```compile_fail,E0502
+    /// use argus_guardian::{Access, Guardian};
+    /// let mut guardian = Guardian::new()?;
+    /// let account = guardian.named("account", "atomic_record[balance:int]")?;
+    /// let mut top = guardian.topaction()?;
+    /// let sub = top.subaction()?;
+    /// top.lock(&account)?;
+    /// sub.commit()?;
     /// # Ok::<(), argus_guardian::Error>(())
     /// ```
     pub fn subaction(&mut self) -> Result<Action<'_>, Error> {
@@ -110,7 +123,7 @@ impl<'g> Action<'g> {
     ///
     /// # Errors
     ///
-    /// [`Error::Refused`] with `TooMany`; [`Error::OutOfMemory`].
+    /// [`Error::TooMany`]; [`Error::OutOfMemory`].
     ///
     /// ```
     /// use argus_guardian::{Access, Guardian};

@@ -22,10 +22,13 @@
 //! # Ok::<(), Error>(())
 //! ```
 //!
+//! What an action does with objects is in the trait [`Access`]. [`Shared`] is a guardian that
+//! threads share, by std's `Mutex` and `Condvar`.
+//!
 //! The archive is proved: each reply follows from the journal before the call (the repository's
-//! README says it in full). What an action does with objects is in the trait [`Access`]. This crate isn't proved: it calls the archive, reads its texts, and
-//! keeps actions in guards. [`Shared`] adds std's `Mutex` and `Condvar`; it isn't proved either,
-//! neither that its waits end nor that they wait only for what they say.
+//! README says it in full). This crate isn't proved: it calls the archive, reads its texts, and
+//! keeps actions in guards. Nor is it proved of [`Shared`] that its waits end, or that they wait
+//! only for what they say.
 
 #![deny(missing_docs)]
 

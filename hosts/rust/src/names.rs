@@ -96,13 +96,13 @@ impl Guardian {
         Ok(found)
     }
 
-    /// How the object is called: by its name if that is known, or by its number.
-    pub(crate) fn called(&self, object: ObjId) -> String {
+    /// The name of the object, if it has one and somebody has asked for a name before.
+    pub(crate) fn name_of(&self, object: ObjId) -> Option<String> {
         let names = self.names.take();
         let by_number = names.as_ref().map(|it| &it.by_number);
         let name = by_number.and_then(|it| it.get(&object.number()).cloned());
         self.names.set(names);
-        name.unwrap_or_else(|| object.to_string())
+        name
     }
 
     fn read_catalogues(&self) -> Result<Names, Error> {

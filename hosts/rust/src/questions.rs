@@ -157,7 +157,7 @@ impl Guardian {
         self.told_of(question::SHAPE, object.id(), |shape| Ok(shape.to_owned()))
     }
 
-    /// The object with the names that its shape has.
+    /// The object with the names that its shape has, and with its own if that was asked for before.
     ///
     /// # Errors
     ///
@@ -172,9 +172,13 @@ impl Guardian {
     pub fn object(&self, object: ObjId) -> Result<Object, Error> {
         let object = object.number_for(self.owner.get())?;
         let id = ObjId::of(self.owner.get(), object);
-        self.told(question::SHAPE, object, 0, |text| {
+        let found = self.told(question::SHAPE, object, 0, |text| {
             let shape = Shape::read(text).map_err(|_| Error::Unknown(status::TEXT))?;
             Ok(Object::of(id, shape))
+        })?;
+        Ok(match self.name_of(id) {
+            Some(name) => found.called(&name),
+            None => found,
         })
     }
 

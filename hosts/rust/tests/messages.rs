@@ -116,10 +116,10 @@ fn what_is_ill_typed_says_what_is_there() -> Result<(), Error> {
         top.set(&account, "owner", 7),
         "change account by set_field 1: field owner is text",
     );
-    // An id alone is called by its name, too, only if a handle is given.
+    // An id alone is called by its name, too.
     said(
         top.set(account.id(), "owner", 7),
-        "change o0 by set_field 1: field owner is text",
+        "change account by set_field 1: field owner is text",
     );
     said(
         top.array(&queue).push("a"),

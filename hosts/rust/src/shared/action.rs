@@ -114,7 +114,7 @@ impl<'s> SharedAction<'s> {
     ///
     /// # Errors
     ///
-    /// [`Error::Refused`] with `Over`, `TooDeep` or `TooMany`; [`Error::OutOfMemory`].
+    /// [`Error::Refused`] with `Over` or `TooDeep`; [`Error::TooMany`]; [`Error::OutOfMemory`].
     ///
     /// ```
     /// # use argus_guardian::{Error, Guardian, Shared};
@@ -133,7 +133,7 @@ impl<'s> SharedAction<'s> {
     ///
     /// # Errors
     ///
-    /// [`Error::Refused`] with `Over` or `TooMany`; [`Error::OutOfMemory`].
+    /// [`Error::Refused`] with `Over`; [`Error::TooMany`]; [`Error::OutOfMemory`].
     ///
     /// ```
     /// # use argus_guardian::{Error, Guardian, Shared};

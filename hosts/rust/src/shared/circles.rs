@@ -181,7 +181,8 @@ pub struct Deadlock {
 impl Deadlock {
     pub(crate) fn of(circle: &[Stuck<'_>], guardian: &Guardian) -> Deadlock {
         let waits = circle.iter().map(|it| (it.access.action, it.access.object));
-        let names = circle.iter().map(|it| guardian.called(it.access.object));
+        let called = |object: ObjId| guardian.name_of(object).unwrap_or(object.to_string());
+        let names = circle.iter().map(|it| called(it.access.object));
         Deadlock {
             waits: waits.collect(),
             names: names.collect(),

@@ -122,12 +122,12 @@ impl Shared {
     /// The same guardian, which folds its journal by itself after so many entries, or never.
     ///
     /// It does so when a topaction ends by its [`SharedAction`](crate::SharedAction) and no action is live, as
-    /// [`checkpoint`](Self::checkpoint) does: when half of the numbers for actions are used, it also renews the guardian.
-    /// If there is no such moment within as many entries again, the thread that has ended a topaction holds others back,
-    /// at most for a tenth of a second; then again when the journal is twice as long.
+    /// [`checkpoint`](Self::checkpoint) does: when half of the numbers for actions are used, it also renews the
+    /// guardian. If there is no such moment within as many entries again, the thread that has ended a topaction holds
+    /// others back, at most for a tenth of a second; then again when the journal is twice as long.
     ///
-    /// Of a program that reads [`lines`](Guardian::lines) of the journal, it folds no entry that wasn't read, and renews
-    /// nothing.
+    /// Of a program that reads [`lines`](Guardian::lines) of the journal, it folds no entry that wasn't read, and
+    /// renews nothing.
     ///
     /// ```
     /// use argus_guardian::{Guardian, Shared};
