@@ -31,7 +31,7 @@ impl Growth {
             entries: length_of(guardian),
             live: 0,
             after,
-            hold_after: after.unwrap_or(0).saturating_mul(2),
+            hold_after: hold_after(after),
         }
     }
 
@@ -55,7 +55,7 @@ impl Growth {
     fn reset(&mut self) {
         self.entries = 0;
         self.live = 0;
-        self.hold_after = self.after.unwrap_or(0).saturating_mul(2);
+        self.hold_after = hold_after(self.after);
     }
 }
 
@@ -98,6 +98,12 @@ impl SharedState {
         }
         is_folded
     }
+}
+
+// After how many entries topactions are held back: twice as many, and before the numbers of actions run out.
+fn hold_after(after: Option<u64>) -> u64 {
+    let twice = after.unwrap_or(0).saturating_mul(2);
+    twice.min(Guardian::MAX_ACTIONS.into())
 }
 
 // How many entries its journal has.
