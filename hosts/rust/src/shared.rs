@@ -16,7 +16,7 @@ use crate::object::{AsObject, Object};
 use crate::reply::{Answer, Refusal, Reply};
 use crate::shared::action::SharedAction;
 use crate::shared::circles::Deadlock;
-use crate::shared::state::{Borrower, SharedState};
+use crate::shared::state::{Borrower, DroppedAction, SharedState};
 use crate::shared::waits::{Lineage, WaitGoal, WaitingAccess};
 use std::sync::{Mutex, MutexGuard, PoisonError};
 use std::time::{Duration, Instant};
@@ -327,20 +327,15 @@ impl Shared {
     }
 
     // The action is dropped: it is aborted now, or when this thread's `with` ends.
-    pub(crate) fn abort_dropped(
-        &self,
-        action: ActionId,
-        topaction: Option<ActionId>,
-        is_outermost: bool,
-    ) {
+    pub(crate) fn abort_dropped(&self, action: DroppedAction) {
         if self.borrower.is_here() {
             return self.borrower.drop_later(action);
         }
-        let abort = Call::Abort(action);
+        let abort = Call::Abort(action.id);
         let mut state = self.lock();
         // A drop can't report an error. Where it was over before, its guard is gone all the same.
-        let _ = state.end(&abort, topaction);
-        if is_outermost {
+        let _ = state.end(&abort, action.topaction);
+        if action.is_outermost {
             self.fold_ended(&abort, state);
         }
     }
@@ -407,7 +402,10 @@ impl Drop for Loan<'_> {
     fn drop(&mut self) {
         for action in self.shared.borrower.end() {
             // A drop can't report an error.
-            let _ = self.state.guardian.call(&Call::Abort(action));
+            let _ = self.state.guardian.call(&Call::Abort(action.id));
+            if action.is_outermost {
+                self.state.growth.end();
+            }
         }
         self.state.return_loan();
         // It may have ended other actions, too.

@@ -7,6 +7,7 @@ use crate::ids::ActionId;
 use crate::object::{AsObject, Object};
 use crate::reply::{Answer, Reply};
 use crate::shared::Shared;
+use crate::shared::state::DroppedAction;
 use crate::shared::waits::Lineage;
 use std::{iter, mem};
 
@@ -254,7 +255,10 @@ impl Caller for SharedAction<'_> {
 
 impl Drop for SharedAction<'_> {
     fn drop(&mut self) {
-        self.shared
-            .abort_dropped(self.id, self.topaction(), self.is_outermost());
+        self.shared.abort_dropped(DroppedAction {
+            id: self.id,
+            topaction: self.topaction(),
+            is_outermost: self.is_outermost(),
+        });
     }
 }

@@ -40,9 +40,13 @@ impl Growth {
         self.live += 1;
     }
 
-    // One has ended, with this number of an action. Whether a fold is due.
-    fn end(&mut self, number: u32) -> bool {
+    /// The guard of one is gone.
+    pub(crate) fn end(&mut self) {
         self.live = self.live.saturating_sub(1);
+    }
+
+    // Whether a fold is due when the action of this number has ended.
+    fn is_due_after(&self, number: u32) -> bool {
         let is_half_used = number >= Guardian::MAX_ACTIONS / 2;
         self.is_due() || self.after.is_some() && is_half_used
     }
@@ -63,7 +67,8 @@ impl SharedState {
     /// The outermost action of this number has ended. Folds the journal if that is due and no action is live. Whether
     /// topactions have to be held back for it.
     pub(crate) fn fold_if_due(&mut self, number: u32) -> bool {
-        if !self.growth.end(number) || self.folding > 0 {
+        self.growth.end();
+        if !self.growth.is_due_after(number) || self.folding > 0 {
             return false;
         }
         if self.growth.live == 0 && self.fold_now() {
@@ -81,9 +86,6 @@ impl SharedState {
     /// The guardian was lent, and may have got entries. A program may have read lines that a fold has waited for.
     pub(crate) fn return_loan(&mut self) {
         self.growth.entries = length_of(&self.guardian);
-        if self.guardian.live(0).is_none() {
-            self.growth.live = 0;
-        }
         let is_read = self.guardian.lines_read.get() == self.guardian.entries();
         if is_read && self.growth.is_due() && self.folding == 0 {
             self.fold_now();

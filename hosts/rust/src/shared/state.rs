@@ -201,13 +201,23 @@ impl SharedState {
     }
 }
 
+/// An action whose guard is gone.
+#[derive(Debug, Clone, Copy)]
+pub(crate) struct DroppedAction {
+    pub(crate) id: ActionId,
+    /// Its topaction, if it is a subaction.
+    pub(crate) topaction: Option<ActionId>,
+    /// Whether nothing is around it.
+    pub(crate) is_outermost: bool,
+}
+
 /// Which thread a shared guardian is lent to, by [`Shared::with`](crate::Shared::with), and which actions that thread
 /// has dropped meanwhile. The thread has the guardian's mutex: to lock that again it would wait for itself.
 #[derive(Debug, Default)]
 pub(crate) struct Borrower {
     // The thread's address of `HERE`, or 0: it isn't lent.
     thread: AtomicUsize,
-    dropped: Mutex<Vec<ActionId>>,
+    dropped: Mutex<Vec<DroppedAction>>,
 }
 
 thread_local! {
@@ -233,20 +243,20 @@ impl Borrower {
     }
 
     /// It is lent no more. Returns the actions that were dropped meanwhile.
-    pub(crate) fn end(&self) -> Vec<ActionId> {
+    pub(crate) fn end(&self) -> Vec<DroppedAction> {
         self.thread.store(0, Ordering::Relaxed);
         mem::take(&mut self.dropped())
     }
 
     /// This thread, to which it is lent, drops the action. If there is no memory to note that, the action stays live.
-    pub(crate) fn drop_later(&self, action: ActionId) {
+    pub(crate) fn drop_later(&self, action: DroppedAction) {
         let mut dropped = self.dropped();
         if dropped.try_reserve(1).is_ok() {
             dropped.push(action);
         }
     }
 
-    fn dropped(&self) -> MutexGuard<'_, Vec<ActionId>> {
+    fn dropped(&self) -> MutexGuard<'_, Vec<DroppedAction>> {
         self.dropped.lock().unwrap_or_else(PoisonError::into_inner)
     }
 }
