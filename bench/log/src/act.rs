@@ -1,7 +1,7 @@
 //! `Act`: what an order needs of an action, with a log or without.
 
 use argus_guardian::log::{LoggedAction, LoggedError};
-use argus_guardian::{Change, Error, ObjId, SharedAction, Value};
+use argus_guardian::{Access, ObjId, SharedAction};
 
 /// What an order needs of an action, with a log or without.
 pub trait Act: Sized {
@@ -18,14 +18,6 @@ pub trait Act: Sized {
     fn abort(self) -> Result<(), LoggedError>;
 }
 
-fn int(value: Value) -> Result<i64, LoggedError> {
-    i64::try_from(value).map_err(LoggedError::from)
-}
-
-fn created(balance: i64) -> Result<Change, Error> {
-    Ok(Change::Create(format!("{{{balance}}}").parse()?))
-}
-
 impl Act for SharedAction<'_> {
     type Sub<'a>
         = SharedAction<'a>
@@ -37,11 +29,11 @@ impl Act for SharedAction<'_> {
     }
 
     fn lock(&self, account: u32) -> Result<(), LoggedError> {
-        Ok(SharedAction::lock(self, ObjId::numbered(account))?)
+        Ok(Access::lock(self, ObjId::numbered(account))?)
     }
 
     fn balance(&self, account: u32) -> Result<i64, LoggedError> {
-        int(self.get(ObjId::numbered(account), 0)?)
+        Ok(self.get(ObjId::numbered(account), 0)?)
     }
 
     fn set_balance(&self, account: u32, balance: i64) -> Result<(), LoggedError> {
@@ -49,9 +41,7 @@ impl Act for SharedAction<'_> {
     }
 
     fn create(&self, account: u32, balance: i64) -> Result<(), LoggedError> {
-        Ok(self
-            .alter(ObjId::numbered(account), created(balance)?)?
-            .done()?)
+        Ok(Access::create(self, ObjId::numbered(account), (balance,))?)
     }
 
     fn commit(self) -> Result<(), LoggedError> {
@@ -74,11 +64,11 @@ impl Act for LoggedAction<'_> {
     }
 
     fn lock(&self, account: u32) -> Result<(), LoggedError> {
-        LoggedAction::lock(self, ObjId::numbered(account))
+        Access::lock(self, ObjId::numbered(account))
     }
 
     fn balance(&self, account: u32) -> Result<i64, LoggedError> {
-        int(self.get(ObjId::numbered(account), 0)?)
+        self.get(ObjId::numbered(account), 0)
     }
 
     fn set_balance(&self, account: u32, balance: i64) -> Result<(), LoggedError> {
@@ -86,9 +76,7 @@ impl Act for LoggedAction<'_> {
     }
 
     fn create(&self, account: u32, balance: i64) -> Result<(), LoggedError> {
-        Ok(self
-            .alter(ObjId::numbered(account), created(balance)?)?
-            .done()?)
+        Access::create(self, ObjId::numbered(account), (balance,))
     }
 
     fn commit(self) -> Result<(), LoggedError> {

@@ -2,7 +2,7 @@
 //!
 //!     orders-bench ORDERS
 
-use argus_guardian::{Action, Change, Content, Error, Guardian, ObjId};
+use argus_guardian::{Access, Action, Error, Guardian, ObjId};
 use std::{env, fs, io};
 
 const SEATS: u32 = 1000;
@@ -20,9 +20,8 @@ fn seat_of(order: u32, at: u32) -> ObjId {
 fn declare_seats(shop: &mut Guardian) -> Result<(), Error> {
     for _ in 0..SEATS {
         let seat = shop.declare("atomic_record[holder:int]")?;
-        let mut top = shop.topaction()?;
-        top.alter(seat, Change::Create(Content::Record(vec![0.into()])))?
-            .done()?;
+        let top = shop.topaction()?;
+        top.create(seat, (0,))?;
         top.commit()?;
     }
     Ok(())
@@ -30,9 +29,9 @@ fn declare_seats(shop: &mut Guardian) -> Result<(), Error> {
 
 // Takes a seat over for an order, from an earlier one.
 fn take(top: &mut Action<'_>, seat: ObjId, order: u32) -> Result<(), Error> {
-    let mut sub = top.subaction()?;
+    let sub = top.subaction()?;
     sub.lock(seat)?;
-    if i64::try_from(sub.get(seat, 0)?)? < i64::from(order) {
+    if sub.get::<i64>(seat, 0)? < i64::from(order) {
         sub.set(seat, 0, order)?;
     }
     sub.commit()
@@ -54,9 +53,9 @@ fn carry_out(shop: &mut Guardian, order: u32) -> Result<(), Error> {
 
 fn held(shop: &mut Guardian) -> Result<i64, Error> {
     let mut sum = 0;
-    let mut top = shop.topaction()?;
+    let top = shop.topaction()?;
     for seat in 0..SEATS {
-        sum += i64::try_from(top.get(ObjId::numbered(seat), 0)?)? * i64::from(seat + 1);
+        sum += top.get::<i64>(ObjId::numbered(seat), 0)? * i64::from(seat + 1);
     }
     top.commit()?;
     Ok(sum)

@@ -10,7 +10,7 @@
 //! What is printed on standard output doesn't depend on time. `ORDERS` is how many each thread
 //! carries out.
 
-use argus_guardian::{Change, Content, Error, Guardian, ObjId, Shared, SharedAction, Value};
+use argus_guardian::{Access, Content, Error, Guardian, Object, Shared, SharedAction};
 use std::ops::AddAssign;
 use std::thread;
 use std::time::{Duration, Instant};
@@ -20,8 +20,6 @@ const BALANCE: i64 = 1_000_000_000;
 const THREADS: u32 = 4;
 const ORDERS: u32 = 250;
 const AUDITS: u32 = 20;
-const FOLD_AFTER: u32 = 100;
-const FOLD_PATIENCE: Duration = Duration::from_secs(1);
 const ALL: i64 = ACCOUNTS as i64 * BALANCE;
 
 // Locks are taken in the order of the accounts' numbers, so no wait is in vain.
@@ -40,26 +38,26 @@ impl Draws {
     }
 }
 
-struct Transfer {
-    from: ObjId,
-    to: ObjId,
+struct Transfer<'b> {
+    from: &'b Object,
+    to: &'b Object,
     amount: i64,
 }
 
-impl Transfer {
-    fn drawn(draws: &mut Draws) -> Transfer {
+impl<'b> Transfer<'b> {
+    fn drawn(draws: &mut Draws, accounts: &'b [Object]) -> Transfer<'b> {
         let from = draws.below(ACCOUNTS);
         let to = (from + 1 + draws.below(ACCOUNTS - 1)) % ACCOUNTS;
         Transfer {
-            from: ObjId::numbered(from),
-            to: ObjId::numbered(to),
+            from: &accounts[from as usize],
+            to: &accounts[to as usize],
             amount: 1 + i64::from(draws.below(10)),
         }
     }
 
     /// Four transfers, of which the last can't be made.
-    fn order(draws: &mut Draws) -> [Transfer; 4] {
-        let mut order = [(); 4].map(|()| Transfer::drawn(draws));
+    fn order(draws: &mut Draws, accounts: &'b [Object]) -> [Transfer<'b>; 4] {
+        let mut order = [(); 4].map(|()| Transfer::drawn(draws, accounts));
         order[3].amount = ALL + 1;
         order
     }
@@ -67,21 +65,15 @@ impl Transfer {
     /// Makes the transfer in a subaction; false: the account has too little, and nothing is left of it.
     fn make(&self, top: &SharedAction<'_>) -> Result<bool, Error> {
         let sub = top.subaction()?;
-        let there = balance(&sub, self.to)?;
-        sub.set(self.to, 0, there + self.amount)?;
-        let here = balance(&sub, self.from)?;
-        if here < self.amount {
+        sub.update(self.to, "balance", |it: i64| it + self.amount)?;
+        if sub.get::<i64>(self.from, "balance")? < self.amount {
             sub.abort()?;
             return Ok(false);
         }
-        sub.set(self.from, 0, here - self.amount)?;
+        sub.update(self.from, "balance", |it: i64| it - self.amount)?;
         sub.commit()?;
         Ok(true)
     }
-}
-
-fn balance(action: &SharedAction<'_>, account: ObjId) -> Result<i64, Error> {
-    action.get(account, 0)?.try_into()
 }
 
 #[derive(Default)]
@@ -125,16 +117,14 @@ impl Counts {
     fn carry_out(
         &mut self,
         bank: &Shared,
-        order: &[Transfer],
+        order: &[Transfer<'_>],
         is_cancelled: bool,
     ) -> Result<(), Error> {
         let top = bank.topaction()?;
-        let mut accounts: Vec<ObjId> = order.iter().flat_map(|it| [it.from, it.to]).collect();
+        let mut accounts: Vec<&Object> = order.iter().flat_map(|it| [it.from, it.to]).collect();
         accounts.sort_unstable();
         accounts.dedup();
-        for account in accounts {
-            top.lock(account)?;
-        }
+        accounts.iter().try_for_each(|it| top.lock(it))?;
         let mut made = 0;
         for transfer in order {
             if transfer.make(&top)? {
@@ -157,60 +147,47 @@ impl Counts {
 }
 
 /// What one thread does: so many orders, of which each tenth is cancelled.
-fn work(bank: &Shared, thread: u32, orders: u32) -> Result<Counts, Error> {
+fn work(bank: &Shared, accounts: &[Object], thread: u32, orders: u32) -> Result<Counts, Error> {
     let mut draws = Draws(u64::from(thread));
     let mut counts = Counts::default();
     for number in 0..orders {
-        let order = Transfer::order(&mut draws);
+        let order = Transfer::order(&mut draws, accounts);
         counts.carry_out(bank, &order, number % 10 == 9)?;
-        if number % FOLD_AFTER == FOLD_AFTER - 1 {
-            // Where an audit takes its time, the next fold does it.
-            let _ = bank.checkpoint_waiting(FOLD_PATIENCE);
-        }
     }
     Ok(counts)
 }
 
 /// How many audits find what the bank began with.
-fn audit(bank: &Shared) -> Result<u32, Error> {
+fn audit(bank: &Shared, accounts: &[Object]) -> Result<u32, Error> {
     let mut right = 0;
     for _ in 0..AUDITS {
-        let top = bank.topaction()?;
-        let mut sum = 0;
-        for account in 0..ACCOUNTS {
-            sum += balance(&top, ObjId::numbered(account))?;
-        }
-        top.commit()?;
+        let sum = bank.run(|top| {
+            let balances = accounts.iter().map(|it| top.get::<i64>(it, "balance"));
+            balances.sum::<Result<i64, Error>>()
+        })?;
         right += u32::from(sum == ALL);
     }
     Ok(right)
 }
 
-fn open_bank() -> Result<Guardian, Error> {
-    let mut guardian = Guardian::new()?;
-    for _ in 0..ACCOUNTS {
-        let account = guardian.declare("atomic_record[balance:int]")?;
-        let mut top = guardian.topaction()?;
-        let content = Content::Record(vec![Value::Int(BALANCE)]);
-        top.alter(account, Change::Create(content))?.done()?;
-        top.commit()?;
-    }
-    Ok(guardian)
+fn open_accounts(bank: &Shared) -> Result<Vec<Object>, Error> {
+    let open = |number| bank.named(&format!("account {number}"), "atomic_record[balance:int]");
+    let accounts: Vec<Object> = (0..ACCOUNTS).map(open).collect::<Result<_, _>>()?;
+    bank.run(|top| {
+        let create = |it| top.create(it, (BALANCE,));
+        accounts.iter().try_for_each(create)
+    })?;
+    Ok(accounts)
 }
 
 /// Prints what is in the accounts for good: the sum, and each balance times its place.
-fn print_balances(guardian: &mut Guardian) -> Result<(), Error> {
+fn print_balances(guardian: &Guardian, accounts: &[Object]) -> Result<(), Error> {
     let (mut sum, mut weighed) = (0, 0);
-    for account in 0..ACCOUNTS {
-        let base = guardian.base(ObjId::numbered(account))?;
-        let Some(Content::Record(fields)) = base else {
-            return Err(Error::OtherAnswer);
-        };
-        let [Value::Int(balance)] = fields[..] else {
-            return Err(Error::OtherAnswer);
-        };
+    for (account, place) in accounts.iter().zip(1..) {
+        let base: Option<Content> = guardian.base(account)?;
+        let (balance,): (i64,) = base.ok_or(Error::NotThere)?.read()?;
         sum += balance;
-        weighed += balance * i64::from(account + 1);
+        weighed += balance * place;
     }
     println!("sum {sum}");
     println!("weighed {weighed}");
@@ -222,15 +199,16 @@ fn main() -> Result<(), Box<dyn std::error::Error>> {
         Some(word) => word.parse()?,
         None => ORDERS,
     };
-    let bank = Shared::new(open_bank()?, PATIENCE);
+    let bank = Shared::new(Guardian::new()?, PATIENCE);
+    let accounts = open_accounts(&bank)?;
     let before = bank.with(Guardian::entries);
     let start = Instant::now();
     let mut counts = Counts::default();
     let right = thread::scope(|scope| {
-        let bank = &bank;
-        let audits = scope.spawn(move || audit(bank));
+        let (bank, accounts) = (&bank, &accounts[..]);
+        let audits = scope.spawn(move || audit(bank, accounts));
         let threads: Vec<_> = (0..THREADS)
-            .map(|thread| scope.spawn(move || work(bank, thread, orders)))
+            .map(|thread| scope.spawn(move || work(bank, accounts, thread, orders)))
             .collect();
         for thread in threads {
             counts += thread.join().expect("no thread panics")?;
@@ -238,7 +216,7 @@ fn main() -> Result<(), Box<dyn std::error::Error>> {
         audits.join().expect("no thread panics")
     })?;
     let taken = start.elapsed().as_secs_f64();
-    let mut guardian = bank.into_inner();
+    let guardian = bank.into_inner();
     let calls = f64::from(u32::try_from(guardian.entries() - before)?);
     eprintln!(
         "{calls} calls in {taken:.2} s, {:.0} a second",
@@ -246,7 +224,7 @@ fn main() -> Result<(), Box<dyn std::error::Error>> {
     );
     counts.print(orders);
     println!("audits {AUDITS}, {right} of them find {ALL}");
-    print_balances(&mut guardian)?;
+    print_balances(&guardian, &accounts)?;
     guardian.checkpoint()?;
     println!("nothing is live");
     Ok(())

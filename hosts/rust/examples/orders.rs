@@ -7,7 +7,7 @@
 //! and send the same lines again.
 
 use argus_guardian::log::{Logged, LoggedAction, LoggedError};
-use argus_guardian::{Change, ObjId};
+use argus_guardian::{Access, ObjId};
 use std::env;
 use std::error::Error;
 use std::io::{self, BufRead};
@@ -53,10 +53,6 @@ impl FromStr for Payment {
     }
 }
 
-fn int(action: &LoggedAction<'_>, record: ObjId) -> Result<i64, LoggedError> {
-    Ok(i64::try_from(action.get(record, 0)?)?)
-}
-
 // Carries out a client's order once, however often it is sent.
 fn once(
     bank: &Logged,
@@ -66,7 +62,7 @@ fn once(
 ) -> Result<PaymentOutcome, LoggedError> {
     bank.run(|top| {
         top.lock(last)?;
-        if int(top, last)? >= number {
+        if top.get::<i64>(last, 0)? >= number {
             // By the commit of this topaction that is on disk, too.
             return Ok(PaymentOutcome::Before);
         }
@@ -78,8 +74,7 @@ fn once(
 
 fn pay(bank: &Logged, payment: &Payment) -> Result<PaymentOutcome, LoggedError> {
     once(bank, last_of(payment.client), payment.number, |top| {
-        top.lock(BALANCE)?;
-        top.set(BALANCE, 0, int(top, BALANCE)? + payment.amount)
+        top.update(BALANCE, 0, |it: i64| it + payment.amount)
     })
 }
 
@@ -89,12 +84,8 @@ fn open(path: &str) -> Result<Logged, Box<dyn Error>> {
     let missing = bank.objects()?..=CLIENTS;
     bank.declare_each(missing.map(|_| "atomic_record[number:int]"))?;
     if bank.base(BALANCE)?.is_none() {
-        bank.run(|top| {
-            (0..=CLIENTS).try_for_each(|record| {
-                let zero = Change::Create("{0}".parse()?);
-                Ok::<_, LoggedError>(top.alter(ObjId::numbered(record), zero)?.done()?)
-            })
-        })?;
+        let create = |top: &LoggedAction<'_>, it| top.create(ObjId::numbered(it), (0,));
+        bank.run(|top| (0..=CLIENTS).try_for_each(|it| create(top, it)))?;
     }
     Ok(bank)
 }

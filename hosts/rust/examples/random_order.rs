@@ -5,7 +5,7 @@
 //!
 //!     cargo run --release --example random_order [SECONDS]
 
-use argus_guardian::{Change, Error, Guardian, ObjId, Shared};
+use argus_guardian::{Access, Error, Guardian, ObjId, Shared};
 use std::hash::{BuildHasher, Hasher, RandomState};
 use std::thread;
 use std::time::{Duration, Instant};
@@ -72,7 +72,7 @@ fn run(sorts: bool, seconds: u64) -> Result<Vec<Duration>, Error> {
     let records: Vec<ObjId> = declared.collect::<Result<_, _>>()?;
     let shared = Shared::from(guardian);
     shared.run(|top| {
-        let create = |it: &ObjId| top.alter(*it, Change::Create("{0}".parse()?))?.done();
+        let create = |it| top.create(it, (0,));
         records.iter().try_for_each(create)
     })?;
     let end = Instant::now() + Duration::from_secs(seconds);

@@ -1,12 +1,11 @@
-//! `Error`: why a call of this crate failed.
+//! Why calls of this crate fail.
 
-use crate::checkpoint_error::CheckpointError;
-use crate::deadlock::Deadlock;
-use crate::line_fault::LineFault;
-use crate::refusal::Refusal;
-use crate::signal::Signal;
-use std::error;
-use std::fmt;
+use crate::access_error::{Contention, NameFault, TypeFault, TypeMismatch};
+use crate::reply::{Refusal, Signal};
+use crate::resumption::LineFault;
+use crate::shape::ShapeFault;
+use crate::shared::circles::Deadlock;
+use std::{error, fmt};
 
 /// Why a call of this crate failed. All other errors of the crate convert into it. `Display` says
 /// everything: no error has a source.
@@ -33,11 +32,18 @@ pub enum Error {
     },
     /// A text isn't the written form of a shape that can be made. Nothing has changed, and nothing
     /// was journalled.
-    BadShape,
+    BadShape(ShapeFault),
     /// The object isn't declared, or no entry has this number, or a checkpoint has folded it.
     NotThere,
     /// The object's shape has no field or tag of this name. Nothing was journalled.
-    NoName(String),
+    NoName(Box<NameFault>),
+    /// The object of this name has another shape than the one that was asked for. Nothing was journalled.
+    OtherShape {
+        /// How the object is called.
+        object: Box<str>,
+        /// The written form of its shape.
+        shape: Box<str>,
+    },
     /// The call of the list that should have begun the action isn't an earlier one, or began none.
     /// Nothing has changed, and nothing was journalled.
     NotBegun,
@@ -49,6 +55,14 @@ pub enum Error {
     /// The guardian has refused the call. The journal has the refusal, unless it is `Over` of an
     /// action from before a [renewal](crate::Guardian::renew).
     Refused(Refusal),
+    /// The guardian has refused the call with `TooMany`. The journal has the refusal.
+    TooMany(Limit),
+    /// The guardian has refused an action's access with `IllTyped`: what the object's shape has there. The journal has
+    /// the refusal.
+    IllTyped(Box<TypeFault>),
+    /// The guardian has refused an action's access with `Conflict`, at the end of patience: who holds the object. The
+    /// journal has the refusal.
+    Held(Box<Contention>),
     /// The guardian has refused the call with `Conflict`, and the call doesn't wait: the action and others would wait for
     /// one another in a circle. The journal has the refusal.
     Deadlock(Deadlock),
@@ -60,6 +74,8 @@ pub enum Error {
     Line(LineFault),
     /// The answer isn't of the kind that was asked for. It is in the journal.
     OtherAnswer,
+    /// The value that was read isn't of the type that was asked for. The read is in the journal.
+    OtherType(Box<TypeMismatch>),
     /// The library returned a number that this crate doesn't know: their versions differ.
     Unknown(u32),
     /// The library has another version than the crate: this one.
@@ -67,6 +83,24 @@ pub enum Error {
 }
 
 impl Error {
+    /// The reason for which the guardian has refused the call, if it has.
+    ///
+    /// ```
+    /// use argus_guardian::{Error, Limit, Refusal};
+    /// assert_eq!(Error::TooMany(Limit::Objects).refusal(), Some(Refusal::TooMany));
+    /// assert_eq!(Error::OutOfMemory.refusal(), None);
+    /// ```
+    #[must_use]
+    pub fn refusal(&self) -> Option<Refusal> {
+        match self {
+            Error::Refused(refusal) => Some(*refusal),
+            Error::TooMany(_) => Some(Refusal::TooMany),
+            Error::IllTyped(_) => Some(Refusal::IllTyped),
+            Error::Held(_) | Error::Deadlock(_) => Some(Refusal::Conflict),
+            _ => None,
+        }
+    }
+
     /// Whether it is a refusal with `Conflict`, also for a deadlock: abort the topaction, and begin it again.
     ///
     /// ```
@@ -76,7 +110,7 @@ impl Error {
     /// ```
     #[must_use]
     pub fn is_conflict(&self) -> bool {
-        matches!(self, Error::Refused(Refusal::Conflict) | Error::Deadlock(_))
+        self.refusal() == Some(Refusal::Conflict)
     }
 }
 
@@ -85,18 +119,23 @@ impl fmt::Display for Error {
         match self {
             Error::OutOfMemory => f.write_str("out of memory"),
             Error::BadText { at } => write!(f, "no written form: bad at byte {at}"),
-            Error::BadShape => f.write_str("no written form of a shape"),
+            Error::BadShape(fault) => write!(f, "no written form of a shape: {fault}"),
             Error::NotThere => f.write_str("no such object or entry"),
-            Error::NoName(name) => write!(f, "no field or tag is named {name}"),
+            Error::NoName(fault) => write!(f, "{fault}"),
+            Error::OtherShape { object, shape } => write!(f, "{object} has the shape {shape}"),
             Error::NotBegun => f.write_str("no earlier call of the list began this action"),
             Error::NoRoom => f.write_str("called, but no memory for the answer"),
             Error::OtherGuardian => f.write_str("an id of another guardian"),
             Error::Refused(refusal) => write!(f, "refused: {refusal}"),
+            Error::TooMany(limit) => write!(f, "refused: {}: {limit}", Refusal::TooMany),
+            Error::IllTyped(fault) => write!(f, "refused: {}: {fault}", Refusal::IllTyped),
+            Error::Held(held) => write!(f, "refused: {}: {held}", Refusal::Conflict),
             Error::Deadlock(deadlock) => write!(f, "refused: {}: {deadlock}", Refusal::Conflict),
             Error::Signal(signal) => write!(f, "signal: {signal}"),
             Error::Checkpoint(error) => write!(f, "no checkpoint: {error}"),
             Error::Line(fault) => write!(f, "not the next line of a journal: {fault}"),
             Error::OtherAnswer => f.write_str("an answer of another kind"),
+            Error::OtherType(fault) => write!(f, "{fault}"),
             Error::Unknown(status) => write!(f, "the library answered {status}"),
             Error::OtherVersion(number) => write!(f, "the library is of version {number}"),
         }
@@ -135,5 +174,69 @@ impl From<Refusal> for Error {
 impl From<Signal> for Error {
     fn from(signal: Signal) -> Error {
         Error::Signal(signal)
+    }
+}
+
+/// Why the journal wasn't folded. Nothing has changed.
+///
+/// ```
+/// use argus_guardian::CheckpointError;
+/// assert_eq!(CheckpointError::Busy.to_string(), "an action is live");
+/// ```
+#[derive(Debug, Clone, Copy, PartialEq, Eq)]
+pub enum CheckpointError {
+    /// An action is live.
+    Busy,
+    /// The next entry's number is above 9,223,372,036,854,775,807.
+    Full,
+    /// Out of memory.
+    OutOfMemory,
+}
+
+impl fmt::Display for CheckpointError {
+    fn fmt(&self, f: &mut fmt::Formatter<'_>) -> fmt::Result {
+        f.write_str(match self {
+            CheckpointError::Busy => "an action is live",
+            CheckpointError::Full => "no entry's number is left",
+            CheckpointError::OutOfMemory => "out of memory",
+        })
+    }
+}
+
+impl error::Error for CheckpointError {}
+
+/// A limit of a guardian that is reached.
+///
+/// ```
+/// use argus_guardian::{Error, Limit};
+/// let words = "refused: TooMany: a million actions were begun: call `checkpoint` of a `Shared` or a log, or `renew`, \
+///              when no action is live";
+/// assert_eq!(Error::TooMany(Limit::Actions).to_string(), words);
+/// ```
+#[derive(Debug, Clone, Copy, PartialEq, Eq, Hash)]
+#[non_exhaustive]
+pub enum Limit {
+    /// 65,535 objects are declared, and none of these numbers is free again.
+    Objects,
+    /// A million actions were begun ([`Guardian::MAX_ACTIONS`](crate::Guardian::MAX_ACTIONS)) since the guardian was
+    /// made, or [renewed](crate::Guardian::renew).
+    Actions,
+}
+
+impl fmt::Display for Limit {
+    fn fmt(&self, f: &mut fmt::Formatter<'_>) -> fmt::Result {
+        f.write_str(match self {
+            Limit::Objects => "65,535 objects are declared, and no more can be",
+            Limit::Actions => {
+                "a million actions were begun: call `checkpoint` of a `Shared` or a log, or `renew`, \
+                 when no action is live"
+            }
+        })
+    }
+}
+
+impl From<ShapeFault> for Error {
+    fn from(fault: ShapeFault) -> Error {
+        Error::BadShape(fault)
     }
 }

@@ -1,17 +1,16 @@
 //! `Guardian`: atomic objects, for one caller at a time.
 
-use crate::ObjId;
 use crate::action::Action;
-use crate::answer::Answer;
 use crate::call::Call;
-use crate::checkpoint_error::CheckpointError;
-use crate::decoding::{self, error_of, read_as};
-use crate::error::Error;
-use crate::owner::Owner;
-use crate::reader::Reader;
-use crate::reply::Reply;
-use crate::sys::{self, Handle, status};
-use crate::words::Words;
+use crate::error::{CheckpointError, Error};
+use crate::ids::{ObjId, Owner};
+use crate::library::{Words, error_of, read_as};
+use crate::names::Names;
+use crate::reply::{Answer, Reply};
+use crate::shape::ShapeFault;
+use crate::sys::{Handle, status};
+use crate::written_form::Reader;
+use crate::{library, sys};
 use std::cell::{Cell, UnsafeCell};
 use std::fmt;
 
@@ -45,6 +44,10 @@ pub struct Guardian {
     pub(crate) kept: Cell<u32>,
     // Whose the ids are that it returns.
     pub(crate) owner: Cell<Owner>,
+    // The objects that have a name, if somebody has asked for one.
+    pub(crate) names: Cell<Option<Box<Names>>>,
+    // Up to which entry the program has read the journal's lines; 0 if it reads none.
+    pub(crate) lines_read: Cell<u64>,
 }
 
 // SAFETY: it is proved that the archive's handle may go to another thread. It isn't `Sync`, so no two
@@ -121,6 +124,8 @@ impl Guardian {
                 room: Cell::default(),
                 kept: Cell::new(status::DONE),
                 owner: Cell::new(Owner::new()),
+                names: Cell::default(),
+                lines_read: Cell::default(),
             }),
             status::NO_MEMORY => Err(Error::OutOfMemory),
             other => Err(Error::Unknown(other)),
@@ -166,6 +171,9 @@ impl Guardian {
                 &raw mut number,
             )
         };
+        if status == status::BAD_SHAPE {
+            return Err(ShapeFault::of(&words.text).into());
+        }
         self.reply_of(words.kind, status, number)
     }
 
@@ -174,7 +182,7 @@ impl Guardian {
             self.kept.set(status);
         }
         let owner = self.owner.get();
-        decoding::reply_of(owner, kind, status, number, || self.answer_again())
+        library::reply_of(owner, kind, status, number, || self.answer_again())
     }
 
     /// The value or the content that the last call returned, again: for a caller that had no memory
@@ -187,11 +195,11 @@ impl Guardian {
     /// there was a question with a text since.
     ///
     /// ```
-    /// use argus_guardian::{Answer, Change, Content, Guardian, Query, Value};
+    /// use argus_guardian::{Access, Answer, Guardian, Query, Value};
     /// let mut guardian = Guardian::new()?;
     /// let object = guardian.declare("atomic_record[n:null]")?;
-    /// let mut top = guardian.topaction()?;
-    /// top.alter(object, Change::Create(Content::Record(vec![Value::Null])))?.done()?;
+    /// let top = guardian.topaction()?;
+    /// top.create(object, ((),))?;
     /// assert_eq!(top.ask(object, Query::Field(0))?.value()?, Value::Null);
     /// assert_eq!(top.guardian().answer_again()?, Answer::Val(Value::Null));
     /// # Ok::<(), argus_guardian::Error>(())
@@ -245,13 +253,14 @@ impl Guardian {
     ///
     /// # Errors
     ///
-    /// [`Error::BadShape`]; [`Error::Refused`] with `TooMany`; [`Error::OutOfMemory`].
+    /// [`Error::BadShape`]; [`Error::TooMany`]; [`Error::OutOfMemory`].
     ///
     /// ```
     /// use argus_guardian::{Error, Guardian};
     /// let guardian = Guardian::new()?;
     /// guardian.declare("atomic_variant[ok:int,bad:text]")?;
-    /// assert_eq!(guardian.declare("atomic_record[]"), Err(Error::BadShape));
+    /// let error = guardian.declare("atomic_record[]").expect_err("it has no field");
+    /// assert_eq!(error.to_string(), "no written form of a shape: at byte 14: a name is missing");
     /// # Ok::<(), Error>(())
     /// ```
     pub fn declare(&self, shape: &str) -> Result<ObjId, Error> {
@@ -262,7 +271,7 @@ impl Guardian {
     ///
     /// # Errors
     ///
-    /// [`Error::Refused`] with `TooMany`; [`Error::OutOfMemory`].
+    /// [`Error::TooMany`]; [`Error::OutOfMemory`].
     ///
     /// ```
     /// use argus_guardian::{ActionId, Guardian};

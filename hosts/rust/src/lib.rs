@@ -5,102 +5,86 @@
 //! trace, and committed topactions can't be distinguished from topactions run one after another.
 //!
 //! ```
-//! use argus_guardian::{Change, Content, Error, Guardian, Value};
+//! use argus_guardian::{Access, Error, Guardian};
 //!
 //! let mut guardian = Guardian::new()?;
-//! let account = guardian.declare("atomic_record[balance:int]")?;
+//! let account = guardian.named("account", "atomic_record[balance:int]")?;
 //! let mut top = guardian.topaction()?;
-//! top.alter(account, Change::Create(Content::Record(vec![Value::Int(5)])))?.done()?;
+//! top.create(&account, (5,))?;
 //! {
-//!     let mut sub = top.subaction()?;
-//!     sub.set(account, 0, 7)?;
+//!     let sub = top.subaction()?;
+//!     sub.set(&account, "balance", 7)?;
 //!     // It isn't committed, so it aborts here.
 //! }
-//! assert_eq!(top.get(account, 0)?, Value::Int(5));
+//! assert_eq!(top.get::<i64>(&account, "balance")?, 5);
 //! top.commit()?;
-//! assert_eq!(guardian.base(account)?, Some(Content::Record(vec![Value::Int(5)])));
+//! assert_eq!(guardian.base(&account)?, Some((5,).into()));
 //! # Ok::<(), Error>(())
 //! ```
 //!
+//! What an action does with objects is in the trait [`Access`]. [`Shared`] is a guardian that
+//! threads share, by std's `Mutex` and `Condvar`.
+//!
 //! The archive is proved: each reply follows from the journal before the call (the repository's
 //! README says it in full). This crate isn't proved: it calls the archive, reads its texts, and
-//! keeps actions in guards. [`Shared`] adds std's `Mutex` and `Condvar`; it isn't proved either,
-//! neither that its waits end nor that they wait only for what they say.
+//! keeps actions in guards. Nor is it proved of [`Shared`] that its waits end, or that they wait
+//! only for what they say.
 
 #![deny(missing_docs)]
 
+mod access;
+mod access_error;
 mod action;
-mod action_id;
-mod answer;
-mod borrower;
 mod call;
 mod call_list;
-mod call_reading;
-mod calling_each;
-mod change;
-mod checkpoint_error;
-mod circles;
-mod content;
-mod deadlock;
-mod decoding;
+mod conversion;
 mod error;
 mod guardian;
-mod line_fault;
-mod lineage;
-mod listing;
+mod ids;
+mod library;
 #[cfg(all(feature = "logged", unix))]
 pub mod log;
-mod not_ready;
-mod obj_id;
+mod names;
 mod object;
-mod owner;
 mod page;
-mod query;
 mod questions;
-mod reader;
 mod ready_commit;
-mod references;
-mod refusal;
+mod record;
 mod reply;
-mod resuming;
-mod retrying;
+mod resumption;
+mod shape;
 mod shared;
-mod shared_action;
-mod shared_folding;
-mod shared_state;
-mod signal;
-mod status;
 mod value;
-mod waiter;
-mod waiting_access;
-mod words;
-mod writer;
+mod views;
+mod written_form;
 
+pub use access::Access;
+pub use access_error::{Contention, NameFault, TypeFault, TypeMismatch};
 pub use action::Action;
-pub use action_id::ActionId;
-pub use answer::Answer;
 use argus_guardian_sys as sys;
-pub use call::Call;
+pub use call::{Call, Change, Query};
 pub use call_list::{CallsMade, Demand, ListEnd, ListedCall};
-pub use change::Change;
-pub use checkpoint_error::CheckpointError;
-pub use content::Content;
-pub use deadlock::Deadlock;
-pub use error::Error;
+pub use conversion::{FromContent, FromValue};
+#[doc(hidden)]
+pub use conversion::{fields_of, record_of};
+pub use error::{CheckpointError, Error, Limit};
 pub use guardian::Guardian;
-pub use line_fault::LineFault;
-pub use listing::{Lines, Listing};
-pub use not_ready::NotReady;
-pub use obj_id::ObjId;
-pub use object::Object;
-pub use query::Query;
-pub use ready_commit::ReadyCommit;
-pub use refusal::Refusal;
-pub use reply::Reply;
-pub use resuming::{Opened, Resuming, Taken, TakenEnd};
-pub use retrying::MayConflict;
+pub use ids::{ActionId, ObjId};
+pub use object::{AsObject, AsPart, Object};
+pub use questions::{Lines, Listing, Status};
+pub use ready_commit::{NotReady, ReadyCommit};
+#[doc(hidden)]
+pub use record::struct_of;
+pub use record::{FieldType, Record};
+pub use reply::{Answer, Refusal, Reply, Signal};
+pub use resumption::{LineFault, RestoredGuardian, Resumption, TakenEnd, TakenLines};
+// Their names until now.
+#[doc(hidden)]
+pub use resumption::{RestoredGuardian as Opened, Resumption as Resuming, TakenLines as Taken};
+pub use shape::ShapeFault;
 pub use shared::Shared;
-pub use shared_action::SharedAction;
-pub use signal::Signal;
-pub use status::Status;
-pub use value::Value;
+pub use shared::action::SharedAction;
+pub use shared::circles::Deadlock;
+pub use shared::retry::{MayConflict, is_conflict};
+pub use value::{Content, Value};
+pub use views::{ArrayView, VariantView};

@@ -1,7 +1,7 @@
 //! The page of a run: the lines of a journal and the script that draws them, in one file that needs no network.
 
 use crate::guardian::Guardian;
-use crate::listing::Listing;
+use crate::questions::Listing;
 use std::path::Path;
 use std::{fs, io};
 

@@ -1,15 +1,15 @@
 //! Questions to a guardian, which make no entry in the journal.
 
-use crate::content::Content;
-use crate::decoding::{error_of, one_of};
 use crate::error::Error;
 use crate::guardian::Guardian;
-use crate::listing::{Lines, Listing};
-use crate::object::Object;
-use crate::reader::Reader;
-use crate::status::Status;
-use crate::sys::{self, question, status};
-use crate::{ActionId, ObjId};
+use crate::ids::{ActionId, ObjId};
+use crate::library::{error_of, one_of};
+use crate::object::{AsObject, Object};
+use crate::shape::Shape;
+use crate::sys;
+use crate::sys::{question, status};
+use crate::value::Content;
+use crate::written_form::Reader;
 
 impl Guardian {
     /// Whether the action could get a read lock on the object now: no, if one of them is another
@@ -153,11 +153,11 @@ impl Guardian {
     /// assert_eq!(guardian.shape(object)?, "atomic_record[balance:int]");
     /// # Ok::<(), argus_guardian::Error>(())
     /// ```
-    pub fn shape(&self, object: ObjId) -> Result<String, Error> {
-        self.told_of(question::SHAPE, object, |shape| Ok(shape.to_owned()))
+    pub fn shape(&self, object: impl AsObject) -> Result<String, Error> {
+        self.told_of(question::SHAPE, object.id(), |shape| Ok(shape.to_owned()))
     }
 
-    /// The object with the names that its shape has.
+    /// The object with the names that its shape has, and with its own if that was asked for before.
     ///
     /// # Errors
     ///
@@ -172,8 +172,13 @@ impl Guardian {
     pub fn object(&self, object: ObjId) -> Result<Object, Error> {
         let object = object.number_for(self.owner.get())?;
         let id = ObjId::of(self.owner.get(), object);
-        self.told(question::SHAPE, object, 0, |shape| {
+        let found = self.told(question::SHAPE, object, 0, |text| {
+            let shape = Shape::read(text).map_err(|_| Error::Unknown(status::TEXT))?;
             Ok(Object::of(id, shape))
+        })?;
+        Ok(match self.name_of(id) {
+            Some(name) => found.called(&name),
+            None => found,
         })
     }
 
@@ -211,9 +216,9 @@ impl Guardian {
     /// assert_eq!(guardian.base(ObjId::numbered(9)), Err(Error::NotThere));
     /// # Ok::<(), Error>(())
     /// ```
-    pub fn base(&self, object: ObjId) -> Result<Option<Content>, Error> {
+    pub fn base(&self, object: impl AsObject) -> Result<Option<Content>, Error> {
         let owner = self.owner.get();
-        self.told_of(question::BASE, object, |text| {
+        self.told_of(question::BASE, object.id(), |text| {
             Reader::whole_of(owner, text, Reader::content_or_absent)
         })
     }
@@ -246,12 +251,12 @@ impl Guardian {
     /// As for [`base`](Self::base).
     ///
     /// ```
-    /// use argus_guardian::{ActionId, Change, Content, Guardian};
+    /// use argus_guardian::{Access, ActionId, Content, Guardian};
     /// let mut guardian = Guardian::new()?;
     /// let object = guardian.declare("atomic_array[int]")?;
-    /// let mut top = guardian.topaction()?;
+    /// let top = guardian.topaction()?;
     /// let empty: Content = "1[]".parse()?;
-    /// top.alter(object, Change::Create(empty.clone()))?.done()?;
+    /// top.create(object, empty.clone())?;
     /// assert_eq!(top.guardian().versions(object)?, [(ActionId::numbered(0), Some(empty))]);
     /// # Ok::<(), argus_guardian::Error>(())
     /// ```
@@ -331,7 +336,10 @@ impl Guardian {
             )
         };
         match status {
-            status::DONE | status::TOO_SMALL => Ok(Lines { count, size }),
+            status::DONE | status::TOO_SMALL => {
+                self.lines_read.set(self.lines_read.get().max(from + count));
+                Ok(Lines { count, size })
+            }
             other => Err(error_of(other, 0)),
         }
     }
@@ -406,4 +414,68 @@ impl Guardian {
             (status, number) => Err(error_of(status, number)),
         }
     }
+}
+
+/// The state of an action that was begun.
+///
+/// ```
+/// use argus_guardian::{ActionId, Guardian, Status};
+/// let mut guardian = Guardian::new()?;
+/// guardian.topaction()?.abort()?;
+/// assert_eq!(guardian.status(ActionId::numbered(0)), Some(Status::Aborted));
+/// # Ok::<(), argus_guardian::Error>(())
+/// ```
+#[derive(Debug, Clone, Copy, PartialEq, Eq, Hash)]
+pub enum Status {
+    /// It was begun, and neither it nor an ancestor of it has ended.
+    Live,
+    /// It has committed, and none of its ancestors was aborted.
+    Committed,
+    /// It or an ancestor of it was aborted, whether it had committed or not.
+    Aborted,
+    /// It was over at the last checkpoint, and nothing more is known of it.
+    Folded,
+}
+
+impl Status {
+    // By the library's numbers, from 1.
+    pub(crate) const ALL: [Status; 4] = [
+        Status::Live,
+        Status::Committed,
+        Status::Aborted,
+        Status::Folded,
+    ];
+}
+
+/// What is listed of a guardian, one line each. Objects come in the order of their numbers.
+///
+/// ```
+/// use argus_guardian::{Guardian, Listing};
+/// let guardian = Guardian::new()?;
+/// guardian.declare("atomic_record[n:int]")?;
+/// assert_eq!(guardian.list(Listing::Journal)?, "0 declare atomic_record[n:int] -> o0\n");
+/// # Ok::<(), argus_guardian::Error>(())
+/// ```
+#[derive(Debug, Clone, Copy, PartialEq, Eq, Hash)]
+pub enum Listing {
+    /// The base of each object.
+    Bases,
+    /// The same, with each object's readers, and its versions from ancestor to descendant.
+    Stacks,
+    /// The journal's entries.
+    Journal,
+    /// Bases and versions, computed again from the journal's writes.
+    Audit,
+}
+
+/// How many whole lines of the journal were put into a room:
+/// [`Guardian::lines`](crate::Guardian::lines).
+#[derive(Debug, Clone, Copy, PartialEq, Eq)]
+pub struct Lines {
+    /// How many entries' lines they are; 0 if there is none from that number on, or if the room is
+    /// too small for the first line.
+    pub count: u64,
+    /// How many bytes they have, at the beginning of the room. If `count` is 0, how many bytes the
+    /// first line has, or 0 if there is none.
+    pub size: usize,
 }

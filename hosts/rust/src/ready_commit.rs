@@ -1,14 +1,13 @@
-//! `ReadyCommit`: a guardian with a prepared commit.
+//! Commits in two steps.
 
-use crate::ActionId;
-use crate::answer::Answer;
-use crate::decoding::{self, error_of};
 use crate::error::Error;
 use crate::guardian::Guardian;
-use crate::not_ready::NotReady;
-use crate::reply::Reply;
-use crate::sys::{self, Handle, Ready, kind, status};
-use std::fmt;
+use crate::ids::ActionId;
+use crate::library::error_of;
+use crate::reply::{Answer, Reply};
+use crate::sys::{Handle, Ready, kind, status};
+use crate::{library, sys};
+use std::{error, fmt};
 
 // The most bytes that a commit's line has, with its line feed: two numbers of 20 and 10 digits, and
 // the longest refusal, `Suspended`.
@@ -148,7 +147,7 @@ impl ReadyCommit {
         guardian.kept.set(status);
         let owner = guardian.owner.get();
         let none = || Err(Error::OtherAnswer);
-        let reply = decoding::reply_of(owner, kind::COMMIT, status, number, none);
+        let reply = library::reply_of(owner, kind::COMMIT, status, number, none);
         let committed = reply.and_then(Reply::answer).and_then(Answer::done);
         (guardian, committed)
     }
@@ -181,5 +180,39 @@ impl Drop for ReadyHandle {
 impl fmt::Debug for ReadyCommit {
     fn fmt(&self, f: &mut fmt::Formatter<'_>) -> fmt::Result {
         f.debug_struct("ReadyCommit").finish_non_exhaustive()
+    }
+}
+
+/// Why a commit wasn't prepared, with the unchanged guardian. If it is converted into the
+/// [`Error`], the guardian is dropped.
+///
+/// ```
+/// use argus_guardian::{ActionId, Guardian};
+/// let guardian = match Guardian::new()?.ready_commit(ActionId::numbered(0)) {
+///     Ok(ready) => ready.cancel(),
+///     Err(not_ready) => not_ready.guardian,
+/// };
+/// # drop(guardian);
+/// # Ok::<(), argus_guardian::Error>(())
+/// ```
+#[derive(Debug)]
+pub struct NotReady {
+    /// The guardian, unchanged.
+    pub guardian: Guardian,
+    /// Why the commit wasn't prepared.
+    pub error: Error,
+}
+
+impl fmt::Display for NotReady {
+    fn fmt(&self, f: &mut fmt::Formatter<'_>) -> fmt::Result {
+        write!(f, "no commit is ready: {}", self.error)
+    }
+}
+
+impl error::Error for NotReady {}
+
+impl From<NotReady> for Error {
+    fn from(not_ready: NotReady) -> Error {
+        not_ready.error
     }
 }

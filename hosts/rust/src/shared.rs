@@ -1,21 +1,24 @@
 //! `Shared`: a guardian that threads share.
 
-use crate::ActionId;
-use crate::borrower::Borrower;
+pub(crate) mod action;
+pub(crate) mod circles;
+mod folding;
+pub(crate) mod retry;
+mod state;
+mod waits;
+
+use crate::access::explained;
 use crate::call::Call;
-use crate::deadlock::Deadlock;
 use crate::error::Error;
 use crate::guardian::Guardian;
-use crate::lineage::Lineage;
-use crate::refusal::Refusal;
-use crate::reply::Reply;
-use crate::retrying::{MayConflict, waits};
-use crate::shared_action::SharedAction;
-use crate::shared_state::SharedState;
-use crate::waiter::WaitGoal;
-use crate::waiting_access::WaitingAccess;
+use crate::ids::ActionId;
+use crate::object::{AsObject, Object};
+use crate::reply::{Answer, Refusal, Reply};
+use crate::shared::action::SharedAction;
+use crate::shared::circles::Deadlock;
+use crate::shared::state::{Borrower, DroppedAction, SharedState};
+use crate::shared::waits::{Lineage, WaitGoal, WaitingAccess};
 use std::sync::{Mutex, MutexGuard, PoisonError};
-use std::thread;
 use std::time::{Duration, Instant};
 
 const CONFLICT: Reply = Reply::Refused(Refusal::Conflict);
@@ -35,7 +38,7 @@ const CONFLICT: Reply = Reply::Refused(Refusal::Conflict);
 /// This costs a topaction, so avoid circles:
 ///
 /// - Two have read an object, and both want to write it. If an action will write what it reads, call
-///   [`lock`](SharedAction::lock) before it reads; then they take turns.
+///   [`lock`](crate::Access::lock) before it reads; then they take turns.
 /// - Each has locked what the next one wants. Take locks in one order, such as by the number of the
 ///   object.
 ///
@@ -45,28 +48,21 @@ const CONFLICT: Reply = Reply::Refused(Refusal::Conflict);
 /// [`with`](Self::with): a circle that these close may last until patience ends.
 ///
 /// ```
-/// use argus_guardian::{Change, Guardian, Shared};
+/// use argus_guardian::{Access, Guardian, Shared};
 /// use std::thread;
-/// use std::time::Duration;
 ///
-/// let guardian = Guardian::new()?;
-/// let account = guardian.declare("atomic_array[int]")?;
-/// let shared = Shared::new(guardian, Duration::from_secs(1));
-/// let top = shared.topaction()?;
-/// top.alter(account, Change::Create("1[]".parse()?))?.done()?;
-/// top.commit()?;
+/// let shared = Shared::from(Guardian::new()?);
+/// let account = shared.named("account", "atomic_record[balance:int]")?;
+/// shared.run(|top| top.create(&account, (0,)))?;
 /// thread::scope(|scope| {
-///     for amount in [70_i64, 30] {
-///         let shared = &shared;
+///     for amount in [70, 30] {
+///         let (shared, account) = (&shared, &account);
 ///         scope.spawn(move || {
-///             let top = shared.topaction()?;
-///             top.alter(account, Change::Addh(amount.into()))?.done()?;
-///             top.commit()
+///             shared.run(|top| top.update(account, "balance", |it: i64| it + amount))
 ///         });
 ///     }
 /// });
-/// let base = shared.into_inner().base(account)?.expect("it was created");
-/// assert!(["1[70,30]", "1[30,70]"].contains(&base.to_string().as_str()));
+/// assert_eq!(shared.into_inner().base(&account)?, Some((100,).into()));
 /// # Ok::<(), argus_guardian::Error>(())
 /// ```
 #[derive(Debug)]
@@ -165,14 +161,20 @@ impl Shared {
         self.lock().call(call)
     }
 
-    // The same, for an end of an action. If that is a subaction, its topaction is named.
-    pub(crate) fn end(&self, call: &Call, topaction: Option<ActionId>) -> Result<Reply, Error> {
+    // Ends an action. If that is a subaction, its topaction is named. After an outermost one the journal is folded, if
+    // that is due.
+    pub(crate) fn end(
+        &self,
+        call: &Call,
+        topaction: Option<ActionId>,
+        is_outermost: bool,
+    ) -> Result<(), Error> {
         let mut state = self.lock();
-        let reply = state.call(call)?;
-        if let Some(topaction) = topaction {
-            state.break_circles_within(topaction);
+        state.end(call, topaction)?;
+        if is_outermost {
+            self.fold_ended(call, state);
         }
-        Ok(reply)
+        Ok(())
     }
 
     // The same, with how many entries the journal has had up to this call.
@@ -197,7 +199,7 @@ impl Shared {
     /// As for [`Guardian::call`].
     ///
     /// ```
-    /// use argus_guardian::{Call, Change, Guardian, Refusal, Reply, Shared};
+    /// use argus_guardian::{Access, Call, Change, Guardian, Refusal, Reply, Shared};
     /// use std::time::Duration;
     /// let guardian = Guardian::new()?;
     /// let object = guardian.declare("atomic_array[int]")?;
@@ -210,32 +212,50 @@ impl Shared {
     /// # Ok::<(), argus_guardian::Error>(())
     /// ```
     pub fn call_waiting(&self, call: &Call, patience: Duration) -> Result<Reply, Error> {
-        let (reply, _) = self.access(call, patience, Lineage::unknown)?;
+        let (_state, reply, _) = self.access(call, patience, Lineage::unknown)?;
         Ok(reply)
     }
 
-    // The same; the last argument returns an action's lineage. Also returns the circle for which the call is refused.
-    pub(crate) fn access(
+    // The answer to an access by an action of this `Shared`. If it is refused, the error says what is known of that.
+    #[inline]
+    pub(crate) fn answer(
+        &self,
+        call: &Call,
+        lineage_of: impl FnOnce(ActionId) -> Lineage,
+        object: &impl AsObject,
+    ) -> Result<Answer, Error> {
+        let (state, reply, deadlock) = self.access(call, self.patience, lineage_of)?;
+        match deadlock {
+            Some(deadlock) => Err(Error::Deadlock(deadlock)),
+            None => reply
+                .answer()
+                .map_err(|it| explained(&state.guardian, call, object, it)),
+        }
+    }
+
+    // Makes a call that may wait; the last argument returns an action's lineage. Also returns the circle for which the
+    // call is refused.
+    fn access(
         &self,
         call: &Call,
         patience: Duration,
         lineage_of: impl FnOnce(ActionId) -> Lineage,
-    ) -> Result<(Reply, Option<Deadlock>), Error> {
+    ) -> Result<(MutexGuard<'_, SharedState>, Reply, Option<Deadlock>), Error> {
         let mut state = self.lock();
         let mut reply = state.call(call);
         if reply != Ok(CONFLICT) || patience.is_zero() {
-            return Ok((reply?, None));
+            return Ok((state, reply?, None));
         }
         let Some(access) = WaitingAccess::by(call, lineage_of) else {
-            return Ok((reply?, None));
+            return Ok((state, reply?, None));
         };
         let goal = WaitGoal::Access(access);
-        let (_state, deadlock) = Shared::wait_while(state, goal, patience, |state| {
+        let (state, deadlock) = Shared::wait_while(state, goal, patience, |state| {
             reply = state.call(call);
             reply == Ok(CONFLICT)
         });
         let deadlock = deadlock.filter(|_| reply == Ok(CONFLICT));
-        Ok((reply?, deadlock))
+        Ok((state, reply?, deadlock))
     }
 
     /// Begins a topaction. It aborts when it is dropped, unless it has committed. While a thread is in
@@ -247,8 +267,7 @@ impl Shared {
     ///
     /// ```
     /// use argus_guardian::{Guardian, Shared};
-    /// use std::time::Duration;
-    /// let shared = Shared::new(Guardian::new()?, Duration::ZERO);
+    /// let shared = Shared::from(Guardian::new()?);
     /// shared.topaction()?.commit()?;
     /// # Ok::<(), argus_guardian::Error>(())
     /// ```
@@ -259,65 +278,11 @@ impl Shared {
             (state, _) = Shared::wait_while(state, WaitGoal::NoFolding, Duration::MAX, still);
         }
         let id = state.call(&Call::BeginTop)?.action()?;
+        state.growth.begin();
         Ok(SharedAction::of(self, id))
     }
 
-    /// How often [`run`](Self::run) tries at most.
-    pub const TRIES: usize = 20;
-
-    /// Carries out the work as a topaction, which commits if the work returns `Ok`. At a refusal
-    /// with `Conflict` the topaction is aborted, and tried again after a wait: up to a millisecond
-    /// at first, up to twice as much each time, and no more than 100, [`Shared::TRIES`] times in
-    /// all.
-    ///
-    /// **The work may run more than once**, so it must do nothing outside the guardian that mustn't
-    /// be done twice, and begin no nested topaction that mustn't: each try commits it again.
-    ///
-    /// # Errors
-    ///
-    /// The error that the work returns, after which the topaction is aborted; the `Conflict` of the
-    /// last try; as for [`topaction`](Self::topaction) and [`SharedAction::commit`]. A program's
-    /// own error says by [`MayConflict`] whether to try again.
-    ///
-    /// ```
-    /// use argus_guardian::{Change, Error, Guardian, Shared};
-    /// let guardian = Guardian::new()?;
-    /// let counter = guardian.declare("atomic_record[n:int]")?;
-    /// let shared = Shared::from(guardian);
-    /// shared.run(|top| top.alter(counter, Change::Create("{0}".parse()?))?.done())?;
-    /// let count = shared.run(|top| {
-    ///     let count = i64::try_from(top.get(counter, 0)?)? + 1;
-    ///     top.set(counter, 0, count)?;
-    ///     Ok::<_, Error>(count)
-    /// })?;
-    /// assert_eq!(count, 1);
-    /// # Ok::<(), Error>(())
-    /// ```
-    pub fn run<T, E: From<Error> + MayConflict>(
-        &self,
-        mut work: impl FnMut(&SharedAction<'_>) -> Result<T, E>,
-    ) -> Result<T, E> {
-        for wait in waits(Shared::TRIES - 1) {
-            match self.run_once(&mut work) {
-                Err(error) if error.is_conflict() => thread::sleep(wait),
-                result => return result,
-            }
-        }
-        self.run_once(&mut work)
-    }
-
-    fn run_once<T, E: From<Error>>(
-        &self,
-        work: &mut impl FnMut(&SharedAction<'_>) -> Result<T, E>,
-    ) -> Result<T, E> {
-        let top = self.topaction()?;
-        let result = work(&top)?;
-        top.commit()?;
-        Ok(result)
-    }
-
     // Lends the guardian for questions only: no thread is woken.
-    #[cfg(all(feature = "logged", unix))]
     pub(crate) fn lend<T>(&self, what: impl FnOnce(&Guardian) -> T) -> T {
         what(&self.lock().guardian)
     }
@@ -362,12 +327,16 @@ impl Shared {
     }
 
     // The action is dropped: it is aborted now, or when this thread's `with` ends.
-    pub(crate) fn abort_dropped(&self, action: ActionId, topaction: Option<ActionId>) {
+    pub(crate) fn abort_dropped(&self, action: DroppedAction) {
         if self.borrower.is_here() {
-            self.borrower.drop_later(action);
-        } else {
-            // A drop can't report an error.
-            let _ = self.end(&Call::Abort(action), topaction);
+            return self.borrower.drop_later(action);
+        }
+        let abort = Call::Abort(action.id);
+        let mut state = self.lock();
+        // A drop can't report an error. Where it was over before, its guard is gone all the same.
+        let _ = state.end(&abort, action.topaction);
+        if action.is_outermost {
+            self.fold_ended(&abort, state);
         }
     }
 
@@ -383,6 +352,28 @@ impl Shared {
     #[must_use]
     pub fn patience(&self) -> Duration {
         self.patience
+    }
+
+    /// The object of this name; if there is none, declares one of this shape: [`Guardian::named`].
+    ///
+    /// # Errors
+    ///
+    /// As there.
+    ///
+    /// ```
+    /// use argus_guardian::{Guardian, Shared};
+    /// let shared = Shared::from(Guardian::new()?);
+    /// let account = shared.named("account", "atomic_record[balance:int]")?;
+    /// assert_eq!(account.names(), ["balance"]);
+    /// # Ok::<(), argus_guardian::Error>(())
+    /// ```
+    pub fn named(&self, name: &str, shape: impl AsRef<str>) -> Result<Object, Error> {
+        // Not while the mutex is held, which would call the program's code.
+        let shape = shape.as_ref();
+        let mut state = self.lock();
+        let named = state.guardian.named(name, shape);
+        state.return_loan();
+        named
     }
 
     /// The guardian, which is no longer shared.
@@ -411,8 +402,12 @@ impl Drop for Loan<'_> {
     fn drop(&mut self) {
         for action in self.shared.borrower.end() {
             // A drop can't report an error.
-            let _ = self.state.guardian.call(&Call::Abort(action));
+            let _ = self.state.guardian.call(&Call::Abort(action.id));
+            if action.is_outermost {
+                self.state.growth.end();
+            }
         }
+        self.state.return_loan();
         // It may have ended other actions, too.
         self.state.wake();
     }

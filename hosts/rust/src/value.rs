@@ -1,11 +1,10 @@
-//! `Value`: what a field, an element or a tag holds.
+//! What objects hold: values, and contents made of them.
 
-use crate::ObjId;
 use crate::error::Error;
-use crate::reader::Reader;
-use crate::writer::Writer;
-use std::fmt;
+use crate::ids::{ObjId, Owner};
+use crate::written_form::{Reader, Writer};
 use std::str::FromStr;
+use std::{fmt, slice};
 
 /// What a field, an element or a tag holds. Only types have names: fields and tags are numbered
 /// from 0, in the order of their type.
@@ -146,5 +145,101 @@ impl FromStr for Value {
     /// Reads a written form; [`Error::BadText`] if the text isn't one.
     fn from_str(text: &str) -> Result<Value, Error> {
         Reader::whole(text, Reader::value)
+    }
+}
+
+/// What an object holds when it is created. `Display` writes the written form, and `FromStr` reads
+/// it.
+///
+/// ```
+/// use argus_guardian::{Content, Value};
+/// let content: Content = "1[10,20]".parse()?;
+/// assert_eq!(content, Content::Array { low: 1, items: vec![Value::Int(10), Value::Int(20)] });
+/// assert_eq!(content.to_string(), "1[10,20]");
+/// # Ok::<(), argus_guardian::Error>(())
+/// ```
+#[derive(Debug, Clone, PartialEq, Eq, Hash)]
+pub enum Content {
+    /// The fields of an `atomic_record`.
+    Record(Vec<Value>),
+    /// An `atomic_array`: its low bound, and its elements.
+    Array {
+        /// The place of the first element.
+        low: i64,
+        /// The elements, in order.
+        items: Vec<Value>,
+    },
+    /// An `atomic_variant`: its tag, and the tag's value.
+    Variant {
+        /// The number of the tag.
+        tag: u8,
+        /// Its value.
+        value: Value,
+    },
+}
+
+impl fmt::Display for Content {
+    fn fmt(&self, f: &mut fmt::Formatter<'_>) -> fmt::Result {
+        match self {
+            Content::Record(fields) => Writer::list(f, '{', fields, '}'),
+            Content::Array { low, items } => {
+                write!(f, "{low}")?;
+                Writer::list(f, '[', items, ']')
+            }
+            Content::Variant { tag, value } => write!(f, "<{tag}:{value}>"),
+        }
+    }
+}
+
+impl FromStr for Content {
+    type Err = Error;
+
+    /// Reads a written form; [`Error::BadText`] if the text isn't one.
+    fn from_str(text: &str) -> Result<Content, Error> {
+        Reader::whole(text, Reader::content)
+    }
+}
+
+// A value that is deeper is no text, so nobody looks at what it refers to.
+const LEVELS: u8 = 16;
+
+impl Content {
+    /// Whether it refers to no object but this guardian's and nobody's.
+    pub(crate) fn is_for(&self, guardian: Owner) -> bool {
+        let values = match self {
+            Content::Record(fields) => fields,
+            Content::Array { items, .. } => items,
+            Content::Variant { value, .. } => slice::from_ref(value),
+        };
+        values.iter().all(|it| it.is_for(guardian))
+    }
+}
+
+impl Value {
+    /// Whether it refers to no object but this guardian's and nobody's.
+    #[inline]
+    pub(crate) fn is_for(&self, guardian: Owner) -> bool {
+        self.is_plain() || self.refers_to(guardian, LEVELS)
+    }
+
+    // Whether it can't refer to an object.
+    #[inline]
+    fn is_plain(&self) -> bool {
+        matches!(
+            self,
+            Value::Null | Value::Bool(_) | Value::Int(_) | Value::Text(_)
+        )
+    }
+
+    // Whether it refers, down to so many levels, to no object but this guardian's and nobody's.
+    fn refers_to(&self, guardian: Owner, levels: u8) -> bool {
+        let parts = match self {
+            Value::Atomic(object) => return object.is_for(guardian),
+            Value::Sequence(parts) | Value::Fields(parts) if levels > 1 => parts,
+            Value::Choice(_, part) if levels > 1 => slice::from_ref(&**part),
+            _ => return true,
+        };
+        let is_for = |it: &Value| it.is_plain() || it.refers_to(guardian, levels - 1);
+        parts.iter().all(is_for)
     }
 }

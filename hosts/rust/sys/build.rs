@@ -13,6 +13,11 @@ const ARCHIVE: &str = "libargus.a";
 fn main() {
     println!("cargo::rerun-if-env-changed=ARGUS_DIR");
     println!("cargo::rerun-if-env-changed=ARGUS_LIB_DIR");
+    println!("cargo::rerun-if-env-changed=DOCS_RS");
+    if env::var_os("DOCS_RS").is_some() {
+        // Pages are made where there is no archive, and nothing is linked.
+        return;
+    }
     match folder() {
         Ok(folder) => link(&folder),
         Err(words) => words

@@ -1,7 +1,7 @@
 //! Actions that wait for one another in a circle: the youngest is refused at once, and the others go on.
 
 use argus_guardian::{
-    Call, Change, Deadlock, Error, Guardian, ObjId, Refusal, Reply, Shared, SharedAction,
+    Access, Call, Change, Deadlock, Error, Guardian, ObjId, Refusal, Reply, Shared, SharedAction,
 };
 use std::sync::atomic::{AtomicU32, Ordering};
 use std::thread::{self, ScopedJoinHandle};
@@ -18,7 +18,7 @@ fn with_records(count: usize) -> Result<(Shared, Vec<ObjId>), Error> {
     let mut guardian = Guardian::new()?;
     let declared = (0..count).map(|_| guardian.declare("atomic_record[n:int]"));
     let records: Vec<ObjId> = declared.collect::<Result<_, _>>()?;
-    let mut top = guardian.topaction()?;
+    let top = guardian.topaction()?;
     for record in &records {
         top.alter(*record, Change::Create("{0}".parse()?))?.done()?;
     }
@@ -47,7 +47,7 @@ fn lock(top: SharedAction<'_>, record: ObjId) -> Outcome {
 }
 
 fn read(top: SharedAction<'_>, record: ObjId) -> Outcome {
-    top.get(record, 0)?;
+    top.get::<i64>(record, 0)?;
     top.commit()
 }
 
@@ -276,13 +276,13 @@ fn a_nested_topaction_keeps_those_around_it_from_ending() -> Outcome {
 fn readers_are_in_circles() -> Outcome {
     let (shared, records) = with_records(2)?;
     let (older, younger) = (shared.topaction()?, shared.topaction()?);
-    older.get(records[0], 0)?;
+    older.get::<i64>(records[0], 0)?;
     younger.lock(records[1])?;
     thread::scope(|scope| {
         let writes = waits(scope, &shared, || lock(younger, records[0]));
         // It gets the lock that the writer waits for, and is waited for from then on.
         let newcomer = shared.topaction()?;
-        newcomer.get(records[0], 0)?;
+        newcomer.get::<i64>(records[0], 0)?;
         let newcomer = waits(scope, &shared, || read(newcomer, records[1]));
         is_deadlock(joined(newcomer), "a3 waits for a2 at o1, a2 for a3 at o0");
         let reads = waits(scope, &shared, || read(older, records[1]));
@@ -301,8 +301,8 @@ fn who_closes_two_circles_refuses_two() -> Outcome {
     ];
     let [oldest, first, second] = tops;
     oldest.lock(records[0])?;
-    first.get(records[1], 0)?;
-    second.get(records[1], 0)?;
+    first.get::<i64>(records[1], 0)?;
+    second.get::<i64>(records[1], 0)?;
     thread::scope(|scope| {
         let first = waits(scope, &shared, || read(first, records[0]));
         let second = waits(scope, &shared, || lock(second, records[0]));
@@ -317,8 +317,8 @@ fn who_closes_two_circles_refuses_two() -> Outcome {
 fn of_two_that_have_read_the_younger_is_refused() -> Outcome {
     let (shared, records) = with_records(1)?;
     let (older, younger) = (shared.topaction()?, shared.topaction()?);
-    older.get(records[0], 0)?;
-    younger.get(records[0], 0)?;
+    older.get::<i64>(records[0], 0)?;
+    younger.get::<i64>(records[0], 0)?;
     thread::scope(|scope| {
         let younger = waits(scope, &shared, || lock(younger, records[0]));
         let older = waits(scope, &shared, || lock(older, records[0]));
@@ -337,7 +337,7 @@ fn a_lock_for_an_action_that_waits_in_another_thread_closes_a_circle() -> Outcom
     ];
     let [older, younger, reader] = tops;
     younger.lock(records[1])?;
-    reader.get(records[0], 0)?;
+    reader.get::<i64>(records[0], 0)?;
     thread::scope(|scope| {
         let within = waits(scope, &shared, || older.lock(records[1]));
         let beside = waits(scope, &shared, || lock(younger, records[0]));
@@ -378,8 +378,8 @@ fn a_call_by_number_is_refused_by_the_guardian() -> Outcome {
 fn calls_by_number_after_reading_are_in_circles() -> Outcome {
     let (shared, records) = with_records(1)?;
     let (older, younger) = (shared.topaction()?, shared.topaction()?);
-    older.get(records[0], 0)?;
-    younger.get(records[0], 0)?;
+    older.get::<i64>(records[0], 0)?;
+    younger.get::<i64>(records[0], 0)?;
     let call = |top: &SharedAction<'_>| Call::Alter(top.id(), records[0], Change::Touch);
     let (first, second) = (call(&older), call(&younger));
     thread::scope(|scope| {
@@ -396,8 +396,8 @@ fn calls_by_number_after_reading_are_in_circles() -> Outcome {
 fn readers_that_may_be_ancestors_close_no_circle() -> Outcome {
     let (shared, records) = with_records(2)?;
     let (top, reader) = (shared.topaction()?, shared.topaction()?);
-    top.get(records[0], 0)?;
-    reader.get(records[0], 0)?;
+    top.get::<i64>(records[0], 0)?;
+    reader.get::<i64>(records[0], 0)?;
     let (first, second) = (top.subaction()?, top.subaction()?);
     second.lock(records[1])?;
     // By its number alone nobody knows that the topaction's read lock doesn't keep it out.
@@ -430,7 +430,7 @@ fn work(top: &SharedAction<'_>, records: &[ObjId], draws: &mut Draws) -> Outcome
     for _ in 0..3 {
         let record = records[usize::try_from(draws.below(records.len() as u64)).expect("few")];
         match draws.below(5) {
-            0 => drop(top.get(record, 0)?),
+            0 => drop(top.get::<i64>(record, 0)?),
             1 => {
                 let sub = top.subaction()?;
                 sub.lock(record)?;
@@ -438,7 +438,7 @@ fn work(top: &SharedAction<'_>, records: &[ObjId], draws: &mut Draws) -> Outcome
             }
             2 => {
                 let nested = top.nested()?;
-                nested.get(record, 0)?;
+                nested.get::<i64>(record, 0)?;
                 nested.commit()?;
             }
             _ => top.lock(record)?,

@@ -1,8 +1,8 @@
 //! What the guards do when they are dropped, and what ends a wait.
 
 use argus_guardian::{
-    Action, Answer, Call, Change, Content, Error, Guardian, ObjId, Query, Refusal, Reply, Shared,
-    SharedAction, Signal, Value,
+    Access, Action, Answer, Call, Change, Content, Error, Guardian, ObjId, Query, Refusal, Reply,
+    Shared, SharedAction, Signal, Value,
 };
 use std::panic::{AssertUnwindSafe, catch_unwind};
 use std::sync::Barrier;
@@ -19,7 +19,7 @@ fn content(text: &str) -> Content {
 fn with_record() -> Result<(Guardian, ObjId), Error> {
     let mut guardian = Guardian::new()?;
     let record = guardian.declare("atomic_record[n:int]")?;
-    let mut top = guardian.topaction()?;
+    let top = guardian.topaction()?;
     top.alter(record, Change::Create(content("{5}")))?.done()?;
     top.commit()?;
     Ok((guardian, record))
@@ -28,7 +28,7 @@ fn with_record() -> Result<(Guardian, ObjId), Error> {
 #[test]
 fn a_dropped_action_aborts() -> Result<(), Error> {
     let (mut guardian, record) = with_record()?;
-    let mut top = guardian.topaction()?;
+    let top = guardian.topaction()?;
     top.set(record, 0, 7)?;
     drop(top);
     assert_eq!(guardian.base(record)?, Some(content("{5}")));
@@ -40,7 +40,7 @@ fn a_dropped_action_aborts() -> Result<(), Error> {
 fn an_early_return_aborts_each_level() -> Result<(), Error> {
     fn fail(top: &mut Action<'_>, record: ObjId) -> Result<(), Error> {
         let mut sub = top.subaction()?;
-        let mut lower = sub.subaction()?;
+        let lower = sub.subaction()?;
         lower.set(record, 0, 9)?;
         // No array: the guardian refuses.
         lower.ask(record, Query::Size)?.int()?;
@@ -49,11 +49,9 @@ fn an_early_return_aborts_each_level() -> Result<(), Error> {
     }
     let (mut guardian, record) = with_record()?;
     let mut top = guardian.topaction()?;
-    assert_eq!(
-        fail(&mut top, record),
-        Err(Error::Refused(Refusal::IllTyped))
-    );
-    assert_eq!(top.get(record, 0)?, Value::Int(5));
+    let failed = fail(&mut top, record).expect_err("it fails");
+    assert_eq!(failed.refusal(), Some(Refusal::IllTyped));
+    assert_eq!(top.get::<i64>(record, 0)?, 5);
     top.commit()
 }
 
@@ -102,11 +100,11 @@ fn long_texts_come_back_whole() -> Result<(), Error> {
     let mut guardian = Guardian::new()?;
     let record = guardian.declare("atomic_record[t:text]")?;
     let long = "\u{e9}".repeat(5000);
-    let mut top = guardian.topaction()?;
+    let top = guardian.topaction()?;
     let fields = vec![Value::Text(long.clone())];
     top.alter(record, Change::Create(Content::Record(fields)))?
         .done()?;
-    assert_eq!(top.get(record, 0)?, Value::Text(long));
+    assert_eq!(top.get::<Value>(record, 0)?, Value::Text(long));
     top.commit()
 }
 
@@ -115,7 +113,7 @@ fn values_deeper_than_sixteen_are_no_texts() -> Result<(), Error> {
     let (mut guardian, record) = with_record()?;
     let deep = (0..16).fold(Value::Int(1), |value, _| Value::Sequence(vec![value]));
     let before = guardian.entries();
-    let mut top = guardian.topaction()?;
+    let top = guardian.topaction()?;
     let set = top.alter(record, Change::SetField(0, deep));
     assert!(matches!(set, Err(Error::BadText { .. })));
     drop(top);
@@ -175,7 +173,7 @@ fn each_operation_answers() -> Result<(), Error> {
     let mut guardian = Guardian::new()?;
     let array = guardian.declare("atomic_array[int]")?;
     let variant = guardian.declare("atomic_variant[ok:int,bad:text]")?;
-    let mut top = guardian.topaction()?;
+    let top = guardian.topaction()?;
     top.alter(array, Change::Create(content("1[10,20,30]")))?
         .done()?;
     for (query, answer) in [
@@ -221,7 +219,7 @@ fn a_commit_ends_a_wait() -> Result<(), Error> {
     let (holder, waiter) = (shared.topaction()?, shared.topaction()?);
     holder.set(record, 0, 7)?;
     thread::scope(|scope| {
-        let seen = scope.spawn(|| waiter.get(record, 0));
+        let seen = scope.spawn(|| waiter.get::<Value>(record, 0));
         holder.commit()?;
         assert_eq!(seen.join().expect("no panic")?, Value::Int(7));
         Ok(())
@@ -253,10 +251,8 @@ fn patience_ends_a_wait() -> Result<(), Error> {
     let (holder, waiter) = (shared.topaction()?, shared.topaction()?);
     holder.alter(record, Change::Touch)?.done()?;
     let start = Instant::now();
-    assert_eq!(
-        waiter.get(record, 0),
-        Err(Error::Refused(Refusal::Conflict))
-    );
+    let refused = waiter.get::<i64>(record, 0).expect_err("it is held");
+    assert_eq!(refused.refusal(), Some(Refusal::Conflict));
     assert!(start.elapsed() >= Duration::from_millis(20));
     // Refused at first and at last, each an entry.
     let entries = shared.with(Guardian::entries);
@@ -273,7 +269,7 @@ fn two_read_and_set(by_subactions: bool) -> Result<(usize, Duration), Error> {
     let have_read = Barrier::new(2);
     let read_and_set = || {
         let top = shared.topaction()?;
-        top.get(record, 0)?;
+        top.get::<Value>(record, 0)?;
         have_read.wait();
         if by_subactions {
             let sub = top.subaction()?;
@@ -309,8 +305,8 @@ fn siblings_dont_wait_for_what_their_parent_reads() -> Result<(), Error> {
     let (guardian, record) = with_record()?;
     let shared = Shared::new(guardian, LONG);
     let (top, reader) = (shared.topaction()?, shared.topaction()?);
-    top.get(record, 0)?;
-    reader.get(record, 0)?;
+    top.get::<Value>(record, 0)?;
+    reader.get::<Value>(record, 0)?;
     thread::scope(|scope| {
         let set = || {
             let arm = top.subaction()?;
@@ -336,7 +332,7 @@ fn who_locks_before_reading_is_never_refused() -> Result<(), Error> {
     let order = || {
         let top = shared.topaction()?;
         top.lock(record)?;
-        let number = i64::try_from(top.get(record, 0)?)?;
+        let number = top.get::<i64>(record, 0)?;
         thread::yield_now();
         top.set(record, 0, number + 1)?;
         top.commit()

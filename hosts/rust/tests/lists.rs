@@ -1,8 +1,8 @@
 //! Lists of calls, and integers and truth values as answers.
 
 use argus_guardian::{
-    ActionId, Answer, Call, Change, Content, Demand, Error, Guardian, ListEnd, ListedCall, ObjId,
-    Query, Refusal, Reply, Value,
+    Access, ActionId, Answer, Call, Change, Content, Demand, Error, Guardian, ListEnd, ListedCall,
+    ObjId, Query, Refusal, Reply, Value,
 };
 
 // A guardian with a record of an integer, a truth value and a text.
@@ -10,7 +10,7 @@ fn guardian() -> Result<(Guardian, ObjId), Error> {
     let mut guardian = Guardian::new()?;
     let record = guardian.declare("atomic_record[n:int,is:bool,t:text]")?;
     let content = Content::Record(vec![5.into(), true.into(), "a".into()]);
-    let mut top = guardian.topaction()?;
+    let top = guardian.topaction()?;
     top.alter(record, Change::Create(content))?.done()?;
     top.commit()?;
     Ok((guardian, record))
@@ -19,7 +19,7 @@ fn guardian() -> Result<(Guardian, ObjId), Error> {
 #[test]
 fn integers_and_truth_values_are_values() -> Result<(), Error> {
     let (mut guardian, record) = guardian()?;
-    let mut top = guardian.topaction()?;
+    let top = guardian.topaction()?;
     for (field, value) in [(0, 5.into()), (1, true.into()), (2, "a".into())] {
         assert_eq!(top.ask(record, Query::Field(field))?, Answer::Val(value));
     }

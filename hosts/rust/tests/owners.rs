@@ -1,8 +1,8 @@
 //! Ids of other guardians, and ids of actions from before a renewal: they are refused, and nothing is journalled.
 
 use argus_guardian::{
-    Action, ActionId, Answer, Call, Change, Content, Error, Guardian, ListEnd, ListedCall, Listing,
-    ObjId, Query, Refusal, Reply, Resuming, Shared, Status, Value,
+    Access, Action, ActionId, Answer, Call, Change, Content, Error, Guardian, ListEnd, ListedCall,
+    Listing, ObjId, Query, Refusal, Reply, Resuming, Shared, Status, Value,
 };
 use std::mem;
 use std::time::Duration;
@@ -15,7 +15,7 @@ fn with_record(number: i64) -> Result<(Guardian, ObjId), Error> {
     let mut guardian = Guardian::new()?;
     let record = guardian.declare("atomic_record[n:int]")?;
     guardian.declare("atomic_record[to:atomic]")?;
-    let mut top = guardian.topaction()?;
+    let top = guardian.topaction()?;
     let content = Content::Record(vec![Value::Int(number)]);
     top.alter(record, Change::Create(content))?.done()?;
     top.commit()?;
@@ -47,21 +47,21 @@ fn an_object_of_another_guardian_is_refused() -> Result<(), Error> {
     let (other, stranger) = with_record(5)?;
     let (mut guardian, own) = with_record(7)?;
     let named = other.object(stranger)?;
-    let mut top = guardian.topaction()?;
+    let top = guardian.topaction()?;
     let entries = top.guardian().entries();
-    assert_eq!(top.get(stranger, 0), Err(OTHER));
+    assert_eq!(top.get::<Value>(stranger, 0), Err(OTHER));
     assert_eq!(top.set(stranger, 0, 8), Err(OTHER));
     assert_eq!(top.lock(stranger), Err(OTHER));
     assert_eq!(top.ask(stranger, Query::Whole), Err(OTHER));
     assert_eq!(top.alter(stranger, Change::Touch), Err(OTHER));
-    assert_eq!(top.get_named(&named, "n"), Err(OTHER));
-    assert_eq!(top.set_named(&named, "n", 8), Err(OTHER));
+    assert_eq!(top.get::<Value>(&named, "n"), Err(OTHER));
+    assert_eq!(top.set(&named, "n", 8), Err(OTHER));
     assert_eq!(top.test_read(stranger), Err(OTHER));
     assert_eq!(top.test_write(stranger), Err(OTHER));
     assert_eq!(top.guardian().entries(), entries);
     // Its own id, and one that is nobody's.
-    assert_eq!(top.get(own, 0)?, Value::Int(7));
-    assert_eq!(top.get(ObjId::numbered(0), 0)?, Value::Int(7));
+    assert_eq!(top.get::<i64>(own, 0)?, 7);
+    assert_eq!(top.get::<i64>(ObjId::numbered(0), 0)?, 7);
     top.commit()
 }
 
@@ -144,7 +144,7 @@ fn a_reference_to_another_guardians_object_is_refused() -> Result<(), Error> {
     let (_other, stranger) = with_record(5)?;
     let (mut guardian, own) = with_record(7)?;
     let pointer = ObjId::numbered(1);
-    let mut top = guardian.topaction()?;
+    let top = guardian.topaction()?;
     let entries = top.guardian().entries();
     let deep = |object: ObjId| {
         let choice = Value::Choice(0, Box::new(Value::Fields(vec![1.into(), object.into()])));
@@ -174,8 +174,8 @@ fn a_reference_to_another_guardians_object_is_refused() -> Result<(), Error> {
     top.alter(pointer, Change::Create(content))?.done()?;
     top.set(pointer, 0, ObjId::numbered(0))?;
     // These are of no type that the objects have, and so the guardian itself refuses them.
-    let set = top.set(pointer, 0, deep(own));
-    assert_eq!(set, Err(Error::Refused(Refusal::IllTyped)));
+    let refused = top.set(pointer, 0, deep(own)).expect_err("it is deep");
+    assert_eq!(refused.refusal(), Some(Refusal::IllTyped));
     top.commit()
 }
 
@@ -184,12 +184,12 @@ fn a_reference_that_is_read_is_its_guardians() -> Result<(), Error> {
     let (mut guardian, own) = with_record(7)?;
     let (other, _) = with_record(5)?;
     let pointer = ObjId::numbered(1);
-    let mut top = guardian.topaction()?;
+    let top = guardian.topaction()?;
     let content = Content::Record(vec![own.into()]);
     top.alter(pointer, Change::Create(content.clone()))?
         .done()?;
-    let read = ObjId::try_from(top.get(pointer, 0)?)?;
-    assert_eq!(top.get(read, 0)?, Value::Int(7));
+    let read = ObjId::try_from(top.get::<Value>(pointer, 0)?)?;
+    assert_eq!(top.get::<i64>(read, 0)?, 7);
     assert_eq!(other.base(read), Err(OTHER));
     let whole = top.ask(pointer, Query::Whole)?.body()?;
     let versions = top.guardian().versions(pointer)?;
@@ -309,7 +309,7 @@ fn a_guard_from_before_a_renewal_is_over() -> Result<(), Error> {
 }
 
 // Sets the record of this guardian to 9 by an action that was swapped.
-fn set_and_commit(mut top: Action<'_>) -> Result<(), Error> {
+fn set_and_commit(top: Action<'_>) -> Result<(), Error> {
     top.set(ObjId::numbered(0), 0, 9)?;
     top.commit()
 }
@@ -322,7 +322,7 @@ fn actions_that_are_swapped_stay_their_guardians() -> Result<(), Error> {
     let mut sub = one.subaction()?;
     mem::swap(&mut sub, &mut two);
     // `two` is the subaction of the first one now.
-    assert_eq!(two.get(ObjId::numbered(0), 0)?, Value::Int(3));
+    assert_eq!(two.get::<i64>(ObjId::numbered(0), 0)?, 3);
     two.abort()?;
     set_and_commit(sub)?;
     one.commit()?;
@@ -345,7 +345,7 @@ fn actions_that_are_swapped_stay_their_guardians() -> Result<(), Error> {
 fn commits_that_are_ready_and_swapped_stay_their_guardians() -> Result<(), Error> {
     let ready = |number| {
         let (mut guardian, record) = with_record(number)?;
-        let mut top = guardian.topaction()?;
+        let top = guardian.topaction()?;
         top.set(record, 0, number + 10)?;
         let top = top.into_id();
         Ok::<_, Error>((guardian.ready_commit(top)?, record))
@@ -380,7 +380,7 @@ fn a_sharing_refuses_ids_of_another_guardian() -> Result<(), Error> {
     let shared = Shared::new(guardian, Duration::ZERO);
     let top = shared.topaction()?;
     let entries = shared.with(Guardian::entries);
-    assert_eq!(top.get(stranger, 0), Err(OTHER));
+    assert_eq!(top.get::<Value>(stranger, 0), Err(OTHER));
     assert_eq!(top.set(stranger, 0, 8), Err(OTHER));
     assert_eq!(top.lock(stranger), Err(OTHER));
     assert_eq!(top.test_read(stranger), Err(OTHER));
@@ -397,9 +397,9 @@ fn a_sharing_refuses_ids_of_another_guardian() -> Result<(), Error> {
         assert_eq!(waited, Err(OTHER), "{call}");
     }
     assert_eq!(shared.with(Guardian::entries), entries);
-    let tried = shared.run(|top| top.get(stranger, 0));
+    let tried = shared.run(|top| top.get::<Value>(stranger, 0));
     assert_eq!(tried, Err(OTHER));
-    assert_eq!(top.get(own, 0)?, Value::Int(7));
+    assert_eq!(top.get::<i64>(own, 0)?, 7);
     top.commit()
 }
 
@@ -418,7 +418,7 @@ fn a_sharing_says_of_actions_from_before_a_renewal_that_they_are_over() -> Resul
         let waited = shared.call_waiting(&call, Duration::from_secs(60));
         assert_eq!(waited, Err(OVER), "{call}");
     }
-    assert_eq!(top.get(own, 0), Err(OVER));
+    assert_eq!(top.get::<Value>(own, 0), Err(OVER));
     assert_eq!(top.subaction().err(), Some(OVER));
     assert_eq!(top.nested().err(), Some(OVER));
     assert_eq!(top.abort(), Err(OVER));

@@ -1,7 +1,7 @@
 //! Commits in two steps: ready, and then made or cancelled.
 
 use argus_guardian::{
-    Action, ActionId, Change, Content, Error, Guardian, ObjId, Refusal, Status, Value,
+    Access, Action, ActionId, Change, Content, Error, Guardian, ObjId, Refusal, Status, Value,
 };
 use std::thread;
 
@@ -9,7 +9,7 @@ use std::thread;
 fn with_account() -> Result<(Guardian, ObjId, ActionId), Error> {
     let mut guardian = Guardian::new()?;
     let account = guardian.declare("atomic_record[balance:int]")?;
-    let mut top = guardian.topaction()?;
+    let top = guardian.topaction()?;
     top.alter(account, Change::Create(five()))?.done()?;
     let top = Action::into_id(top);
     Ok((guardian, account, top))

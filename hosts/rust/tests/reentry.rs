@@ -1,8 +1,8 @@
 //! What a thread may do of a shared guardian that `Shared::with` has lent to it.
 
 use argus_guardian::{
-    ActionId, Call, Change, Error, Guardian, ObjId, Query, Refusal, Reply, Shared, SharedAction,
-    Status,
+    Access, ActionId, Call, Change, Error, Guardian, ObjId, Query, Refusal, Reply, Shared,
+    SharedAction, Status,
 };
 use std::panic::{AssertUnwindSafe, catch_unwind};
 use std::sync::mpsc;
@@ -34,7 +34,7 @@ fn each_call_of_a_sharing_is_refused_inside_with() -> Result<(), Error> {
     is_refused(&|| drop(shared.call(&Call::BeginTop)));
     is_refused(&|| drop(shared.call_waiting(&Call::BeginTop, LONG)));
     is_refused(&|| drop(shared.topaction()));
-    is_refused(&|| drop(shared.run(|top| top.get(ObjId::numbered(0), 0))));
+    is_refused(&|| drop(shared.run(|top| top.get::<i64>(ObjId::numbered(0), 0))));
     is_refused(&|| assert!(shared.checkpoint().is_ok()));
     is_refused(&|| assert!(shared.checkpoint_waiting(LONG).is_ok()));
     is_refused(&|| assert!(shared.actions_left() > 0));
@@ -51,7 +51,7 @@ fn each_call_of_an_action_is_refused_inside_with() -> Result<(), Error> {
     let is_refused = |what: &dyn Fn()| is_refused(&shared, what);
     is_refused(&|| drop(top.ask(object, Query::Whole)));
     is_refused(&|| drop(top.alter(object, Change::Touch)));
-    is_refused(&|| drop(top.get(object, 0)));
+    is_refused(&|| drop(top.get::<i64>(object, 0)));
     is_refused(&|| drop(top.set(object, 0, 1)));
     is_refused(&|| drop(top.lock(object)));
     is_refused(&|| drop(top.test_read(object)));

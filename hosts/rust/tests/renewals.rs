@@ -1,7 +1,8 @@
 //! A guardian that begins anew with the numbers of its actions, by itself and shared.
 
 use argus_guardian::{
-    ActionId, Call, Change, CheckpointError, Error, Guardian, Refusal, Reply, Shared, Status,
+    Access, ActionId, Call, Change, CheckpointError, Error, Guardian, Refusal, Reply, Shared,
+    Status,
 };
 use std::time::Duration;
 
@@ -22,7 +23,7 @@ fn use_up(guardian: &mut Guardian, left: u32) -> Result<(), Error> {
 fn objects_and_entries_go_on() -> Result<(), Error> {
     let mut guardian = Guardian::new()?;
     let counter = guardian.declare("atomic_record[n:int]")?;
-    let mut top = guardian.topaction()?;
+    let top = guardian.topaction()?;
     top.alter(counter, Change::Create("{5}".parse()?))?.done()?;
     assert_eq!(top.guardian().renew(), Err(CheckpointError::Busy));
     top.commit()?;

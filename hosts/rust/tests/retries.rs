@@ -3,11 +3,10 @@
 #[cfg(all(feature = "logged", unix))]
 use argus_guardian::log::{Logged, LoggedError};
 use argus_guardian::{
-    Change, Error, Guardian, MayConflict, ObjId, Refusal, Shared, SharedAction, Value,
+    Access, Change, Error, Guardian, MayConflict, ObjId, Refusal, Shared, SharedAction,
 };
-use std::error;
-use std::thread;
 use std::time::Duration;
+use std::{error, thread};
 
 /// A shared guardian with a record of 0.
 fn with_counter(patience: Duration) -> Result<(Shared, ObjId), Error> {
@@ -20,7 +19,7 @@ fn with_counter(patience: Duration) -> Result<(Shared, ObjId), Error> {
 
 /// Reads and then writes, which two that do it at once can't both.
 fn count(top: &SharedAction<'_>, counter: ObjId) -> Result<i64, Error> {
-    let count = i64::try_from(top.get(counter, 0)?)? + 1;
+    let count = top.get::<i64>(counter, 0)? + 1;
     thread::sleep(Duration::from_micros(200));
     top.set(counter, 0, count)?;
     Ok(count)
@@ -49,7 +48,7 @@ fn threads_that_read_and_then_write() -> Result<(), Error> {
             .try_for_each(|it| it.join().expect("no panic"))
     })?;
     let top = shared.topaction()?;
-    assert_eq!(top.get(counter, 0)?, Value::Int(THREADS * EACH));
+    assert_eq!(top.get::<i64>(counter, 0)?, THREADS * EACH);
     top.commit()
 }
 
@@ -63,7 +62,7 @@ fn tries_come_to_an_end() -> Result<(), Error> {
         tried += 1;
         count(top, counter)
     });
-    assert_eq!(result, Err(Refusal::Conflict.into()));
+    assert!(result.expect_err("it is held").is_conflict());
     assert_eq!(tried, Shared::TRIES);
     holder.abort()?;
     shared.checkpoint()?;

@@ -1,7 +1,7 @@
 //! Who is woken when actions end. A thread that is woken makes its call again, so the journal's entries tell.
 
 use argus_guardian::{
-    ActionId, Call, Change, Error, Guardian, ObjId, Refusal, Reply, Shared, SharedAction,
+    Access, ActionId, Call, Change, Error, Guardian, ObjId, Refusal, Reply, Shared, SharedAction,
 };
 use std::sync::Barrier;
 use std::sync::atomic::{AtomicBool, AtomicU32, Ordering};
@@ -17,7 +17,7 @@ fn with_records(count: usize) -> Result<(Guardian, Vec<ObjId>), Error> {
     let mut guardian = Guardian::new()?;
     let declared = (0..count).map(|_| guardian.declare("atomic_record[n:int]"));
     let records: Vec<ObjId> = declared.collect::<Result<_, _>>()?;
-    let mut top = guardian.topaction()?;
+    let top = guardian.topaction()?;
     for record in &records {
         top.alter(*record, Change::Create("{0}".parse()?))?.done()?;
     }
@@ -95,7 +95,7 @@ fn a_commit_wakes_all_who_read() -> Result<(), Error> {
     let have_read = Barrier::new(8);
     let read = || {
         let top = shared.topaction()?;
-        top.get(records[0], 0)?;
+        top.get::<i64>(records[0], 0)?;
         have_read.wait();
         top.commit()
     };
@@ -160,12 +160,12 @@ fn a_newcomer_reads(shared: &Shared, record: ObjId) -> Result<(), Error> {
         });
         until_entries(shared, entries + 1);
         let second = scope.spawn(move || {
-            second.get(record, 0)?;
+            second.get::<i64>(record, 0)?;
             second.commit()
         });
         until_entries(shared, entries + 2);
         holder.commit()?;
-        newcomer.get(record, 0)?;
+        newcomer.get::<i64>(record, 0)?;
         second.join().expect("no panic")?;
         newcomer.commit()?;
         first.join().expect("no panic")
@@ -205,7 +205,7 @@ fn work(
         }
         match draws.below(5) {
             0 => {}
-            1 => drop(top.get(*object, 0)?),
+            1 => drop(top.get::<i64>(*object, 0)?),
             2 => top.lock(*object)?,
             3 => {
                 let sub = top.subaction()?;
@@ -279,7 +279,7 @@ fn a_topaction_begins_while_others_make_their_calls() -> Result<(), Error> {
     let call = || {
         let top = shared.topaction()?;
         while !has_begun.load(Ordering::Relaxed) {
-            top.get(records[0], 0)?;
+            top.get::<i64>(records[0], 0)?;
         }
         top.commit()
     };

@@ -5,7 +5,7 @@ use crate::keys::{KeyLookup, Keys, Slot};
 use crate::order::{Order, OrderOutcome, Transfer, TransferEnd};
 use crate::records::{ACCOUNT, KEY, MOST_OBJECTS, OrderRecord, Records};
 use argus_guardian::log::{Logged, LoggedAction, LoggedError};
-use argus_guardian::{Change, Content, Guardian, ObjId, Value};
+use argus_guardian::{Access, Content, Guardian, ObjId, Value};
 use std::sync::{Mutex, MutexGuard, PoisonError, RwLock};
 use std::time::{Duration, Instant};
 
@@ -34,16 +34,11 @@ pub(crate) struct Bank {
 }
 
 fn zero() -> Content {
-    Content::Record(vec![Value::Int(0)])
+    (0,).into()
 }
 
 fn no_key() -> Content {
-    let text = || Value::from("");
-    Content::Record(vec![Value::Int(0), text(), text(), text()])
-}
-
-fn create(top: &LoggedAction<'_>, record: ObjId, content: Content) -> Result<(), LoggedError> {
-    Ok(top.alter(record, Change::Create(content))?.done()?)
+    (0, "", "", "").into()
 }
 
 // The fields of a record that keeps a key.
@@ -119,7 +114,7 @@ impl Bank {
         }
         self.logged.run(|top| {
             let mut missing = missing.iter();
-            missing.try_for_each(|it| create(top, it.0, it.1.clone()))
+            missing.try_for_each(|it| top.create(it.0, it.1.clone()))
         })
     }
 
@@ -192,7 +187,7 @@ impl Bank {
             Some(record) => record,
             None => *next.insert(self.logged.declare(ACCOUNT)?),
         };
-        create(top, record, zero())
+        top.create(record, zero())
     }
 
     fn add_account(&self, record: Option<ObjId>) {
@@ -279,7 +274,7 @@ impl Bank {
             .logged
             .declare_each([KEY; MADE_AT_ONCE].into_iter().take(count))?;
         self.logged
-            .run(|top| records.iter().try_for_each(|it| create(top, *it, no_key())))?;
+            .run(|top| records.iter().try_for_each(|it| top.create(*it, no_key())))?;
         keys.add_unused(records);
         Ok(keys.reserve(key))
     }
@@ -335,12 +330,12 @@ impl Bank {
             return Ok(TransferEnd::NoAccount);
         };
         let sub = top.subaction()?;
-        let Some(there) = i64::try_from(sub.get(to, 0)?)?.checked_add(it.amount) else {
+        let Some(there) = sub.get::<i64>(to, 0)?.checked_add(it.amount) else {
             sub.abort()?;
             return Ok(TransferEnd::TooMuch);
         };
         sub.set(to, 0, there)?;
-        let here = i64::try_from(sub.get(from, 0)?)?.checked_sub(it.amount);
+        let here = sub.get::<i64>(from, 0)?.checked_sub(it.amount);
         let Some(here) = here.filter(|here| *here >= 0 || it.from == OUTSIDE) else {
             sub.abort()?;
             return Ok(TransferEnd::TooLittle);

@@ -1,8 +1,7 @@
 //! `JournalQueue`: what has been taken out of a guardian's journal, and what of that the log hasn't got yet.
 
 use crate::Listing;
-use crate::checkpoint_error::CheckpointError;
-use crate::error::Error;
+use crate::error::{CheckpointError, Error};
 use crate::guardian::Guardian;
 use crate::log::batch_log::{EntryLines, ObjectName, Opening};
 use crate::shared::Shared;

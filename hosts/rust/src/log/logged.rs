@@ -1,10 +1,7 @@
 //! `Logged`: a guardian that threads share, and whose entries go to a log.
 
-use crate::checkpoint_error::CheckpointError;
-use crate::content::Content;
-use crate::error::Error;
+use crate::error::{CheckpointError, Error};
 use crate::guardian::Guardian;
-use crate::listing::Listing;
 use crate::log::batch_log::{BatchLog, EntryLines, ObjectName, Opening};
 use crate::log::failure::Failure;
 use crate::log::group::{Group, LogCounts};
@@ -12,16 +9,18 @@ use crate::log::journal_queue::Goal;
 use crate::log::logged_action::LoggedAction;
 use crate::log::logged_error::LoggedError;
 use crate::log::open_error::OpenError;
-use crate::object::Object;
-use crate::retrying::{MayConflict, waits};
+use crate::object::{AsObject, Object};
+use crate::questions::Listing;
 use crate::shared::Shared;
-use crate::shared_action::SharedAction;
+use crate::shared::action::SharedAction;
+use crate::shared::retry::{MayConflict, retried};
+use crate::value::Content;
 use crate::{ActionId, ObjId};
 use std::collections::HashMap;
+use std::iter;
 use std::sync::atomic::{AtomicU64, Ordering};
 use std::sync::{Mutex, PoisonError};
 use std::time::Duration;
-use std::{iter, thread};
 
 // How long a checkpoint that a log makes by itself holds back topactions; and after how many entries it tries again.
 const PATIENCE: Duration = Duration::from_millis(100);
@@ -43,20 +42,16 @@ const AGAIN: u64 = 10_000;
 /// **None of this is proved**, except the guardian's replies and the call that restores it from its log's lines.
 ///
 /// ```
-/// use argus_guardian::Change;
-/// use argus_guardian::log::{Logged, LoggedError};
+/// use argus_guardian::{Access, log::{Logged, LoggedError}};
 /// # let bank = Logged::in_memory()?;
 /// # #[cfg(feature = "sqlite")] {
 /// # let path = std::env::temp_dir().join(format!("argus-bank-{}.db", std::process::id()));
 /// let bank = Logged::open_or_create(&path).expect("a new log, or all that the log has");
-/// let account = bank.declare_named("account", "atomic_record[balance:int]")?;
-/// if bank.base(account)?.is_none() {
-///     bank.run(|top| {
-///         let five = Change::Create("{5}".parse()?);
-///         Ok::<_, LoggedError>(top.alter(account, five)?.done()?)
-///     })?; // Ok: it is on disk
+/// let account = bank.named("account", "atomic_record[balance:int]")?;
+/// if bank.base(&account)?.is_none() {
+///     bank.run(|top| top.create(&account, (5,)))?; // Ok: it is on disk
 /// }
-/// assert_eq!(bank.base(account)?, Some("{5}".parse()?));
+/// assert_eq!(bank.base(&account)?, Some((5,).into()));
 /// # drop(bank);
 /// # std::fs::remove_file(&path).expect("removed");
 /// # std::fs::remove_file(path.with_extension("db-owner")).expect("removed");
@@ -71,7 +66,7 @@ const AGAIN: u64 = 10_000;
 ///
 /// ```
 /// use argus_guardian::log::{Logged, LoggedAction, LoggedError};
-/// use argus_guardian::{Change, ObjId};
+/// use argus_guardian::{Access, ObjId};
 ///
 /// fn once(
 ///     bank: &Logged,
@@ -81,7 +76,7 @@ const AGAIN: u64 = 10_000;
 /// ) -> Result<(), LoggedError> {
 ///     bank.run(|top| {
 ///         top.lock(last)?;
-///         if i64::try_from(top.get(last, 0)?)? >= number {
+///         if top.get::<i64>(last, 0)? >= number {
 ///             return Ok(()); // it was carried out before
 ///         }
 ///         work(top)?;
@@ -92,12 +87,12 @@ const AGAIN: u64 = 10_000;
 /// # let [last, paid] = [(); 2].map(|()| bank.declare("atomic_record[n:int]").expect("declared"));
 /// # bank.run(|top| {
 /// #     for record in [last, paid] {
-/// #         top.alter(record, Change::Create("{0}".parse()?))?.done()?;
+/// #         top.create(record, (0,))?;
 /// #     }
 /// #     Ok::<_, LoggedError>(())
 /// # })?;
 ///
-/// let pay = |top: &LoggedAction<'_>| top.set(paid, 0, i64::try_from(top.get(paid, 0)?)? + 70);
+/// let pay = |top: &LoggedAction<'_>| top.update(paid, 0, |it: i64| it + 70);
 /// once(&bank, last, 1, pay)?;
 /// once(&bank, last, 1, pay)?; // sent again
 /// assert_eq!(bank.base(paid)?, Some("{70}".parse()?));
@@ -173,7 +168,7 @@ impl Logged {
             again_at: AtomicU64::new(0),
             #[cfg(feature = "sqlite")]
             found: crate::log::log_options::LogFound::default(),
-            shared: Shared::new(guardian, patience),
+            shared: Shared::new(guardian, patience).fold_after(None),
             group: Group::new(log, next),
         }
     }
@@ -224,21 +219,27 @@ impl Logged {
     /// As for [`Shared::run`]; [`LoggedError::Broken`]; [`LoggedError::InDoubt`], after which it isn't tried again.
     pub fn run<T, E: From<LoggedError> + MayConflict>(
         &self,
+        work: impl FnMut(&LoggedAction<'_>) -> Result<T, E>,
+    ) -> Result<T, E> {
+        self.run_if(E::is_conflict, work)
+    }
+
+    /// The same, where this function says which errors are conflicts: [`Shared::run_if`].
+    ///
+    /// # Errors
+    ///
+    /// As for [`run`](Self::run).
+    pub fn run_if<T, E: From<LoggedError>>(
+        &self,
+        is_conflict: impl Fn(&E) -> bool,
         mut work: impl FnMut(&LoggedAction<'_>) -> Result<T, E>,
     ) -> Result<T, E> {
-        let mut once = || {
+        retried(is_conflict, || {
             let top = self.topaction()?;
             let result = work(&top)?;
             top.commit()?;
             Ok(result)
-        };
-        for wait in waits(Shared::TRIES - 1) {
-            match once() {
-                Err(error) if E::is_conflict(&error) => thread::sleep(wait),
-                result => return result,
-            }
-        }
-        once()
+        })
     }
 
     /// Declares an object of this shape. Its number is acknowledged.
@@ -300,12 +301,24 @@ impl Logged {
         Ok(id)
     }
 
+    /// The same, with the object's handle: its name, and the names of its fields or tags.
+    ///
+    /// # Errors
+    ///
+    /// As for [`declare_named`](Self::declare_named).
+    pub fn named(&self, name: &str, shape: impl AsRef<str>) -> Result<Object, LoggedError> {
+        let id = self.declare_named(name, shape.as_ref())?;
+        let object = self.shared()?.lend(|guardian| guardian.object(id))?;
+        Ok(object.called(name))
+    }
+
     /// The object's base, which is acknowledged; `None` if it has no content yet.
     ///
     /// # Errors
     ///
     /// As for [`Guardian::base`]; [`LoggedError::Broken`]; [`LoggedError::InDoubt`].
-    pub fn base(&self, object: ObjId) -> Result<Option<Content>, LoggedError> {
+    pub fn base(&self, object: impl AsObject) -> Result<Option<Content>, LoggedError> {
+        let object = object.id();
         self.acknowledged(|guardian| guardian.base(object))
     }
 

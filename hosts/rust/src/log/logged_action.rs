@@ -1,14 +1,13 @@
 //! `LoggedAction`: a live action of a guardian with a log.
 
-use crate::answer::Answer;
-use crate::change::Change;
+use crate::access::Caller;
+use crate::call::Call;
+use crate::ids::ActionId;
 use crate::log::logged::Logged;
 use crate::log::logged_error::LoggedError;
-use crate::object::Object;
-use crate::query::Query;
-use crate::shared_action::SharedAction;
-use crate::value::Value;
-use crate::{ActionId, ObjId};
+use crate::object::{AsObject, Object};
+use crate::reply::Answer;
+use crate::shared::action::SharedAction;
 
 /// A live action of a guardian with a log: a [`SharedAction`]. The commit of a topaction or a nested one returns when
 /// the log has it.
@@ -16,14 +15,15 @@ use crate::{ActionId, ObjId};
 /// It aborts when it is dropped, unless it has committed. What it reads may come from commits that aren't
 /// in the log yet: to pass it on without committing, call [`Logged::barrier`] first.
 ///
-/// Each call fails as its namesake of [`SharedAction`], or with [`LoggedError::Broken`], and then it isn't made.
+/// What it does with objects is in the trait [`Access`](crate::Access). Each call fails as its namesake of
+/// [`SharedAction`], or with [`LoggedError::Broken`], and then it isn't made.
 ///
 /// ```
-/// # use argus_guardian::{Change, log::Logged};
+/// # use argus_guardian::{Access, log::Logged};
 /// # let logged = Logged::in_memory()?;
 /// let record = logged.declare("atomic_record[n:int]")?;
 /// let top = logged.topaction()?;
-/// top.alter(record, Change::Create("{1}".parse()?))?.done()?;
+/// top.create(record, (1,))?;
 /// let sub = top.subaction()?;
 /// sub.set(record, 0, 2)?;
 /// sub.commit()?; // to its parent: nothing is waited for
@@ -58,61 +58,6 @@ impl<'l> LoggedAction<'l> {
     #[must_use]
     pub fn id(&self) -> ActionId {
         self.action.id()
-    }
-
-    /// Looks at an object. The answer may be a signal.
-    pub fn ask(&self, object: ObjId, query: Query) -> Result<Answer, LoggedError> {
-        Ok(self.action()?.ask(object, query)?)
-    }
-
-    /// Changes an object. The answer may be a signal.
-    pub fn alter(&self, object: ObjId, change: Change) -> Result<Answer, LoggedError> {
-        Ok(self.action()?.alter(object, change)?)
-    }
-
-    /// A field of a record.
-    pub fn get(&self, object: ObjId, field: u8) -> Result<Value, LoggedError> {
-        Ok(self.action()?.get(object, field)?)
-    }
-
-    /// Sets a field of a record.
-    pub fn set(
-        &self,
-        object: ObjId,
-        field: u8,
-        value: impl Into<Value>,
-    ) -> Result<(), LoggedError> {
-        Ok(self.action()?.set(object, field, value)?)
-    }
-
-    /// A field of a record, by its name.
-    pub fn get_named(&self, object: &Object, name: &str) -> Result<Value, LoggedError> {
-        Ok(self.action()?.get_named(object, name)?)
-    }
-
-    /// Sets a field of a record, by its name.
-    pub fn set_named(
-        &self,
-        object: &Object,
-        name: &str,
-        value: impl Into<Value>,
-    ) -> Result<(), LoggedError> {
-        Ok(self.action()?.set_named(object, name, value)?)
-    }
-
-    /// Takes the write lock, and changes nothing. Call it before you read what you will write.
-    pub fn lock(&self, object: ObjId) -> Result<(), LoggedError> {
-        Ok(self.action()?.lock(object)?)
-    }
-
-    /// Takes a read lock; false if it isn't free. It doesn't wait.
-    pub fn test_read(&self, object: ObjId) -> Result<bool, LoggedError> {
-        Ok(self.action()?.test_read(object)?)
-    }
-
-    /// Takes a write lock; false if it isn't free. It doesn't wait.
-    pub fn test_write(&self, object: ObjId) -> Result<bool, LoggedError> {
-        Ok(self.action()?.test_write(object)?)
     }
 
     /// Begins a subaction: what it leaves counts only if its ancestors commit.
@@ -150,5 +95,21 @@ impl<'l> LoggedAction<'l> {
     pub fn abort(self) -> Result<(), LoggedError> {
         self.logged.shared()?;
         Ok(self.action.abort()?)
+    }
+}
+
+impl Caller for LoggedAction<'_> {
+    type Error = LoggedError;
+
+    fn number(&self) -> ActionId {
+        self.action.id()
+    }
+
+    fn make(&self, call: &Call, object: &impl AsObject) -> Result<Answer, LoggedError> {
+        Ok(self.action()?.make(call, object)?)
+    }
+
+    fn find(&self, object: &impl AsObject) -> Result<Object, LoggedError> {
+        Ok(self.action()?.find(object)?)
     }
 }

@@ -1,13 +1,11 @@
 //! `LoggedError`: why a call of a logged guardian failed.
 
 use crate::Error;
-use crate::checkpoint_error::CheckpointError;
+use crate::error::CheckpointError;
 use crate::log::failure::Failure;
-use crate::refusal::Refusal;
-use crate::retrying::MayConflict;
-use crate::signal::Signal;
-use std::error;
-use std::fmt;
+use crate::reply::{Refusal, Signal};
+use crate::shared::retry::MayConflict;
+use std::{error, fmt};
 
 /// Why a call of a logged guardian failed.
 ///

@@ -2,8 +2,7 @@
 
 use crate::error::Error;
 use crate::guardian::Guardian;
-use crate::line_fault::LineFault;
-use crate::resuming::{Opened, Resuming, TakenEnd};
+use crate::resumption::{LineFault, RestoredGuardian, Resumption, TakenEnd};
 
 /// Why the lines of a batch weren't taken.
 #[derive(Debug, Clone, PartialEq, Eq)]
@@ -35,7 +34,7 @@ pub enum LineError {
 /// ```
 #[derive(Debug)]
 pub struct Recovery {
-    resuming: Resuming,
+    resuming: Resumption,
 }
 
 impl Recovery {
@@ -45,7 +44,7 @@ impl Recovery {
     ///
     /// As for [`Guardian::new`].
     pub fn new() -> Result<Recovery, Error> {
-        let resuming = Resuming::new()?;
+        let resuming = Resumption::new()?;
         Ok(Recovery { resuming })
     }
 
@@ -56,7 +55,7 @@ impl Recovery {
     ///
     /// As for [`Guardian::new`].
     pub fn after(guardian: &Guardian) -> Result<Recovery, Error> {
-        let resuming = Resuming::after(guardian)?;
+        let resuming = Resumption::after(guardian)?;
         Ok(Recovery { resuming })
     }
 
@@ -98,7 +97,7 @@ impl Recovery {
     /// [`LineError::Fault`] if an opening isn't complete; [`LineError::OutOfMemory`].
     pub fn into_guardian(self) -> Result<Guardian, LineError> {
         match self.resuming.into_guardian() {
-            Ok(Opened {
+            Ok(RestoredGuardian {
                 guardian,
                 dropped: 0,
             }) => Ok(guardian),

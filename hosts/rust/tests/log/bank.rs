@@ -2,7 +2,7 @@
 
 use crate::orders::{BALANCE, Order};
 use argus_guardian::log::{Logged, LoggedAction, LoggedError};
-use argus_guardian::{Change, Content, ObjId, Value};
+use argus_guardian::{Access, Change, Content, ObjId, Value};
 use std::thread;
 use std::time::Duration;
 
@@ -30,7 +30,7 @@ pub fn last_of(client: u32) -> ObjId {
 }
 
 fn int(action: &LoggedAction<'_>, record: ObjId) -> Result<i64, LoggedError> {
-    Ok(i64::try_from(action.get(record, 0)?)?)
+    action.get(record, 0)
 }
 
 /// The number that a record holds for good.

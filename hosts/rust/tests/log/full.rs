@@ -1,8 +1,8 @@
 //! A disk that is really full. `hosts/run` mounts a small one.
 
 use crate::scratch::Scratch;
-use argus_guardian::Change;
 use argus_guardian::log::{LogOptions, Logged, LoggedError};
+use argus_guardian::{Access, Change};
 use std::fs;
 use std::time::Duration;
 
@@ -14,7 +14,7 @@ fn count(logged: &Logged) -> Result<(), LoggedError> {
         })?;
     }
     logged.run(|top| {
-        let next = i64::try_from(top.get(record, 0)?)? + 1;
+        let next = top.get::<i64>(record, 0)? + 1;
         top.set(record, 0, next)
     })
 }

@@ -2,7 +2,7 @@
 
 use crate::gated_log::{Gate, GatedLog, Piece, Say};
 use argus_guardian::log::{Logged, LoggedAction, LoggedError};
-use argus_guardian::{Change, Error, Guardian, ObjId, Refusal, Value};
+use argus_guardian::{Access, Change, Error, Guardian, ObjId, Refusal, Value};
 use std::sync::Arc;
 use std::sync::mpsc::{Receiver, channel};
 use std::thread;
@@ -178,7 +178,7 @@ fn a_failure_leaves_those_who_wait_in_doubt_and_refuses_the_others() {
             logged.declare("atomic_array[int]").err(),
             logged.barrier().err(),
             logged.checkpoint_waiting(LONG).err(),
-            late.get(ObjId::numbered(0), 0).err(),
+            late.get::<Value>(ObjId::numbered(0), 0).err(),
             late.subaction().err(),
         ];
         for error in errors {

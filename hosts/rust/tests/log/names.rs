@@ -1,8 +1,8 @@
 //! Objects that a log knows by their names.
 
 use crate::faults::Made;
-use argus_guardian::log::{LogFault, Logged, LoggedError, OpenError};
-use argus_guardian::{Change, Error, ObjId};
+use argus_guardian::log::{LogFault, Logged, LoggedAction, LoggedError, OpenError};
+use argus_guardian::{Access, Error, ObjId, Refusal};
 use std::thread;
 use std::time::Duration;
 
@@ -27,9 +27,7 @@ fn they_are_found_again() {
         .declare_named("konto ☃ '\n", SHAPE)
         .expect("declared");
     assert_eq!(other, ObjId::numbered(2));
-    let created = logged.run(|top| {
-        Ok::<_, LoggedError>(top.alter(account, Change::Create("{5}".parse()?))?.done()?)
-    });
+    let created = logged.run(|top| top.create(account, (5,)));
     created.expect("acknowledged");
     drop(logged);
     for folds in [false, true, false] {
@@ -48,6 +46,45 @@ fn they_are_found_again() {
         );
         assert_eq!(logged.objects().expect("told"), 3);
     }
+}
+
+#[test]
+fn a_handle_has_the_name_and_those_of_its_fields() {
+    let made = Made::empty();
+    let logged = open(&made);
+    let account = logged.named("account", SHAPE).expect("declared");
+    assert_eq!((account.name(), account.shape()), (Some("account"), SHAPE));
+    let work = |top: &LoggedAction<'_>| {
+        top.create(&account, (5,))?;
+        top.update(&account, "n", |it: i64| it + 2)
+    };
+    logged.run(work).expect("acknowledged");
+    let base = logged.base(&account).expect("told").expect("created");
+    assert_eq!(base.read::<(i64,)>().expect("an integer"), (7,));
+    let top = logged.topaction().expect("begun");
+    let error = top.set(&account, "n", "seven").expect_err("no integer");
+    let words = "refused: IllTyped: a1 wants to change account by set_field 0: field n is int";
+    assert_eq!(error.to_string(), words);
+    drop(top);
+    drop(logged);
+    let found = open(&made).named("account", SHAPE).expect("found");
+    assert_eq!(found.id(), account.id());
+}
+
+#[test]
+fn a_function_says_what_is_tried_again() {
+    let made = Made::empty();
+    let logged = open(&made);
+    let mut tried = 0;
+    let result = logged.run_if(LoggedError::is_conflict, |_| {
+        tried += 1;
+        if tried < 3 {
+            return Err(Refusal::Conflict.into());
+        }
+        Err::<(), LoggedError>(Refusal::Over.into())
+    });
+    assert!(!result.expect_err("it is over").is_conflict());
+    assert_eq!(tried, 3);
 }
 
 fn logged_after(made: &Made, folds: bool) -> Logged {
@@ -76,7 +113,7 @@ fn another_shape_is_refused() {
         .declare_named("list", "atomic_array[")
         .expect_err("no shape");
     assert!(
-        matches!(error, LoggedError::Guardian(Error::BadShape)),
+        matches!(error, LoggedError::Guardian(Error::BadShape(_))),
         "{error}"
     );
     assert_eq!(logged.objects().expect("told"), 1);

@@ -7,7 +7,7 @@ use crate::scratch::Scratch;
 use argus_guardian::log::{
     BatchLog, EntryLines, LogFault, LogOptions, Logged, LoggedError, OpenError, Opening, SqliteLog,
 };
-use argus_guardian::{ActionId, Change, Guardian, Listing, ObjId};
+use argus_guardian::{Access, ActionId, Change, Guardian, Listing, ObjId};
 use rusqlite::Connection;
 use std::path::Path;
 use std::time::Duration;

@@ -4,7 +4,7 @@ use crate::scratch::Scratch;
 use argus_guardian::log::{
     BatchLog, EntryLines, Failure, Logged, LoggedAction, LoggedError, Opening,
 };
-use argus_guardian::{Change, Error, Guardian, ObjId, Query, Value};
+use argus_guardian::{Access, Change, Error, Guardian, ObjId, Query, Value};
 use std::panic::{AssertUnwindSafe, catch_unwind};
 use std::sync::{Arc, OnceLock};
 use std::time::Duration;
@@ -40,7 +40,7 @@ fn an_object_of_another_guardian_is_refused() {
     assert!(is_of_another(logged.object(stranger)));
     let top = logged.topaction().expect("begun");
     let entries = logged.entries();
-    assert!(is_of_another(top.get(stranger, 0)));
+    assert!(is_of_another(top.get::<Value>(stranger, 0)));
     assert!(is_of_another(top.set(stranger, 0, 6)));
     assert!(is_of_another(top.set(own, 0, stranger)));
     assert!(is_of_another(top.lock(stranger)));
@@ -49,7 +49,7 @@ fn an_object_of_another_guardian_is_refused() {
     assert!(is_of_another(top.test_read(stranger)));
     assert!(is_of_another(top.test_write(stranger)));
     assert_eq!(logged.entries(), entries);
-    assert_eq!(top.get_named(&named, "n").expect("read"), Value::Int(5));
+    assert_eq!(top.get::<Value>(&named, "n").expect("read"), Value::Int(5));
     top.commit().expect("acknowledged");
 }
 

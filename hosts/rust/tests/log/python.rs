@@ -2,7 +2,7 @@
 
 use crate::faults::Made;
 use argus_guardian::log::{LogOptions, Logged, LoggedError};
-use argus_guardian::{Change, Listing};
+use argus_guardian::{Access, Change, Listing};
 use rusqlite::Connection;
 use std::env;
 use std::path::Path;
@@ -95,7 +95,7 @@ fn work(logged: &Logged, folds: bool) -> Result<(), LoggedError> {
 fn count(logged: &Logged) -> Result<(), LoggedError> {
     let record = argus_guardian::ObjId::numbered(0);
     logged.run(|top| {
-        let next = i64::try_from(top.get(record, 0)?)? + 1;
+        let next = top.get::<i64>(record, 0)? + 1;
         top.set(record, 0, next)
     })
 }

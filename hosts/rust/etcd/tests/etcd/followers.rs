@@ -4,7 +4,7 @@ use crate::cluster::{Cluster, has_etcd};
 use crate::leading::{lead, lines};
 use crate::proxy::{Proxy, Way};
 use argus_guardian::log::{BatchLog, EntryLines, Logged, LoggedAction, LoggedError, Opening};
-use argus_guardian::{Call, Change, Content, Error, Guardian, Listing, ObjId, Shared, Value};
+use argus_guardian::{Access, Call, Error, Guardian, Listing, ObjId, Shared};
 use argus_guardian_etcd::{Campaign, EtcdOptions, Follower, Leadership, LogError, Position};
 use std::time::{Duration, Instant};
 
@@ -25,8 +25,7 @@ fn leader(options: &EtcdOptions, name: &str) -> (Logged, Leadership) {
 // A new record, by an id that the guardian of each host takes.
 fn record(bank: &Logged, number: i64) -> ObjId {
     let record = bank.declare("atomic_record[n:int]").expect("declared");
-    let content = || Change::Create(Content::Record(vec![Value::Int(number)]));
-    let created = bank.run(|top| Ok::<_, LoggedError>(top.alter(record, content())?.done()?));
+    let created = bank.run(|top| top.create(record, (number,)));
     created.expect("acknowledged");
     ObjId::numbered(record.number())
 }

@@ -14,11 +14,11 @@
 //!   none of them, and is taken to wait for a reader only if that can't be one of them. An end by a number, and what is
 //!   called inside `Shared::with`, isn't looked at.
 
-use crate::ActionId;
 use crate::guardian::Guardian;
-use crate::waiting_access::WaitingAccess;
+use crate::ids::{ActionId, ObjId};
+use crate::shared::waits::WaitingAccess;
 use std::cell::OnceCell;
-use std::iter;
+use std::{error, fmt, iter};
 
 /// An access that waits and wasn't woken, with its waiter's number.
 #[derive(Clone, Copy)]
@@ -153,3 +153,72 @@ impl<'w> Barrier<'w> {
         self.readers.iter().any(|it| around.contains(it)) || writers.any(|it| around.contains(it))
     }
 }
+
+/// Actions that wait for one another in a circle, of which the first is refused.
+///
+/// ```
+/// use argus_guardian::{Access, Error, Guardian, Shared};
+/// let shared = Shared::from(Guardian::new()?);
+/// let account = shared.named("account", "atomic_record[balance:int]")?;
+/// let top = shared.topaction()?;
+/// top.lock(&account)?;
+/// // It would wait for the lock of the action that waits for its end.
+/// let nested = top.nested()?;
+/// let Err(Error::Deadlock(deadlock)) = nested.lock(&account) else {
+///     panic!("it is refused at once");
+/// };
+/// assert_eq!(deadlock.waits(), [(nested.id(), account.id())]);
+/// assert_eq!(deadlock.to_string(), "a2 waits at account for an action around it");
+/// # Ok::<(), Error>(())
+/// ```
+#[derive(Debug, Clone, PartialEq, Eq)]
+pub struct Deadlock {
+    waits: Vec<(ActionId, ObjId)>,
+    // How their objects are called.
+    names: Vec<String>,
+}
+
+impl Deadlock {
+    pub(crate) fn of(circle: &[Stuck<'_>], guardian: &Guardian) -> Deadlock {
+        let waits = circle.iter().map(|it| (it.access.action, it.access.object));
+        let called = |object: ObjId| guardian.name_of(object).unwrap_or(object.to_string());
+        let names = circle.iter().map(|it| called(it.access.object));
+        Deadlock {
+            waits: waits.collect(),
+            names: names.collect(),
+        }
+    }
+
+    /// The actions, each with the object for whose lock it waits. The first one is refused. Each waits for a lock of
+    /// the next one or of an action around that, and the last one waits for the first.
+    #[must_use]
+    pub fn waits(&self) -> &[(ActionId, ObjId)] {
+        &self.waits
+    }
+}
+
+impl fmt::Display for Deadlock {
+    fn fmt(&self, f: &mut fmt::Formatter<'_>) -> fmt::Result {
+        let waits: Vec<_> = self
+            .waits
+            .iter()
+            .map(|(it, _)| it)
+            .zip(&self.names)
+            .collect();
+        if let [(action, object)] = waits[..] {
+            return write!(f, "{action} waits at {object} for an action around it");
+        }
+        let next = waits.iter().cycle().skip(1);
+        for (place, ((action, object), (other, _))) in waits.iter().zip(next).enumerate() {
+            let (comma, waits) = if place == 0 {
+                ("", "waits ")
+            } else {
+                (", ", "")
+            };
+            write!(f, "{comma}{action} {waits}for {other} at {object}")?;
+        }
+        Ok(())
+    }
+}
+
+impl error::Error for Deadlock {}

@@ -1,20 +1,21 @@
-//! `Resuming`: a guardian that is being restored from the lines of a journal; `Taken`, `Opened`: what it gives.
+//! Guardians that are made again of the lines of a journal.
 
 use crate::error::Error;
 use crate::guardian::Guardian;
-use crate::line_fault::LineFault;
-use crate::sys::{self, status};
+use crate::sys;
+use crate::sys::status;
+use std::{error, fmt};
 
-/// How much of a text [`Resuming::take`](crate::Resuming::take) took, and why no more.
+/// How much of a text [`Resumption::take`](crate::Resumption::take) took, and why no more.
 ///
 /// ```
-/// use argus_guardian::{Resuming, Taken, TakenEnd};
-/// let taken = Resuming::new()?.take("0 begin_top -> a0\n1 commit");
-/// assert_eq!(taken, Taken { bytes: 18, lines: 1, end: TakenEnd::Torn });
+/// use argus_guardian::{Resumption, TakenLines, TakenEnd};
+/// let taken = Resumption::new()?.take("0 begin_top -> a0\n1 commit");
+/// assert_eq!(taken, TakenLines { bytes: 18, lines: 1, end: TakenEnd::Torn });
 /// # Ok::<(), argus_guardian::Error>(())
 /// ```
 #[derive(Debug, Clone, PartialEq, Eq)]
-pub struct Taken {
+pub struct TakenLines {
     /// How many bytes, from the first one on.
     pub bytes: usize,
     /// How many lines these are.
@@ -26,8 +27,8 @@ pub struct Taken {
 /// Why no more lines of a text were taken.
 ///
 /// ```
-/// use argus_guardian::{Resuming, TakenEnd};
-/// let mut resuming = Resuming::new()?;
+/// use argus_guardian::{Resumption, TakenEnd};
+/// let mut resuming = Resumption::new()?;
 /// assert_eq!(resuming.take("0 begin_top -> a0\n").end, TakenEnd::Whole);
 /// assert_eq!(resuming.take("1 commit a0").end, TakenEnd::Torn);
 /// # Ok::<(), argus_guardian::Error>(())
@@ -45,9 +46,9 @@ pub enum TakenEnd {
 }
 
 /// The guardian of the lines that were taken, and how much of these was dropped:
-/// [`Resuming::into_guardian`](crate::Resuming::into_guardian).
+/// [`Resumption::into_guardian`](crate::Resumption::into_guardian).
 #[derive(Debug)]
-pub struct Opened {
+pub struct RestoredGuardian {
     /// The guardian.
     pub guardian: Guardian,
     /// How many bytes were taken that aren't in its listing: those of an opening that refers to
@@ -61,30 +62,30 @@ pub struct Opened {
 /// listing is what was taken.
 ///
 /// ```
-/// use argus_guardian::{Guardian, Listing, Resuming, TakenEnd};
+/// use argus_guardian::{Guardian, Listing, Resumption, TakenEnd};
 /// let first = Guardian::new()?;
 /// first.declare("atomic_array[int]")?;
 /// let listing = first.list(Listing::Journal)?;
 ///
-/// let mut resuming = Resuming::new()?;
+/// let mut resuming = Resumption::new()?;
 /// assert_eq!(resuming.take(&listing).end, TakenEnd::Whole);
 /// let second = resuming.into_guardian()?.guardian;
 /// assert_eq!(second.list(Listing::Journal)?, listing);
 /// # Ok::<(), argus_guardian::Error>(())
 /// ```
 #[derive(Debug)]
-pub struct Resuming {
+pub struct Resumption {
     guardian: Guardian,
 }
 
-impl Resuming {
+impl Resumption {
     /// A new one, which has taken no line.
     ///
     /// # Errors
     ///
     /// As for [`Guardian::new`].
-    pub fn new() -> Result<Resuming, Error> {
-        Ok(Resuming {
+    pub fn new() -> Result<Resumption, Error> {
+        Ok(Resumption {
             guardian: Guardian::new()?,
         })
     }
@@ -97,40 +98,40 @@ impl Resuming {
     /// As for [`Guardian::new`].
     ///
     /// ```
-    /// use argus_guardian::{Guardian, Listing, Resuming};
+    /// use argus_guardian::{Guardian, Listing, Resumption};
     /// let first = Guardian::new()?;
     /// let object = first.declare("atomic_array[int]")?;
-    /// let mut resuming = Resuming::after(&first)?;
+    /// let mut resuming = Resumption::after(&first)?;
     /// resuming.take(&first.list(Listing::Journal)?);
     /// let second = resuming.into_guardian()?.guardian;
     /// assert_eq!(second.base(object)?, None);
     /// # Ok::<(), argus_guardian::Error>(())
     /// ```
-    pub fn after(guardian: &Guardian) -> Result<Resuming, Error> {
-        Ok(Resuming {
+    pub fn after(guardian: &Guardian) -> Result<Resumption, Error> {
+        Ok(Resumption {
             guardian: guardian.successor()?,
         })
     }
 
     // One that has taken nothing, and takes the ids that this one would.
     #[cfg(all(feature = "logged", unix))]
-    pub(crate) fn anew(&self) -> Result<Resuming, Error> {
-        Resuming::after(&self.guardian)
+    pub(crate) fn anew(&self) -> Result<Resumption, Error> {
+        Resumption::after(&self.guardian)
     }
 
     /// Takes whole lines from the beginning of the text, up to the first that isn't the next one of
     /// the listing. What is left may be passed again, with more text after it.
     ///
     /// ```
-    /// use argus_guardian::{LineFault, Resuming, TakenEnd};
-    /// let mut resuming = Resuming::new()?;
+    /// use argus_guardian::{LineFault, Resumption, TakenEnd};
+    /// let mut resuming = Resumption::new()?;
     /// let taken = resuming.take("0 begin_top -> a0\n1 commit a0 -> refused Over\n");
     /// assert_eq!((taken.bytes, taken.lines), (18, 1));
     /// let reply = Some("done".to_owned());
     /// assert_eq!(taken.end, TakenEnd::Fault(LineFault::NotTheReply { reply }));
     /// # Ok::<(), argus_guardian::Error>(())
     /// ```
-    pub fn take(&mut self, text: impl AsRef<[u8]>) -> Taken {
+    pub fn take(&mut self, text: impl AsRef<[u8]>) -> TakenLines {
         let text = text.as_ref();
         let (mut bytes, mut lines, mut number) = (0, 0, 0);
         // SAFETY: no other guardian has the handle, the text is never null, and the three numbers
@@ -160,7 +161,7 @@ impl Resuming {
             }),
             _ => TakenEnd::OutOfMemory,
         };
-        Taken { bytes, lines, end }
+        TakenLines { bytes, lines, end }
     }
 
     /// The guardian of what was taken. If an opening came without entries, it has as many of the
@@ -172,29 +173,29 @@ impl Resuming {
     /// [`Error::OutOfMemory`].
     ///
     /// ```
-    /// use argus_guardian::{ActionId, Resuming, Status};
-    /// let mut resuming = Resuming::new()?;
+    /// use argus_guardian::{ActionId, Resumption, Status};
+    /// let mut resuming = Resumption::new()?;
     /// resuming.take("0 begin_top -> a0\n");
     /// let guardian = resuming.into_guardian()?.guardian;
     /// assert_eq!(guardian.status(ActionId::numbered(0)), Some(Status::Live));
     /// # Ok::<(), argus_guardian::Error>(())
     /// ```
-    pub fn into_guardian(self) -> Result<Opened, Resuming> {
+    pub fn into_guardian(self) -> Result<RestoredGuardian, Resumption> {
         let mut dropped = 0;
         // SAFETY: no other guardian has the handle, and the number is other memory.
         let status = unsafe { sys::argus_c_resumed(self.guardian.handle(), &raw mut dropped) };
         if status != status::DONE {
             return Err(self);
         }
-        Ok(Opened {
+        Ok(RestoredGuardian {
             guardian: self.guardian,
             dropped,
         })
     }
 }
 
-impl From<Resuming> for Error {
-    fn from(_unmade: Resuming) -> Error {
+impl From<Resumption> for Error {
+    fn from(_unmade: Resumption) -> Error {
         Error::OutOfMemory
     }
 }
@@ -202,3 +203,65 @@ impl From<Resuming> for Error {
 fn place(number: i64) -> usize {
     usize::try_from(number).unwrap_or(0)
 }
+
+/// Why a line is not the next one of a journal's listing: the first of these that applies.
+///
+/// ```
+/// use argus_guardian::{LineFault, Resumption, TakenEnd};
+/// let mut resuming = Resumption::new()?;
+/// let taken = resuming.take("0 begin_top -> a0\n2 commit a0 -> done\n");
+/// assert_eq!(taken.end, TakenEnd::Fault(LineFault::NotNext { next: 1 }));
+/// # Ok::<(), argus_guardian::Error>(())
+/// ```
+#[derive(Debug, Clone, PartialEq, Eq)]
+#[non_exhaustive]
+pub enum LineFault {
+    /// It isn't UTF-8.
+    NotUtf8 {
+        /// How many bytes its longest prefix has that is.
+        at: usize,
+    },
+    /// It begins like a line of an opening, but can't be the next one: entries came before it, its
+    /// number isn't the next one, a number is above its limit, no entry went before the opening, a
+    /// shape can't be made, or a content doesn't fit its shape, whatever objects there are.
+    NotAnOpening,
+    /// It isn't the line of an entry.
+    NoLine {
+        /// How many bytes of it could be read: its longest prefix that begins an entry's line, or,
+        /// in a declaration, the text before a shape that can't be made.
+        at: usize,
+    },
+    /// It is the line of an entry, but not with the next number.
+    NotNext {
+        /// The number of the next entry.
+        next: u64,
+    },
+    /// It is the next entry's line, but the opening before it refers to objects that aren't there.
+    NotSound,
+    /// It is the next entry's line, but by the journal before it, its call has another reply.
+    NotTheReply {
+        /// The reply by the journal, as after the arrow of an entry's line; None if there is no
+        /// memory for it.
+        reply: Option<String>,
+    },
+}
+
+impl fmt::Display for LineFault {
+    fn fmt(&self, f: &mut fmt::Formatter<'_>) -> fmt::Result {
+        match self {
+            LineFault::NotUtf8 { at } => write!(f, "not UTF-8 from byte {at} on"),
+            LineFault::NotAnOpening => f.write_str("not a line of the opening"),
+            LineFault::NoLine { at } => write!(f, "no entry from byte {at} on"),
+            LineFault::NotNext { next } => write!(f, "not the number of the next entry, {next}"),
+            LineFault::NotSound => f.write_str("the opening refers to objects that aren't there"),
+            LineFault::NotTheReply { reply: Some(reply) } => {
+                write!(f, "not the reply of the journal before it, {reply}")
+            }
+            LineFault::NotTheReply { reply: None } => {
+                f.write_str("not the reply of the journal before it")
+            }
+        }
+    }
+}
+
+impl error::Error for LineFault {}

@@ -1,15 +1,17 @@
-//! `SharedState`: what a shared guardian keeps behind its mutex.
+//! What a shared guardian keeps behind its mutex, and to which thread it is lent.
 
-use crate::ActionId;
-use crate::answer::Answer;
 use crate::call::Call;
-use crate::circles::{Stuck, circle_with};
-use crate::deadlock::Deadlock;
 use crate::error::Error;
 use crate::guardian::Guardian;
-use crate::reply::Reply;
-use crate::waiter::{WaitGoal, Waiter};
-use std::sync::{Arc, Condvar};
+use crate::ids::ActionId;
+use crate::reply::{Answer, Reply};
+use crate::shared::Shared;
+use crate::shared::circles::{Deadlock, Stuck, circle_with};
+use crate::shared::folding::Growth;
+use crate::shared::waits::{WaitGoal, Waiter};
+use std::sync::atomic::{AtomicUsize, Ordering};
+use std::sync::{Arc, Condvar, Mutex, MutexGuard, PoisonError};
+use std::{mem, ptr};
 
 /// What a shared guardian keeps behind its mutex.
 #[derive(Debug)]
@@ -17,6 +19,8 @@ pub(crate) struct SharedState {
     pub(crate) guardian: Guardian,
     /// How many threads wait until no action is live, to fold the journal: meanwhile no topaction begins.
     pub(crate) folding: u32,
+    /// How far the journal has grown.
+    pub(crate) growth: Growth,
     // The threads that wait, in order of arrival.
     waiting: Vec<Waiter>,
     // The actions that can't end before these threads' accesses are made, sorted; once for each access.
@@ -28,6 +32,7 @@ pub(crate) struct SharedState {
 impl SharedState {
     pub(crate) fn new(guardian: Guardian) -> SharedState {
         SharedState {
+            growth: Growth::of(&guardian, Some(Shared::FOLD_AFTER)),
             guardian,
             folding: 0,
             waiting: Vec::new(),
@@ -40,6 +45,7 @@ impl SharedState {
     /// also waits, in another thread, circles are looked for.
     pub(crate) fn call(&mut self, call: &Call) -> Result<Reply, Error> {
         let reply = self.guardian.call(call)?;
+        self.growth.entries += 1;
         match call {
             Call::Commit(_) | Call::Abort(_) | Call::AbortOthers(_) => {
                 if reply == Reply::Answered(Answer::Done) {
@@ -57,6 +63,15 @@ impl SharedState {
             Call::Declare(_) | Call::BeginTop | Call::BeginSub(_) | Call::BeginNested(_) => {}
         }
         Ok(reply)
+    }
+
+    /// Ends an action. If that is a subaction, its topaction is named.
+    pub(crate) fn end(&mut self, call: &Call, topaction: Option<ActionId>) -> Result<(), Error> {
+        self.call(call)?.answer()?.done()?;
+        if let Some(topaction) = topaction {
+            self.break_circles_within(topaction);
+        }
+        Ok(())
     }
 
     /// This thread waits for that from now on. Returns its number, and the condition on which it waits.
@@ -182,6 +197,66 @@ impl SharedState {
         let mut circle = circle_with(&self.guardian, first, &all)?;
         let youngest = (0..circle.len()).max_by_key(|it| circle[*it].access.age())?;
         circle.rotate_left(youngest);
-        Some((circle[0].number, Deadlock::of(&circle)))
+        Some((circle[0].number, Deadlock::of(&circle, &self.guardian)))
+    }
+}
+
+/// An action whose guard is gone.
+#[derive(Debug, Clone, Copy)]
+pub(crate) struct DroppedAction {
+    pub(crate) id: ActionId,
+    /// Its topaction, if it is a subaction.
+    pub(crate) topaction: Option<ActionId>,
+    /// Whether nothing is around it.
+    pub(crate) is_outermost: bool,
+}
+
+/// Which thread a shared guardian is lent to, by [`Shared::with`](crate::Shared::with), and which actions that thread
+/// has dropped meanwhile. The thread has the guardian's mutex: to lock that again it would wait for itself.
+#[derive(Debug, Default)]
+pub(crate) struct Borrower {
+    // The thread's address of `HERE`, or 0: it isn't lent.
+    thread: AtomicUsize,
+    dropped: Mutex<Vec<DroppedAction>>,
+}
+
+thread_local! {
+    // Its address is another one in each thread that lives.
+    static HERE: u8 = const { 0 };
+}
+
+fn here() -> usize {
+    HERE.with(|it| ptr::from_ref(it).addr())
+}
+
+impl Borrower {
+    /// Whether it is lent to this thread. No other thread writes this thread's address, so no order is needed.
+    #[inline]
+    pub(crate) fn is_here(&self) -> bool {
+        let thread = self.thread.load(Ordering::Relaxed);
+        thread != 0 && thread == here()
+    }
+
+    /// It is lent to this thread, which has the mutex.
+    pub(crate) fn begin(&self) {
+        self.thread.store(here(), Ordering::Relaxed);
+    }
+
+    /// It is lent no more. Returns the actions that were dropped meanwhile.
+    pub(crate) fn end(&self) -> Vec<DroppedAction> {
+        self.thread.store(0, Ordering::Relaxed);
+        mem::take(&mut self.dropped())
+    }
+
+    /// This thread, to which it is lent, drops the action. If there is no memory to note that, the action stays live.
+    pub(crate) fn drop_later(&self, action: DroppedAction) {
+        let mut dropped = self.dropped();
+        if dropped.try_reserve(1).is_ok() {
+            dropped.push(action);
+        }
+    }
+
+    fn dropped(&self) -> MutexGuard<'_, Vec<DroppedAction>> {
+        self.dropped.lock().unwrap_or_else(PoisonError::into_inner)
     }
 }
