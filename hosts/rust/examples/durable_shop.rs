@@ -3,27 +3,27 @@
 //!     cargo run --release --features sqlite --example durable_shop -- shop.db CUSTOMER SEAT..
 
 use argus_guardian::log::{Logged, LoggedAction, LoggedError};
-use argus_guardian::{Change, ObjId};
+use argus_guardian::{Access, Change, Object};
 use std::env;
 use std::error::Error;
 
 const SEAT: &str = "atomic_record[holder:text]";
 
 // Whether nobody has the seat, which is created when it is first asked for.
-fn is_free(top: &LoggedAction<'_>, seat: ObjId) -> Result<bool, LoggedError> {
+fn is_free(top: &LoggedAction<'_>, seat: &Object) -> Result<bool, LoggedError> {
     // If it is there, the answer is a signal. The action has the write lock all the same.
     let _ = top.alter(seat, Change::Create("{\"\"}".parse()?))?;
-    Ok(String::try_from(top.get(seat, 0)?)?.is_empty())
+    Ok(top.get::<String>(seat, "holder")?.is_empty())
 }
 
 // Sells all of these seats, or none; whether it could.
-fn sell(top: &LoggedAction<'_>, seats: &[ObjId], customer: &str) -> Result<bool, LoggedError> {
+fn sell(top: &LoggedAction<'_>, seats: &[Object], customer: &str) -> Result<bool, LoggedError> {
     for seat in seats {
-        if !is_free(top, *seat)? {
+        if !is_free(top, seat)? {
             return Ok(false);
         }
     }
-    seats.iter().try_for_each(|it| top.set(*it, 0, customer))?;
+    seats.iter().try_for_each(|it| top.set(it, "holder", customer))?;
     Ok(true)
 }
 
@@ -33,8 +33,8 @@ fn main() -> Result<(), Box<dyn Error>> {
         return Err("durable_shop DATABASE CUSTOMER SEAT..".into());
     };
     let shop = Logged::open_or_create(path)?;
-    let named = |it| shop.declare_named(&format!("seat {it}"), SEAT);
-    let seats: Vec<ObjId> = seats.iter().map(named).collect::<Result<_, _>>()?;
+    let named = |it| shop.named(&format!("seat {it}"), SEAT);
+    let seats: Vec<Object> = seats.iter().map(named).collect::<Result<_, _>>()?;
     let is_sold = shop.run(|top| sell(top, &seats, customer))?;
     println!("{}", if is_sold { "sold" } else { "taken" }); // here it is on disk
     Ok(())
