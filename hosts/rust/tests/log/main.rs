@@ -3,6 +3,8 @@
 mod bank;
 mod child;
 mod clock;
+mod cuts;
+mod disk;
 mod faults;
 mod full;
 mod gated_log;
@@ -18,4 +20,5 @@ mod processes;
 mod python;
 mod scratch;
 mod syncs;
+mod trace;
 mod wal;
