@@ -18,6 +18,7 @@ mod orders;
 mod owners;
 mod processes;
 mod python;
+mod read_only;
 mod scratch;
 mod syncs;
 mod trace;
