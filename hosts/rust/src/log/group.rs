@@ -6,8 +6,7 @@ use crate::log::journal_queue::{Goal, JournalQueue, Piece};
 use crate::shared::Shared;
 use std::fmt;
 use std::io;
-use std::sync::atomic::{AtomicBool, Ordering};
-use std::sync::{Condvar, Mutex, MutexGuard, PoisonError};
+use std::sync::{Condvar, Mutex, MutexGuard, OnceLock, PoisonError};
 use std::thread::{self, ThreadId};
 use std::time::{Duration, Instant};
 
@@ -35,15 +34,15 @@ pub(crate) struct Group {
     queue: Mutex<JournalQueue>,
     progress: Mutex<Progress>,
     has_changed: Condvar,
-    is_broken: AtomicBool,
+    broken: OnceLock<Failure>,
 }
 
 // How far the log has come.
 struct Progress {
     safe: Goal,
-    broken: Option<Failure>,
-    // The thread that writes.
+    // The thread that writes, and how many others wait.
     writer: Option<ThreadId>,
+    waiting: usize,
     counts: LogCounts,
 }
 
@@ -60,12 +59,12 @@ impl Group {
             queue: Mutex::new(JournalQueue::from(next)),
             progress: Mutex::new(Progress {
                 safe: Goal::entry(next),
-                broken: None,
                 writer: None,
+                waiting: 0,
                 counts: LogCounts::default(),
             }),
             has_changed: Condvar::new(),
-            is_broken: AtomicBool::new(false),
+            broken: OnceLock::new(),
         }
     }
 
@@ -81,8 +80,7 @@ impl Group {
 
     /// Why the log is broken, if it is.
     pub(crate) fn broken(&self) -> Option<Failure> {
-        let is_broken = self.is_broken.load(Ordering::Acquire);
-        is_broken.then(|| locked(&self.progress).broken.clone())?
+        self.broken.get().cloned()
     }
 
     /// Returns when the goal is reached.
@@ -90,7 +88,7 @@ impl Group {
         let this = thread::current().id();
         let mut progress = locked(&self.progress);
         while !progress.safe.includes(goal) {
-            if let Some(failure) = progress.broken.clone() {
+            if let Some(failure) = self.broken() {
                 progress.counts.in_doubt += 1;
                 return Err(failure);
             }
@@ -99,8 +97,11 @@ impl Group {
                     writer != this,
                     "a log that is being written waits for its own guardian, and so for itself"
                 );
+                progress.waiting += 1;
                 let waited = self.has_changed.wait(progress);
-                waited.unwrap_or_else(PoisonError::into_inner)
+                let mut progress = waited.unwrap_or_else(PoisonError::into_inner);
+                progress.waiting -= 1;
+                progress
             } else {
                 progress.writer = Some(this);
                 drop(progress);
@@ -117,7 +118,19 @@ impl Group {
             group: self,
             written: Err(io::Error::other("the thread that wrote panicked").into()),
         };
+        self.gather();
         turn.written = self.write_piece(shared);
+    }
+
+    // Lets other threads run, as long as that brings any that wait: their commits share this write. Where syncs take no
+    // time, as in memory, hardly any would come otherwise.
+    fn gather(&self) {
+        let (mut before, mut waiting) = (None, 0);
+        while before != Some(waiting) {
+            before = Some(waiting);
+            thread::yield_now();
+            waiting = locked(&self.progress).waiting;
+        }
     }
 
     fn write_piece(&self, shared: &Shared) -> Result<Option<(Piece, Duration)>, Failure> {
@@ -154,7 +167,7 @@ impl Progress {
     }
 }
 
-// The turn of a thread that writes; when it ends it wakes the others, after a panic too.
+// The turn of a thread that writes; when it ends it wakes the others, after a panic too. None: there was nothing to write.
 struct WriteTurn<'g> {
     group: &'g Group,
     written: Result<Option<(Piece, Duration)>, Failure>,
@@ -165,12 +178,9 @@ impl Drop for WriteTurn<'_> {
         let mut progress = locked(&self.group.progress);
         progress.writer = None;
         match &self.written {
-            Ok(Some((piece, time))) => progress.advance(piece, *time),
-            // There was nothing to write.
-            Ok(None) => {}
+            Ok(written) => written.iter().for_each(|it| progress.advance(&it.0, it.1)),
             Err(failure) => {
-                self.group.is_broken.store(true, Ordering::Release);
-                progress.broken = Some(failure.clone());
+                self.group.broken.get_or_init(|| failure.clone());
             }
         }
         drop(progress);

@@ -1,11 +1,8 @@
 //! `LoggedError`: why a call of a logged guardian failed.
 
 use crate::Error;
-use crate::checkpoint_error::CheckpointError;
 use crate::log::failure::Failure;
-use crate::refusal::Refusal;
 use crate::retrying::MayConflict;
-use crate::signal::Signal;
 use std::error;
 use std::fmt;
 
@@ -62,26 +59,9 @@ impl MayConflict for LoggedError {
     }
 }
 
-impl From<Error> for LoggedError {
-    fn from(error: Error) -> LoggedError {
-        LoggedError::Guardian(error)
-    }
-}
-
-impl From<CheckpointError> for LoggedError {
-    fn from(error: CheckpointError) -> LoggedError {
+// Whatever a guardian without a log may say, too.
+impl<E: Into<Error>> From<E> for LoggedError {
+    fn from(error: E) -> LoggedError {
         LoggedError::Guardian(error.into())
-    }
-}
-
-impl From<Refusal> for LoggedError {
-    fn from(refusal: Refusal) -> LoggedError {
-        LoggedError::Guardian(refusal.into())
-    }
-}
-
-impl From<Signal> for LoggedError {
-    fn from(signal: Signal) -> LoggedError {
-        LoggedError::Guardian(signal.into())
     }
 }

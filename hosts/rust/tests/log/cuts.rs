@@ -96,7 +96,7 @@ struct Trial {
 impl Trial {
     fn new() -> Trial {
         Trial {
-            scratch: Scratch::made("cut"),
+            scratch: Scratch::in_memory("cut"),
             tried: HashSet::new(),
             counts: Counts::default(),
         }
@@ -162,21 +162,24 @@ fn drawn() -> impl FnMut(usize) -> usize {
 }
 
 // Has the disk take what was done, with a look at it before each sync, and at the end: between two syncs a state that
-// could be left is one that can be left later, too.
-fn follow(disk: &mut Disk, events: &[Event], mut look: impl FnMut(&Disk, &Ledger)) {
-    let mut ledger = Ledger::default();
+// could be left is one that can be left later, too. It also gets the last order that was acknowledged, or -1.
+fn follow(disk: &mut Disk, events: &[Event], mut look: impl FnMut(&Disk, &Ledger, i64)) {
+    let (mut ledger, mut last) = (Ledger::default(), -1);
     for event in events {
         match event {
             Event::Said(text) => text
                 .lines()
                 .filter_map(order_in)
-                .for_each(|(client, number)| ledger.note(client, number)),
-            Event::Sync { .. } | Event::SyncFolder => look(disk, &ledger),
+                .for_each(|(client, number)| {
+                    ledger.note(client, number);
+                    last = number;
+                }),
+            Event::Sync { .. } | Event::SyncFolder => look(disk, &ledger, last),
             _ => {}
         }
         disk.take(event);
     }
-    look(disk, &ledger);
+    look(disk, &ledger, last);
 }
 
 fn traced_bank() -> Option<Vec<Event>> {
@@ -188,10 +191,10 @@ fn traced_bank() -> Option<Vec<Event>> {
 #[test]
 fn no_power_cut_loses_an_acknowledged_order() {
     let Some(events) = traced_bank() else { return };
-    let most = env::var(CUTS).map_or(100, |it| it.parse().expect("a number"));
+    let most = env::var(CUTS).map_or(60, |it| it.parse().expect("a number"));
     for sector in [4096, 512] {
         let mut trial = Trial::new();
-        follow(&mut Disk::of_sectors(sector), &events, |disk, ledger| {
+        follow(&mut Disk::of_sectors(sector), &events, |disk, ledger, _| {
             trial.open_each(disk, ledger, most);
         });
         println!("sectors of {sector} bytes: {}", trial.counts);
@@ -206,20 +209,16 @@ fn a_disk_that_doesnt_sync_loses_one() {
     };
     events.retain(|it| !matches!(it, Event::Sync { file } if file.ends_with("-wal")));
     let (trial, mut lost) = (Trial::new(), 0);
-    follow(&mut Disk::of_sectors(4096), &events, |disk, ledger| {
-        let is_there = |bank: &Logged| {
-            Ok::<_, LoggedError>(is_set_up(bank)? && number(bank, last_of(0))? >= ledger.known(0))
-        };
-        let has_lost = |cut: &Cut| {
+    let is_there = |bank: &Logged, last| {
+        Ok::<_, LoggedError>(is_set_up(bank)? && number(bank, last_of(0))? >= last)
+    };
+    follow(&mut Disk::of_sectors(4096), &events, |disk, _, last| {
+        let has_lost = |cut: &&Cut| {
             let opened = PLAIN.open(trial.lay(&disk.files(cut)));
-            ledger.acknowledged > 0 && opened.is_ok_and(|bank| !is_there(&bank).expect("told"))
+            last >= 0 && opened.is_ok_and(|bank| !is_there(&bank, last).expect("told"))
         };
-        lost += disk
-            .cuts(20, &mut drawn())
-            .0
-            .iter()
-            .filter(|it| has_lost(it))
-            .count();
+        let (cuts, _) = disk.cuts(20, &mut drawn());
+        lost += cuts.iter().filter(has_lost).count();
     });
     assert!(lost > 0);
 }

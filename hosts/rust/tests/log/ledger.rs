@@ -52,11 +52,6 @@ impl Ledger {
         self.acknowledged += 1;
     }
 
-    /// The client's last order of which it is known that it stands; -1: none.
-    pub fn known(&self, client: u32) -> i64 {
-        self.known[client as usize]
-    }
-
     // The order that the client may have sent, and of which it doesn't know what became.
     fn in_flight(&self, client: u32) -> i64 {
         let mut later = self.known[client as usize] + 1..;
