@@ -7,6 +7,7 @@ use crate::bank::{OrderOutcome, carry_out, is_set_up, last_of, number};
 use crate::child::{Child, order_in};
 use crate::clock::built;
 use crate::disk::{Cut, Disk, Files};
+use crate::faults::with;
 use crate::ledger::Ledger;
 use crate::opened_bank::{OPTIONS, open_bank};
 use crate::scratch::Scratch;
@@ -20,6 +21,8 @@ use std::{env, fmt, fs, process};
 
 const CUTS: &str = "ARGUS_LOG_CUTS";
 const RUN: &str = "ARGUS_LOG_RUN";
+// What the name of a backup has behind the log's.
+const COPY: &str = ".copy";
 
 const PLAIN: LogOptions = LogOptions {
     checkpoint_after: None,
@@ -45,6 +48,8 @@ fn child_runs() {
     bank.checkpoint_waiting(Duration::from_secs(10))
         .expect("folded");
     order(&bank, next + 3);
+    let copy = with(&Child::folder(), &format!("{COPY}{next}"));
+    bank.backup(copy).expect("copied");
     // As if it were killed.
     process::exit(0);
 }
@@ -72,16 +77,18 @@ struct Counts {
     complete: usize,
     states: usize,
     opened: usize,
+    backups: usize,
     named: BTreeMap<String, usize>,
 }
 
 impl fmt::Display for Counts {
     fn fmt(&self, f: &mut fmt::Formatter<'_>) -> fmt::Result {
-        let (moments, complete) = (self.moments, self.complete);
-        let (states, opened, named) = (self.states, self.opened, &self.named);
+        let (moments, complete, states) = (self.moments, self.complete, self.states);
+        let (opened, backups, named) = (self.opened, self.backups, &self.named);
         write!(
             f,
-            "{moments} moments, of {complete} all states; {states} states: {opened} opened, not opened {named:?}"
+            "{moments} moments, of {complete} all states; {states} states: {opened} opened, not opened {named:?}; \
+             {backups} backups in them"
         )
     }
 }
@@ -121,13 +128,18 @@ impl Trial {
         self.tried.insert(hasher.finish())
     }
 
-    // Opens a state: all that was acknowledged is there.
+    // Opens a state: all that was acknowledged is there, and each backup is whole.
     fn open(&mut self, files: &Files, ledger: &Ledger) {
         if !self.is_new(files, ledger.acknowledged) {
             return;
         }
         self.counts.states += 1;
-        match PLAIN.open(self.lay(files)) {
+        let path = self.lay(files);
+        for name in files.keys().filter(|it| is_backup(it)) {
+            PLAIN.check(path.with_file_name(name)).expect("it is whole");
+            self.counts.backups += 1;
+        }
+        match PLAIN.open(path) {
             Ok(bank) => {
                 ledger.clone().check(&bank).expect("told");
                 self.counts.opened += 1;
@@ -148,6 +160,11 @@ impl Trial {
             self.open(&disk.files(&cut), ledger);
         }
     }
+}
+
+// Whether it is the name of a backup, and not of one that is being made.
+fn is_backup(name: &str) -> bool {
+    name.contains(COPY) && !name.contains("-new-")
 }
 
 // Numbers below a limit, the same in each run.
@@ -191,14 +208,15 @@ fn traced_bank() -> Option<Vec<Event>> {
 #[test]
 fn no_power_cut_loses_an_acknowledged_order() {
     let Some(events) = traced_bank() else { return };
-    let most = env::var(CUTS).map_or(60, |it| it.parse().expect("a number"));
+    let most = env::var(CUTS).map_or(40, |it| it.parse().expect("a number"));
     for sector in [4096, 512] {
         let mut trial = Trial::new();
         follow(&mut Disk::of_sectors(sector), &events, |disk, ledger, _| {
             trial.open_each(disk, ledger, most);
         });
         println!("sectors of {sector} bytes: {}", trial.counts);
-        assert!(trial.counts.opened > 100, "{}", trial.counts);
+        let (opened, backups) = (trial.counts.opened, trial.counts.backups);
+        assert!(opened > 100 && backups > 100, "{}", trial.counts);
     }
 }
 
