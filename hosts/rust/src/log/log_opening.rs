@@ -149,22 +149,16 @@ fn compare(head: &Head, wanted: &LogOptions, alone: Option<&Head>) -> Result<(),
         let words = format!("the log has {next} entries, and had {least}: it is an older copy");
         return Err(LogFault::LogOld.because(words));
     }
-    let Some(Head {
-        name: own,
-        epoch,
-        next_entry,
-        ..
-    }) = alone
-    else {
+    let Some(alone) = alone else {
         return Ok(());
     };
+    let (own, was) = (&alone.name, alone.next_entry);
     if own != name {
         let words = format!("the file is the log {own}, and the WAL beside it that of {name}");
         return Err(LogFault::OtherLog.because(words));
     }
-    if (*epoch, *next_entry) > (head.epoch, next) {
-        let words =
-            format!("the file has {next_entry} entries, and with its WAL {next}: that is older");
+    if (alone.epoch, was) > (head.epoch, next) {
+        let words = format!("the file has {was} entries, and with its WAL {next}: that is older");
         return Err(LogFault::LogOld.because(words));
     }
     Ok(())

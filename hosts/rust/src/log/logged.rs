@@ -209,11 +209,10 @@ impl Logged {
         }
         let id = self.acknowledged(|guardian| {
             let id = guardian.declare(shape)?;
-            let (number, name, shape) = (id.number(), name.to_owned(), shape.to_owned());
             let name = ObjectName {
-                number,
-                name,
-                shape,
+                number: id.number(),
+                name: name.to_owned(),
+                shape: shape.to_owned(),
             };
             self.group.queue().name(guardian.entries(), name);
             Ok(id)

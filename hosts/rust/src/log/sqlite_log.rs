@@ -109,15 +109,9 @@ impl SqliteLog {
             broken: None,
             process: process::id(),
         };
-        let (epoch, is_open) = (log.head.epoch + 1, 1);
-        log.change(
-            Head {
-                epoch,
-                is_open,
-                ..log.head.clone()
-            },
-            |_| Ok(()),
-        )?;
+        let mut head = log.head.clone();
+        (head.epoch, head.is_open) = (head.epoch + 1, 1);
+        log.change(head, |_| Ok(()))?;
         // What was read and isn't on disk, since whoever wrote it was killed, is on disk now; and the file says that
         // there is a WAL. So it is moved into the file, as far as no reader is in the way.
         log.writing()
@@ -183,13 +177,9 @@ impl SqliteLog {
 
     // Closes it; the file then says that it has no WAL.
     fn close(&mut self) -> Result<(), OpenError> {
-        self.change(
-            Head {
-                is_open: 0,
-                ..self.head.clone()
-            },
-            |_| Ok(()),
-        )?;
+        let mut head = self.head.clone();
+        head.is_open = 0;
+        self.change(head, |_| Ok(()))?;
         self.writing().set_db_config(KEEPS_WAL, false)?;
         Ok(())
     }
