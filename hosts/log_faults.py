@@ -33,9 +33,10 @@ IN_C = [str(BUILT / "c/log_tests")]
 # What the tests print of their counts.
 COUNTED = re.compile(
     r"(\d+) (orders acknowledged|carried out|stand|kills|logs with an opening|logs began with an opening|aborts"
-    r"|states|opened|passed|tests?)\b"
+    r"|states|opened|backups|passed)\b"
 )
-NAMES = {"stand": "carried out", "logs began with an opening": "logs with an opening", "passed": "tests", "test": "tests"}
+NAMES = {"stand": "carried out", "logs began with an opening": "logs with an opening", "passed": "tests"}
+RAN = re.compile(r"^Ran (\d+) tests?", re.MULTILINE)
 
 
 @dataclass
@@ -71,6 +72,8 @@ class Kind:
             (FAILED / f"{self.name.replace(' ', '_')}_{self.runs}").write_text(printed)
         for number, what in COUNTED.findall(printed):
             self.counts[NAMES.get(what, what)] += int(number)
+        if ran := RAN.search(printed):
+            self.counts["tests"] += int(ran[1])
 
     def __str__(self) -> str:
         counts = ", ".join(f"{number:,} {what}" for what, number in self.counts.items())
