@@ -6,6 +6,7 @@ use crate::log::journal_queue::{Goal, JournalQueue, Piece};
 use crate::shared::Shared;
 use std::fmt;
 use std::io;
+use std::mem;
 use std::sync::{Condvar, Mutex, MutexGuard, OnceLock, PoisonError};
 use std::thread::{self, ThreadId};
 use std::time::{Duration, Instant};
@@ -27,6 +28,9 @@ pub struct LogCounts {
     pub in_doubt: u64,
 }
 
+// How long a write waits for other commits at most: less than a disk takes to sync.
+const GATHER: Duration = Duration::from_micros(200);
+
 /// Commits that wait for the log together. A thread that waits and finds no other one writing takes all lines that the
 /// log hasn't got, and writes them for all; calls go on meanwhile.
 pub(crate) struct Group {
@@ -34,15 +38,18 @@ pub(crate) struct Group {
     queue: Mutex<JournalQueue>,
     progress: Mutex<Progress>,
     has_changed: Condvar,
+    have_come: Condvar,
     broken: OnceLock<Failure>,
 }
 
 // How far the log has come.
 struct Progress {
     safe: Goal,
-    // The thread that writes, and how many others wait.
+    // The thread that writes.
     writer: Option<ThreadId>,
+    // How many others wait since the last write ended, and how many waited then.
     waiting: usize,
+    expected: usize,
     counts: LogCounts,
 }
 
@@ -61,9 +68,11 @@ impl Group {
                 safe: Goal::entry(next),
                 writer: None,
                 waiting: 0,
+                expected: 0,
                 counts: LogCounts::default(),
             }),
             has_changed: Condvar::new(),
+            have_come: Condvar::new(),
             broken: OnceLock::new(),
         }
     }
@@ -98,10 +107,11 @@ impl Group {
                     "a log that is being written waits for its own guardian, and so for itself"
                 );
                 progress.waiting += 1;
+                if progress.waiting == progress.expected {
+                    self.have_come.notify_one();
+                }
                 let waited = self.has_changed.wait(progress);
-                let mut progress = waited.unwrap_or_else(PoisonError::into_inner);
-                progress.waiting -= 1;
-                progress
+                waited.unwrap_or_else(PoisonError::into_inner)
             } else {
                 progress.writer = Some(this);
                 drop(progress);
@@ -122,15 +132,15 @@ impl Group {
         turn.written = self.write_piece(shared);
     }
 
-    // Lets other threads run, as long as that brings any that wait: their commits share this write. Where syncs take no
-    // time, as in memory, hardly any would come otherwise.
+    // Waits a little until as many others wait as at the last write: their commits share this one. Where syncs take no
+    // time, as in memory, hardly any would come otherwise. Who is alone doesn't wait.
     fn gather(&self) {
-        let (mut before, mut waiting) = (None, 0);
-        while before != Some(waiting) {
-            before = Some(waiting);
-            thread::yield_now();
-            waiting = locked(&self.progress).waiting;
-        }
+        let are_missing = |it: &mut Progress| it.waiting < it.expected;
+        let progress = locked(&self.progress);
+        drop(
+            self.have_come
+                .wait_timeout_while(progress, GATHER, are_missing),
+        );
     }
 
     fn write_piece(&self, shared: &Shared) -> Result<Option<(Piece, Duration)>, Failure> {
@@ -177,6 +187,7 @@ impl Drop for WriteTurn<'_> {
     fn drop(&mut self) {
         let mut progress = locked(&self.group.progress);
         progress.writer = None;
+        progress.expected = mem::take(&mut progress.waiting);
         match &self.written {
             Ok(written) => written.iter().for_each(|it| progress.advance(&it.0, it.1)),
             Err(failure) => {
