@@ -1,8 +1,8 @@
 """A bank over a log, for the tests of logs, and the processes in which they run it.
 
-    log_bank.py WHAT PATH
+    log_bank.py WHAT PATH [WORD..]
 
-WHAT is a function of `WORKS`.
+WHAT is a function of `WORKS`, which has the rest.
 """
 
 from __future__ import annotations
@@ -21,20 +21,20 @@ from typing import Any
 sys.path.insert(0, str(Path(__file__).resolve().parents[1]))
 
 from argus_guardian import Action  # noqa: E402
-from argus_guardian.log import InDoubt, Log, LogBroken  # noqa: E402
+from argus_guardian.log import InDoubt, Log, LogBroken, LogError  # noqa: E402
 
-CLIENTS = 3
+CLIENTS, MOST_CLIENTS = 3, 16
 LEFT_OPEN: list[Log] = []
 
 
-def open_bank(path: str, **options: Any) -> Log:
+def open_bank(path: str, clients: int = CLIENTS, **options: Any) -> Log:
     """Accounts 0 to 2, which have 100 at first, and for each client the number of its last order."""
     log = Log.open_or_create(path, **options)
-    for _ in range(log.guardian.objects, 3 + CLIENTS):
+    for _ in range(log.guardian.objects, 3 + clients):
         log.guardian.declare("atomic_record[n:int]")
     if log.guardian.base(0) is None:
         with log.topaction() as top:
-            for number in range(3 + CLIENTS):
+            for number in range(3 + clients):
                 top.create(number, (100 if number < 3 else 0,))
     return log
 
@@ -58,9 +58,9 @@ def carry_out(log: Log, client: int, number: int) -> None:
     log.run(work)
 
 
-def serve(path: str) -> None:
+def serve(path: str, clients: str) -> None:
     """The process that is killed: it says which orders are acknowledged. Checkpoints are made by themselves, too."""
-    log, said = open_bank(path, checkpoint_after=500), threading.Lock()
+    log, said = open_bank(path, MOST_CLIENTS, checkpoint_after=500), threading.Lock()
 
     def serve_client(client: int) -> None:
         number = number_in(log, 3 + client)
@@ -70,7 +70,7 @@ def serve(path: str) -> None:
             with said:
                 print(client, number, flush=True)
 
-    for client in range(CLIENTS):
+    for client in range(int(clients)):
         threading.Thread(target=serve_client, args=(client,), daemon=True).start()
     while True:
         time.sleep(0.05)
@@ -102,6 +102,17 @@ def fill(log: Log) -> None:
     except LogBroken:
         print(acknowledged, flush=True)
     log.close()
+
+
+def serve_until_it_breaks(path: str) -> None:
+    """The same, by one thread, until a write or a sync fails, or sixty orders are carried out."""
+    try:
+        log = open_bank(path)
+        for number in range(number_in(log, 3) + 1, number_in(log, 3) + 61):
+            carry_out(log, 0, number)
+            print(number, flush=True)
+    except LogError as error:
+        print(type(error).__name__, file=sys.stderr)
 
 
 def break_log(path: str) -> None:
@@ -139,6 +150,7 @@ def hold(path: str) -> None:
 WORKS = {
     "serve": serve,
     "persist": serve_without_a_wal,
+    "sync": serve_until_it_breaks,
     "break": break_log,
     "fill": fill_disk,
     "leave": leave_open,
@@ -155,10 +167,10 @@ class LogCase(unittest.TestCase):
         self.room = Path(room.name)
         self.path = str(self.room / "bank.db")
 
-    def run_child(self, what: str, **streams: Any) -> subprocess.Popen[str]:
-        words = [sys.executable, __file__, what, self.path]
+    def run_child(self, what: str, *rest: str, **streams: Any) -> subprocess.Popen[str]:
+        words = [sys.executable, __file__, what, self.path, *rest]
         return subprocess.Popen(words, stdout=subprocess.PIPE, text=True, **streams)
 
 
 if __name__ == "__main__":
-    WORKS[sys.argv[1]](sys.argv[2])
+    WORKS[sys.argv[1]](*sys.argv[2:])

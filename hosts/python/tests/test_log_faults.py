@@ -256,6 +256,35 @@ class LogFaults(LogCase):
         with Log.open(self.path) as log:
             self.assertEqual(number_in(log, 3), 29)
 
+    def test_half_of_the_wal_is_gone(self) -> None:
+        self.crash(self.orders)
+        wal = Path(f"{self.path}-wal")
+        kept = wal.read_bytes()
+        # The frames behind the end of a file that is cut off can't be seen; those behind a hole can.
+        wal.write_bytes(kept[: len(kept) // 4] + bytes(len(kept) // 4) + kept[len(kept) // 4 * 2 :])
+        self.refuse(logs.WalDamaged, "has changed")
+        wal.write_bytes(kept[:16])
+        self.refuse(logs.WalMissing)
+
+    def test_what_may_not_be_written(self) -> None:
+        """The superuser may write everything, and so is another user meanwhile."""
+        self.crash(self.orders)
+        self.addCleanup(self.room.chmod, 0o700)
+        if os.geteuid() == 0:
+            self.addCleanup(os.seteuid, 0)
+        for owner in (True, False):
+            if not owner:
+                os.remove(f"{self.path}-owner")
+            self.room.chmod(0o555)
+            if os.getuid() == 0:
+                os.seteuid(65534)
+            self.refuse(logs.LogError, "unable to open|readonly|denied")
+            if os.getuid() == 0:
+                os.seteuid(0)
+            self.room.chmod(0o700)
+        with Log.open(self.path) as log:
+            self.assertEqual(number_in(log, 3), 29)
+
     def test_the_wal_was_moved_by_another_program(self) -> None:
         self.crash(self.orders)
         self.sql("SELECT * FROM log")

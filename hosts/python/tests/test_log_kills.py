@@ -7,6 +7,7 @@ from __future__ import annotations
 
 import os
 import random
+import shutil
 import signal
 import sqlite3
 import subprocess
@@ -20,7 +21,7 @@ from pathlib import Path
 
 sys.path.insert(0, str(Path(__file__).resolve().parent))
 
-from log_bank import CLIENTS, LogCase, carry_out, number_in, open_bank  # noqa: E402
+from log_bank import CLIENTS, MOST_CLIENTS, LogCase, carry_out, number_in, open_bank  # noqa: E402
 
 from argus_guardian.log import Log, LogLocked  # noqa: E402
 
@@ -28,25 +29,25 @@ KILLS = int(os.environ.get("ARGUS_LOG_KILLS", "6"))
 
 
 class Killed(LogCase):
-    """A bank under load, with checkpoints under way."""
+    """A bank of 1, 4 and 16 clients under load, with checkpoints under way."""
 
     def test_killed(self) -> None:
-        last, acknowledged, began_with_an_opening = [0] * CLIENTS, 0, 0
-        for _ in range(KILLS):
-            lines = self.kill()
+        last, acknowledged, began_with_an_opening = [0] * MOST_CLIENTS, 0, 0
+        for number in range(KILLS):
+            lines = self.kill((4, 16, 1)[number % 3])
             for client, number in (map(int, line.split()) for line in lines if line.endswith("\n") and line.strip()):
                 acknowledged += number > last[client]
                 last[client] = number
-            with open_bank(self.path) as log:
+            with open_bank(self.path, MOST_CLIENTS) as log:
                 began_with_an_opening += log.guardian.first_entry > 0
                 last = self.check(log, last)
         self.assertTrue(any(last))
         said = f"{KILLS} kills, {acknowledged} orders acknowledged, {sum(last)} carried out"
         print(f"{said}; {began_with_an_opening} logs began with an opening", file=sys.stderr)
 
-    def kill(self) -> list[str]:
+    def kill(self, clients: int) -> list[str]:
         """What a bank says until it is killed, in its opening or later."""
-        child = self.run_child("serve")
+        child = self.run_child("serve", str(clients))
         assert child.stdout is not None
         lines = []
         if random.random() < 0.8:
@@ -60,7 +61,7 @@ class Killed(LogCase):
 
     def check(self, log: Log, last: list[int]) -> list[int]:
         """No acknowledged order is lost, and none is there in part or twice. What stands."""
-        standing = [number_in(log, 3 + client) for client in range(CLIENTS)]
+        standing = [number_in(log, 3 + client) for client in range(MOST_CLIENTS)]
         wanted = [100] * 3
         for client, number in enumerate(standing):
             self.assertIn(number, (last[client], last[client] + 1))
@@ -198,6 +199,34 @@ class TwoProcesses(LogCase):
             self.assertEqual(other.execute("SELECT * FROM object").fetchall(), [])
             other.execute("COMMIT")
             self.assertEqual(other.execute("SELECT base FROM object WHERE number = 3").fetchall(), [("{3}",)])
+
+
+class FailingSync(LogCase):
+    """One sync of a bank fails, by a library under SQLite."""
+
+    SOURCE = Path(__file__).resolve().parents[2] / "rust/tests/log/syncs.c"
+
+    def setUp(self) -> None:
+        super().setUp()
+        if shutil.which("cc") is None or not self.SOURCE.exists():
+            self.skipTest("no cc, or no hosts/rust beside this")
+        self.library = str(self.room / "syncs.so")
+        subprocess.run(["cc", "-shared", "-fPIC", "-O2", "-o", self.library, str(self.SOURCE)], check=True)
+
+    def test_what_was_acknowledged_is_there(self) -> None:
+        last, failures = 0, 0
+        for sync in (1, 2, 3, 4, 5, 6, 8, 10, 15, 20, 30, 50):
+            words = {**os.environ, "LD_PRELOAD": self.library, "ARGUS_SYNC": str(sync)}
+            child = self.run_child("sync", env=words, stderr=subprocess.PIPE)
+            said, error = child.communicate(timeout=120)
+            self.assertEqual(child.returncode, 0, error)
+            failures += error in ("InDoubt\n", "LogBroken\n")
+            last = max([last, *map(int, said.split())])
+            with open_bank(self.path) as log:
+                self.assertIn(number_in(log, 3), (last, last + 1))
+                self.assertEqual(sum(number_in(log, obj) for obj in range(3)), 300)
+                last = number_in(log, 3)
+        self.assertGreater(failures, 5)
 
 
 class FullDisk(LogCase):

@@ -23,7 +23,9 @@ fn sell(top: &LoggedAction<'_>, seats: &[Object], customer: &str) -> Result<bool
             return Ok(false);
         }
     }
-    seats.iter().try_for_each(|it| top.set(it, "holder", customer))?;
+    seats
+        .iter()
+        .try_for_each(|it| top.set(it, "holder", customer))?;
     Ok(true)
 }
 

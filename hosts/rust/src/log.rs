@@ -20,7 +20,6 @@ mod log_opening;
 mod log_options;
 #[cfg(feature = "sqlite")]
 mod log_rows;
-mod log_sum;
 #[cfg(feature = "sqlite")]
 mod log_wal;
 mod logged;
@@ -31,12 +30,11 @@ mod recovery;
 #[cfg(feature = "sqlite")]
 mod sqlite_log;
 
-pub use batch_log::{BatchLog, EntryLines, ObjectName, Opening};
+pub use batch_log::{BatchLog, EntryLines, ObjectName, Opening, log_sum};
 pub use failure::Failure;
 pub use group::LogCounts;
 #[cfg(feature = "sqlite")]
 pub use log_options::{LogFound, LogOptions};
-pub use log_sum::log_sum;
 pub use logged::Logged;
 pub use logged_action::LoggedAction;
 pub use logged_error::LoggedError;

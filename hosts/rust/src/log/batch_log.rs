@@ -1,4 +1,4 @@
-//! `BatchLog`: what keeps a guardian's entries; `EntryLines`, `ObjectName`, `Opening`: what it is given.
+//! `BatchLog`: what keeps a guardian's entries; `EntryLines`, `ObjectName`, `Opening`: what it is given; `log_sum`.
 
 use crate::log::failure::Failure;
 
@@ -34,9 +34,9 @@ pub trait BatchLog: Send {
 /// ```
 #[derive(Debug, Clone, PartialEq, Eq, Default)]
 pub struct EntryLines {
-    first: u64,
-    count: u64,
-    text: String,
+    pub(crate) first: u64,
+    pub(crate) next: u64,
+    pub(crate) text: String,
     pub(crate) names: Vec<ObjectName>,
 }
 
@@ -58,7 +58,7 @@ impl EntryLines {
         let is_whole = text.is_empty() || text.ends_with('\n');
         is_whole.then(|| EntryLines {
             first,
-            count: line_feeds(text.as_bytes()),
+            next: first.saturating_add(line_feeds(text.as_bytes())),
             text,
             names: Vec::new(),
         })
@@ -73,13 +73,13 @@ impl EntryLines {
     /// The number of the entry after these.
     #[must_use]
     pub fn next(&self) -> u64 {
-        self.first.saturating_add(self.count)
+        self.next
     }
 
     /// Whether there are no lines.
     #[must_use]
     pub fn is_empty(&self) -> bool {
-        self.count == 0
+        self.text.is_empty()
     }
 
     /// The lines, each with its line feed.
@@ -93,11 +93,6 @@ impl EntryLines {
     pub fn names(&self) -> &[ObjectName] {
         &self.names
     }
-}
-
-/// How many line feeds there are.
-pub(crate) fn line_feeds(bytes: &[u8]) -> u64 {
-    bytes.iter().map(|byte| u64::from(*byte == b'\n')).sum()
 }
 
 /// What a journal begins with after a checkpoint: the opening lines of its listing, and the number of the first entry
@@ -134,4 +129,25 @@ impl Opening {
     pub fn text(&self) -> &str {
         &self.text
     }
+}
+
+/// How many line feeds there are.
+pub(crate) fn line_feeds(bytes: &[u8]) -> u64 {
+    bytes.iter().map(|it| u64::from(*it == b'\n')).sum()
+}
+
+/// The sum of a batch after the one before it, or of an opening, whose sum before is 0: the CRC-32 of `NAME FIRST
+/// BEFORE`, a line feed, and the lines without the last line feed. So sums are a chain.
+///
+/// ```
+/// use argus_guardian::log::log_sum;
+/// let opening = log_sum("0123", 0, 0, b"");
+/// assert_eq!(log_sum("0123", 0, opening, b"0 begin_top -> a0"), 0xf401_020e);
+/// ```
+#[must_use]
+pub fn log_sum(name: &str, first: u64, before: u32, lines: &[u8]) -> u32 {
+    let mut hasher = crc32fast::Hasher::new();
+    hasher.update(format!("{name} {first} {before}\n").as_bytes());
+    hasher.update(lines);
+    hasher.finalize()
 }

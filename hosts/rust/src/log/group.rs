@@ -6,8 +6,8 @@ use crate::log::journal_queue::{Goal, JournalQueue, Piece};
 use crate::shared::Shared;
 use std::fmt;
 use std::io;
-use std::sync::atomic::{AtomicBool, Ordering};
-use std::sync::{Condvar, Mutex, MutexGuard, PoisonError};
+use std::mem;
+use std::sync::{Condvar, Mutex, MutexGuard, OnceLock, PoisonError};
 use std::thread::{self, ThreadId};
 use std::time::{Duration, Instant};
 
@@ -28,6 +28,9 @@ pub struct LogCounts {
     pub in_doubt: u64,
 }
 
+// How long a write waits for other commits at most: less than a disk takes to sync.
+const GATHER: Duration = Duration::from_micros(200);
+
 /// Commits that wait for the log together. A thread that waits and finds no other one writing takes all lines that the
 /// log hasn't got, and writes them for all; calls go on meanwhile.
 pub(crate) struct Group {
@@ -35,15 +38,18 @@ pub(crate) struct Group {
     queue: Mutex<JournalQueue>,
     progress: Mutex<Progress>,
     has_changed: Condvar,
-    is_broken: AtomicBool,
+    have_come: Condvar,
+    broken: OnceLock<Failure>,
 }
 
 // How far the log has come.
 struct Progress {
     safe: Goal,
-    broken: Option<Failure>,
     // The thread that writes.
     writer: Option<ThreadId>,
+    // How many others wait since the last write ended, and how many waited then.
+    waiting: usize,
+    expected: usize,
     counts: LogCounts,
 }
 
@@ -60,12 +66,14 @@ impl Group {
             queue: Mutex::new(JournalQueue::from(next)),
             progress: Mutex::new(Progress {
                 safe: Goal::entry(next),
-                broken: None,
                 writer: None,
+                waiting: 0,
+                expected: 0,
                 counts: LogCounts::default(),
             }),
             has_changed: Condvar::new(),
-            is_broken: AtomicBool::new(false),
+            have_come: Condvar::new(),
+            broken: OnceLock::new(),
         }
     }
 
@@ -81,8 +89,7 @@ impl Group {
 
     /// Why the log is broken, if it is.
     pub(crate) fn broken(&self) -> Option<Failure> {
-        let is_broken = self.is_broken.load(Ordering::Acquire);
-        is_broken.then(|| locked(&self.progress).broken.clone())?
+        self.broken.get().cloned()
     }
 
     /// Returns when the goal is reached.
@@ -90,7 +97,7 @@ impl Group {
         let this = thread::current().id();
         let mut progress = locked(&self.progress);
         while !progress.safe.includes(goal) {
-            if let Some(failure) = progress.broken.clone() {
+            if let Some(failure) = self.broken() {
                 progress.counts.in_doubt += 1;
                 return Err(failure);
             }
@@ -99,6 +106,10 @@ impl Group {
                     writer != this,
                     "a log that is being written waits for its own guardian, and so for itself"
                 );
+                progress.waiting += 1;
+                if progress.waiting == progress.expected {
+                    self.have_come.notify_one();
+                }
                 let waited = self.has_changed.wait(progress);
                 waited.unwrap_or_else(PoisonError::into_inner)
             } else {
@@ -117,7 +128,19 @@ impl Group {
             group: self,
             written: Err(io::Error::other("the thread that wrote panicked").into()),
         };
+        self.gather();
         turn.written = self.write_piece(shared);
+    }
+
+    // Waits a little until as many others wait as at the last write: their commits share this one. Where syncs take no
+    // time, as in memory, hardly any would come otherwise. Who is alone doesn't wait.
+    fn gather(&self) {
+        let are_missing = |it: &mut Progress| it.waiting < it.expected;
+        let progress = locked(&self.progress);
+        drop(
+            self.have_come
+                .wait_timeout_while(progress, GATHER, are_missing),
+        );
     }
 
     fn write_piece(&self, shared: &Shared) -> Result<Option<(Piece, Duration)>, Failure> {
@@ -154,7 +177,7 @@ impl Progress {
     }
 }
 
-// The turn of a thread that writes; when it ends it wakes the others, after a panic too.
+// The turn of a thread that writes; when it ends it wakes the others, after a panic too. None: there was nothing to write.
 struct WriteTurn<'g> {
     group: &'g Group,
     written: Result<Option<(Piece, Duration)>, Failure>,
@@ -164,13 +187,11 @@ impl Drop for WriteTurn<'_> {
     fn drop(&mut self) {
         let mut progress = locked(&self.group.progress);
         progress.writer = None;
+        progress.expected = mem::take(&mut progress.waiting);
         match &self.written {
-            Ok(Some((piece, time))) => progress.advance(piece, *time),
-            // There was nothing to write.
-            Ok(None) => {}
+            Ok(written) => written.iter().for_each(|it| progress.advance(&it.0, it.1)),
             Err(failure) => {
-                self.group.is_broken.store(true, Ordering::Release);
-                progress.broken = Some(failure.clone());
+                self.group.broken.get_or_init(|| failure.clone());
             }
         }
         drop(progress);

@@ -10,9 +10,6 @@ use std::collections::VecDeque;
 /// The most bytes that a piece has, except with a line that is longer.
 const PIECE: usize = 256 * 1024;
 
-// What each line of an opening begins with, and no entry's line.
-const OPENING: &str = "opening ";
-
 /// What a thread waits for: that all entries before this one are in the log, and so many openings.
 #[derive(Debug, Clone, Copy, PartialEq, Eq)]
 pub(crate) struct Goal {
@@ -46,9 +43,8 @@ pub(crate) struct JournalQueue {
     // The number of the first entry that hasn't been taken.
     next: u64,
     pieces: VecDeque<Piece>,
-    // How often the journal was folded.
+    // How often the journal was folded, and whether the opening of the last fold hasn't been taken yet.
     folds: u64,
-    // Whether the opening of the last fold hasn't been taken yet.
     owes_opening: bool,
     // Names, each with the number of entries that there have to be before it counts.
     names: Vec<(u64, ObjectName)>,
@@ -82,16 +78,32 @@ impl JournalQueue {
         Ok(self.pieces.pop_front())
     }
 
-    // Takes as many lines as fit into a piece.
+    // Takes as many lines as fit into a piece; at least one, if there are any.
     fn take(&mut self, guardian: &Guardian) -> Result<(), Error> {
-        let mut lines = lines_in(guardian, &mut self.room, self.next)?;
-        self.next = lines.next();
-        if !lines.is_empty() {
-            let named = self.names.iter().take_while(|it| it.0 <= self.next);
-            let named = self.names.drain(..named.count()).map(|it| it.1);
-            lines.names = named.collect();
-            self.pieces.push_back(Piece::Lines(lines));
+        let mut lines = guardian.lines(self.next, &mut self.room)?;
+        if lines.count == 0 && lines.size > 0 {
+            let more = lines.size.saturating_sub(self.room.len());
+            let reserved = self.room.try_reserve(more);
+            reserved.map_err(|_| Error::OutOfMemory)?;
+            self.room.resize(lines.size, 0);
+            lines = guardian.lines(self.next, &mut self.room)?;
         }
+        if lines.count == 0 {
+            return Ok(());
+        }
+        let text = String::from_utf8(self.room[..lines.size].to_vec());
+        let text = text.map_err(|_| Error::OtherAnswer)?;
+        let (first, next) = (self.next, self.next + lines.count);
+        let count = self.names.iter().take_while(|it| it.0 <= next).count();
+        let names = self.names.drain(..count).map(|it| it.1).collect();
+        let lines = EntryLines {
+            first,
+            next,
+            text,
+            names,
+        };
+        self.pieces.push_back(Piece::Lines(lines));
+        self.next = next;
         Ok(())
     }
 
@@ -101,8 +113,10 @@ impl JournalQueue {
             return Ok(());
         }
         let mut text = guardian.list(Listing::Journal)?;
-        let lines = text.split_inclusive('\n');
-        let opening = lines.take_while(|line| line.starts_with(OPENING));
+        // No entry's line begins like that.
+        let opening = text
+            .split_inclusive('\n')
+            .take_while(|it| it.starts_with("opening "));
         text.truncate(opening.map(str::len).sum());
         let opening = Opening::new(self.next, text).ok_or(Error::OtherAnswer)?;
         self.pieces.push_back(Piece::Opening(opening));
@@ -130,21 +144,4 @@ impl JournalQueue {
             openings: self.folds,
         })
     }
-}
-
-// The lines of the entries from this number on, as many as fit into the room; at least one, if there are any, for
-// which the room is made larger.
-fn lines_in(guardian: &Guardian, room: &mut Vec<u8>, from: u64) -> Result<EntryLines, Error> {
-    let mut lines = guardian.lines(from, room)?;
-    if lines.count == 0 && lines.size > 0 {
-        let more = lines.size.saturating_sub(room.len());
-        room.try_reserve(more).map_err(|_| Error::OutOfMemory)?;
-        room.resize(lines.size, 0);
-        lines = guardian.lines(from, room)?;
-    }
-    let text = room.get(..lines.size).map(<[u8]>::to_vec);
-    let text = text.and_then(|it| String::from_utf8(it).ok());
-    let read = text.and_then(|it| EntryLines::new(from, it));
-    read.filter(|it| it.next() - from == lines.count)
-        .ok_or(Error::OtherAnswer)
 }

@@ -1,9 +1,10 @@
 //! How a database is made that is whole before it has its name: a new log, and a copy of one.
 
+use crate::log::batch_log::log_sum;
+use crate::log::log_opening::beside;
 use crate::log::log_rows::{
     APPLICATION, FORMAT, check_pages, head_of, new_name, read_rows, tables,
 };
-use crate::log::log_sum::log_sum;
 use crate::log::open_error::{LogFault, OpenError};
 use crate::log::sqlite_log::{connected, make_durable};
 use rusqlite::backup::{Backup, StepResult};
@@ -49,33 +50,29 @@ pub(crate) fn copy_log(path: &Path, into: &Path) -> Result<(), OpenError> {
     })
 }
 
+// Makes it under another name beside this one, which is a path from the root on, and gives it its own when it is whole.
 fn make(
     path: &Path,
     fill: impl FnOnce(&mut Connection) -> Result<(), OpenError>,
 ) -> Result<(), OpenError> {
+    let refused = |error: io::Error| match error.kind() {
+        ErrorKind::AlreadyExists => {
+            LogFault::Exists.because(format!("a file is there: {}", path.display()))
+        }
+        _ => LogFault::Unreadable.because(format!("{} can't be made: {error}", path.display())),
+    };
     if path.symlink_metadata().is_ok() {
-        return Err(exists(path));
+        return Err(refused(ErrorKind::AlreadyExists.into()));
     }
-    let mut name = path.as_os_str().to_owned();
-    name.push(format!("-new-{}", new_name()?));
-    let new = PathBuf::from(name);
-    let made = made_at(&new, fill);
+    let new = beside(path, &format!("-new-{}", new_name()?));
     // Two that make it at once: one of them is refused.
-    let linked = made.and_then(|()| {
-        fs::hard_link(&new, path).map_err(|error| match error.kind() {
-            ErrorKind::AlreadyExists => exists(path),
-            _ => cannot(path, &error),
-        })
-    });
+    let made = made_at(&new, fill).and_then(|()| fs::hard_link(&new, path).map_err(refused));
     let removed = fs::remove_file(&new);
-    linked?;
+    made?;
     // So that the name outlives a power cut.
-    let folder = path
-        .parent()
-        .filter(|it| *it != Path::new(""))
-        .unwrap_or(Path::new("."));
+    let folder = path.parent().unwrap_or(path);
     let synced = removed.and_then(|()| File::open(folder)?.sync_all());
-    synced.map_err(|error| cannot(path, &error))
+    synced.map_err(refused)
 }
 
 fn made_at(
@@ -87,12 +84,4 @@ fn made_at(
     make_durable(&database)?;
     fill(&mut database)?;
     database.close().map_err(|(_, error)| error.into())
-}
-
-fn exists(path: &Path) -> OpenError {
-    LogFault::Exists.because(format!("a file is there: {}", path.display()))
-}
-
-fn cannot(path: &Path, error: &io::Error) -> OpenError {
-    LogFault::Unreadable.because(format!("{} can't be made: {error}", path.display()))
 }

@@ -1,4 +1,4 @@
-//! Opens a log in a database. It is read first, and nothing is changed if anything is wrong with it.
+//! Reads a log in a database, and changes nothing: what is wrong with it is named.
 
 use crate::guardian::Guardian;
 use crate::log::log_options::{LogFound, LogOptions};
@@ -6,9 +6,9 @@ use crate::log::log_rows::{Head, check_format, check_pages, head_of, is_name, re
 use crate::log::log_wal::{HEADER, check_wal};
 use crate::log::open_error::{LogFault, OpenError};
 use crate::log::recovery::{LineError, Recovery};
-use crate::log::sqlite_log::{KEEPS_WAL, SqliteLog, connected, make_durable};
+use crate::log::sqlite_log::{KEEPS_WAL, connected};
 use crate::{Error, ObjId};
-use rusqlite::{Connection, OpenFlags, params};
+use rusqlite::{Connection, OpenFlags};
 use std::collections::HashMap;
 use std::fs::{self, File};
 use std::io::Read;
@@ -24,72 +24,41 @@ pub(crate) struct ReadLog {
     pub(crate) found: LogFound,
 }
 
-/// Opens the log, which from then on is this process's.
-pub(crate) fn open_log(
-    path: &Path,
-    wanted: &LogOptions,
-) -> Result<(SqliteLog, ReadLog), OpenError> {
-    let owner = locked(path)?;
-    let read = read_log(path, wanted)?;
-    let writing = connected(path, OpenFlags::SQLITE_OPEN_READ_WRITE)?;
-    make_durable(&writing)?;
-    // Until it is closed in order, SQLite leaves the WAL where it is.
-    writing.set_db_config(KEEPS_WAL, true)?;
-    let mode: String = writing.query_row("PRAGMA journal_mode=WAL", [], |row| row.get(0))?;
-    if mode != "wal" {
-        return Err(LogFault::Unreadable
-            .because(format!("the database can't have a WAL: SQLite says {mode}")));
-    }
-    let log = SqliteLog::take_over(writing, owner, read.head.clone())?;
-    // What was read and isn't on disk, since whoever wrote it was killed, is on disk now; and the file says that there
-    // is a WAL.
-    log.move_wal()?;
-    Ok((log, read))
-}
-
-/// Reads a log that no process has, and changes nothing.
-pub(crate) fn check_log(path: &Path, wanted: &LogOptions) -> Result<ReadLog, OpenError> {
-    let _owner = locked(path)?;
-    read_log(path, wanted)
-}
-
-fn beside(path: &Path, suffix: &str) -> PathBuf {
+/// The file beside this one whose name has this suffix, too.
+pub(crate) fn beside(path: &Path, suffix: &str) -> PathBuf {
     let mut name = path.as_os_str().to_owned();
     name.push(suffix);
     name.into()
 }
 
-// Locks a second database, which the process has until it ends. Who only reads the log doesn't need it.
-fn locked(path: &Path) -> Result<Connection, OpenError> {
+/// Locks a second database, which the process has until it ends. Who only reads the log doesn't need it.
+pub(crate) fn lock(path: &Path) -> Result<Connection, OpenError> {
     if !path.exists() {
         return Err(LogFault::NoLog.because(format!("no log is there: {}", path.display())));
     }
     // A pipe would have SQLite wait.
-    let beside = ["", "-wal", "-journal", "-owner"].map(|it| beside(path, it));
-    if let Some(other) = beside
-        .iter()
-        .find(|it| fs::metadata(it).is_ok_and(|it| !it.is_file()))
-    {
+    let files = ["", "-wal", "-journal", "-owner"].map(|it| beside(path, it));
+    let is_other = |it: &&PathBuf| fs::metadata(it).is_ok_and(|it| !it.is_file());
+    if let Some(other) = files.iter().find(is_other) {
         return Err(LogFault::NotALog.because(format!("it isn't a file: {}", other.display())));
     }
     let how = OpenFlags::SQLITE_OPEN_READ_WRITE | OpenFlags::SQLITE_OPEN_CREATE;
-    let owner = connected(&beside[3], how)?;
+    let owner = connected(&files[3], how)?;
     owner.busy_timeout(Duration::ZERO)?;
     // Nothing is ever written there.
     let locked = owner.execute_batch("PRAGMA journal_mode=OFF; BEGIN EXCLUSIVE");
     locked.map_err(|error| match OpenError::from(error) {
-        OpenError::Database(LogFault::Locked, _) => {
-            let path = path.display();
-            LogFault::Locked.because(format!(
-                "another process has the log, or another part of this one: {path}"
-            ))
-        }
+        OpenError::Database(LogFault::Locked, _) => LogFault::Locked.because(format!(
+            "another process has the log, or another part of this one: {}",
+            path.display()
+        )),
         other => other,
     })?;
     Ok(owner)
 }
 
-fn read_log(path: &Path, wanted: &LogOptions) -> Result<ReadLog, OpenError> {
+/// Reads a log that this process has locked.
+pub(crate) fn read_log(path: &Path, wanted: &LogOptions) -> Result<ReadLog, OpenError> {
     if is_hot(path) {
         // SQLite rolls back what was broken off, when it is opened by who can write.
         head_of(&connected(path, OpenFlags::SQLITE_OPEN_READ_WRITE)?)?;
@@ -104,28 +73,28 @@ fn read_log(path: &Path, wanted: &LogOptions) -> Result<ReadLog, OpenError> {
     compare(&head, wanted, alone.as_ref())?;
     check_pages(&reading)?;
     let mut recovery = Recovery::new()?;
-    let (first, batches) = read_rows(&reading, &head, |what, lines| {
+    let read = read_rows(&reading, &head, |what, lines| {
         take(&mut recovery, what, lines)
-    })?;
-    let guardian = recovery
-        .into_guardian()
-        .map_err(|error| not_taken("the opening", error))?;
+    });
+    let (first, batches) = read?;
+    let made = recovery.into_guardian();
+    let guardian = made.map_err(|error| not_taken("the opening", error))?;
     let (taken, next) = (guardian.entries(), head.next_entry);
     if taken != next {
         let words = format!("by the lines entry {taken} comes next, and by `log` entry {next}");
         return Err(LogFault::OtherReply.because(words));
     }
-    let names = names_in(&reading, &guardian)?;
     let found = LogFound {
         path: path.to_owned(),
         name: head.name.clone(),
         batches,
-        entries: head.next_entry - first,
+        entries: next - first,
         next,
         objects: guardian.objects(),
         epoch: head.epoch,
         aborted: 0,
     };
+    let names = names_in(&reading, &guardian)?;
     Ok(ReadLog {
         head,
         guardian,
@@ -137,9 +106,9 @@ fn read_log(path: &Path, wanted: &LogOptions) -> Result<ReadLog, OpenError> {
 // Whether a transaction without a WAL was broken off, so that its journal has to be rolled back.
 fn is_hot(path: &Path) -> bool {
     let mut begins = [0; 8];
-    let journal =
-        File::open(beside(path, "-journal")).and_then(|mut it| it.read_exact(&mut begins));
-    journal.is_ok() && begins != [0; 8] && !beside(path, "-wal").exists()
+    let journal = File::open(beside(path, "-journal"));
+    let read = journal.and_then(|mut it| it.read_exact(&mut begins));
+    read.is_ok() && begins != [0; 8] && !beside(path, "-wal").exists()
 }
 
 // What the file says without its WAL; None if it can't be read so, as in the midst of a move.
@@ -171,34 +140,28 @@ fn check_wal_of(path: &Path, alone: Option<&Head>) -> Result<(), OpenError> {
 
 // Whether it is the log that is wanted, and the WAL belongs to the file.
 fn compare(head: &Head, wanted: &LogOptions, alone: Option<&Head>) -> Result<(), OpenError> {
-    let (name, next) = (&head.name, head.next_entry);
+    let (name, next, least) = (&head.name, head.next_entry, wanted.at_least);
     if let Some(other) = wanted.name.as_ref().filter(|it| *it != name) {
         let words = format!("the log's name is {name}, and that of the one that is wanted {other}");
         return Err(LogFault::OtherLog.because(words));
     }
-    if next < wanted.at_least {
-        let words = format!(
-            "the log has {next} entries, and had {}: it is an older copy",
-            wanted.at_least
-        );
+    if next < least {
+        let words = format!("the log has {next} entries, and had {least}: it is an older copy");
         return Err(LogFault::LogOld.because(words));
     }
-    match alone {
-        Some(alone) if alone.name != *name => {
-            let words = format!(
-                "the file is the log {}, and the WAL beside it that of {name}",
-                alone.name
-            );
-            Err(LogFault::OtherLog.because(words))
-        }
-        Some(alone) if (alone.epoch, alone.next_entry) > (head.epoch, next) => {
-            let more = alone.next_entry;
-            let words =
-                format!("the file has {more} entries, and with its WAL {next}: that is older");
-            Err(LogFault::LogOld.because(words))
-        }
-        _ => Ok(()),
+    let Some(alone) = alone else {
+        return Ok(());
+    };
+    let (own, was) = (&alone.name, alone.next_entry);
+    if own != name {
+        let words = format!("the file is the log {own}, and the WAL beside it that of {name}");
+        return Err(LogFault::OtherLog.because(words));
     }
+    if (alone.epoch, was) > (head.epoch, next) {
+        let words = format!("the file has {was} entries, and with its WAL {next}: that is older");
+        return Err(LogFault::LogOld.because(words));
+    }
+    Ok(())
 }
 
 // Has the guardian take the lines of a row.
@@ -223,10 +186,10 @@ fn not_taken(what: &str, error: LineError) -> OpenError {
 fn names_in(database: &Connection, guardian: &Guardian) -> Result<HashMap<String, u32>, OpenError> {
     let mut select =
         database.prepare("SELECT name, number, shape FROM object WHERE name IS NOT NULL")?;
-    let rows = select.query_map(params![], |row| Ok((row.get(0)?, row.get(1)?, row.get(2)?)))?;
+    let mut rows = select.query([])?;
     let mut names = HashMap::new();
-    for row in rows {
-        let (name, number, shape): (String, u32, String) = row?;
+    while let Some(row) = rows.next()? {
+        let (name, number, shape): (String, u32, String) = row.try_into()?;
         if number >= guardian.objects() || guardian.shape(ObjId::numbered(number))? != shape {
             let words =
                 format!("`{name}` is the name of object {number}, which hasn't the shape {shape}");

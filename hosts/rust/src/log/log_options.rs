@@ -2,9 +2,10 @@
 
 use crate::guardian::Guardian;
 use crate::log::log_making::{copy_log, make_log, resolved};
-use crate::log::log_opening::{check_log, open_log};
+use crate::log::log_opening::{lock, read_log};
 use crate::log::logged::Logged;
 use crate::log::open_error::{LogFault, OpenError};
+use crate::log::sqlite_log::SqliteLog;
 use crate::shared::Shared;
 use std::path::{Path, PathBuf};
 use std::sync::Mutex;
@@ -69,6 +70,7 @@ pub struct LogFound {
     pub aborted: u64,
 }
 
+#[allow(clippy::missing_errors_doc, reason = "`open` says how each fails")]
 impl LogOptions {
     /// Opens the log that is there: makes each call in it again, compares its reply, and aborts what was live.
     ///
@@ -77,11 +79,10 @@ impl LogOptions {
     /// Any [`OpenError`]. At [`OpenError::Database`] nothing in the log has changed.
     pub fn open(&self, path: impl AsRef<Path>) -> Result<Logged, OpenError> {
         let path = resolved(path.as_ref())?;
-        let (log, read) = open_log(&path, self)?;
+        let (log, read) = SqliteLog::open(&path, self)?;
         let resumed = Logged::resumed(read.guardian, Box::new(log), self.patience)?;
         let (mut logged, aborted) = resumed;
         logged.found = LogFound {
-            path,
             aborted,
             ..read.found
         };
@@ -93,22 +94,13 @@ impl LogOptions {
         Ok(logged)
     }
 
-    /// Makes a log, and opens it.
-    ///
-    /// # Errors
-    ///
-    /// As for [`open`](Self::open); [`LogFault::Exists`] if a file is there.
+    /// Makes a log, and opens it; [`LogFault::Exists`] if a file is there.
     pub fn create(&self, path: impl AsRef<Path>) -> Result<Logged, OpenError> {
-        make_log(path.as_ref())?;
-        self.open(path)
+        self.open(make_log(path.as_ref())?)
     }
 
     /// Opens the log that is there; if there is none, makes one. Where there has to be one, [`open`](Self::open) is
     /// safer: a disk that isn't mounted looks like a log that isn't there.
-    ///
-    /// # Errors
-    ///
-    /// As for [`open`](Self::open).
     pub fn open_or_create(&self, path: impl AsRef<Path>) -> Result<Logged, OpenError> {
         match self.open(&path) {
             Err(OpenError::Database(LogFault::NoLog, _)) => {}
@@ -122,39 +114,26 @@ impl LogOptions {
     }
 
     /// Reads a log that no process has, such as a backup, as [`open`](Self::open) does, and changes nothing.
-    ///
-    /// # Errors
-    ///
-    /// As for [`open`](Self::open).
     pub fn check(&self, path: impl AsRef<Path>) -> Result<LogFound, OpenError> {
-        Ok(check_log(&resolved(path.as_ref())?, self)?.found)
+        let path = resolved(path.as_ref())?;
+        let _owner = lock(&path)?;
+        Ok(read_log(&path, self)?.found)
     }
 }
 
+#[allow(clippy::missing_errors_doc, reason = "as those of LogOptions fail")]
 impl Logged {
-    /// Opens the log that is there; it never makes one. [`LogOptions::open`] has other options.
-    ///
-    /// # Errors
-    ///
-    /// As there.
+    /// Opens the log that is there, with default options: [`LogOptions::open`]. It never makes one.
     pub fn open(path: impl AsRef<Path>) -> Result<Logged, OpenError> {
         LogOptions::default().open(path)
     }
 
     /// Makes a log, and opens it: [`LogOptions::create`].
-    ///
-    /// # Errors
-    ///
-    /// As there.
     pub fn create(path: impl AsRef<Path>) -> Result<Logged, OpenError> {
         LogOptions::default().create(path)
     }
 
     /// Opens the log that is there; if there is none, makes one: [`LogOptions::open_or_create`].
-    ///
-    /// # Errors
-    ///
-    /// As there.
     pub fn open_or_create(path: impl AsRef<Path>) -> Result<Logged, OpenError> {
         LogOptions::default().open_or_create(path)
     }

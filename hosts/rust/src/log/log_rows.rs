@@ -1,10 +1,10 @@
 //! The rows of a log: their tables, the chain of their sums, and how they are read and compared, one after another.
 
-use crate::log::batch_log::line_feeds;
-use crate::log::log_sum::log_sum;
+use crate::log::batch_log::{line_feeds, log_sum};
 use crate::log::open_error::{LogFault, OpenError};
 use rusqlite::types::ValueRef;
 use rusqlite::{Connection, Row};
+use std::cmp::Ordering::{Equal, Greater, Less};
 
 /// "ARGU" in ASCII, and the number of the format.
 pub(crate) const APPLICATION: i64 = 0x4152_4755;
@@ -36,6 +36,17 @@ pub(crate) struct Head {
     pub(crate) sum: u32,
 }
 
+impl Head {
+    /// The row once these lines are behind it, which begin with entry `first`, after the sum before them.
+    pub(crate) fn moved(&self, first: u64, next_entry: u64, before: u32, lines: &str) -> Head {
+        Head {
+            next_entry,
+            sum: log_sum(&self.name, first, before, lines.as_bytes()),
+            ..self.clone()
+        }
+    }
+}
+
 /// A random name, of 32 hexadecimal digits.
 pub(crate) fn new_name() -> rusqlite::Result<String> {
     let database = Connection::open_in_memory()?;
@@ -44,10 +55,8 @@ pub(crate) fn new_name() -> rusqlite::Result<String> {
 
 /// Whether a log may have this name.
 pub(crate) fn is_name(name: &str) -> bool {
-    name.len() == 32
-        && name
-            .bytes()
-            .all(|it| matches!(it, b'0'..=b'9' | b'a'..=b'f'))
+    let mut bytes = name.bytes();
+    name.len() == 32 && bytes.all(|it| matches!(it, b'0'..=b'9' | b'a'..=b'f'))
 }
 
 /// Whether it is a log, in a format that is known.
@@ -98,12 +107,8 @@ fn bytes_in<'r>(row: &'r Row<'_>, column: usize) -> rusqlite::Result<&'r [u8]> {
     match row.get_ref(column)? {
         ValueRef::Text(bytes) | ValueRef::Blob(bytes) => Ok(bytes),
         other => {
-            let words = "a text".to_owned();
-            Err(rusqlite::Error::InvalidColumnType(
-                column,
-                words,
-                other.data_type(),
-            ))
+            let (name, has) = ("a text".to_owned(), other.data_type());
+            Err(rusqlite::Error::InvalidColumnType(column, name, has))
         }
     }
 }
@@ -125,14 +130,13 @@ pub(crate) fn read_rows(
     let mut statement = database.prepare("SELECT first, lines, sum FROM batch ORDER BY first")?;
     let mut rows = statement.query([])?;
     while let Some(row) = rows.next()? {
-        let (first, lines, has) = (row.get(0)?, bytes_in(row, 1)?, row.get::<_, u32>(2)?);
+        let (first, lines) = (row.get(0)?, bytes_in(row, 1)?);
         check_place(first, entry, lines)?;
         sum = log_sum(&head.name, first, sum, lines);
-        if has != sum {
-            let words = format!(
+        if row.get::<_, u32>(2)? != sum {
+            return Err(LogFault::RowChanged.because(format!(
                 "batch {first} hasn't the sum that it says: it was changed, or what is before it"
-            );
-            return Err(LogFault::RowChanged.because(words));
+            )));
         }
         take(&format!("batch {first}"), lines)?;
         entry += line_feeds(lines) + 1;
@@ -187,48 +191,36 @@ fn number_in(text: &[u8]) -> Option<u64> {
 // Whether this batch comes next, and its lines are in their place.
 fn check_place(first: u64, entry: u64, lines: &[u8]) -> Result<(), OpenError> {
     let begins = number_in(lines).unwrap_or(first);
-    let (fault, words) = if first > entry {
-        let last = first - 1;
-        let words = format!("the entries {entry} to {last} aren't there: batch {first} comes next");
-        (LogFault::RowMissing, words)
-    } else if first < entry {
-        (
-            LogFault::RowDoubled,
-            format!("batch {first} comes where entry {entry} comes next"),
-        )
-    } else if begins > first {
-        let words = format!(
+    Err(match (first.cmp(&entry), begins.cmp(&first)) {
+        (Equal, Equal) => return Ok(()),
+        (Greater, _) => LogFault::RowMissing.because(format!(
+            "the entries {entry} to {} aren't there: batch {first} comes next",
+            first - 1
+        )),
+        (Less, _) => LogFault::RowDoubled.because(format!(
+            "batch {first} comes where entry {entry} comes next"
+        )),
+        (Equal, Greater) => LogFault::RowSwapped.because(format!(
             "in the place of batch {first} are the lines of entry {begins} and those after it"
-        );
-        (LogFault::RowSwapped, words)
-    } else if begins < first {
-        let words =
-            format!("in the place of batch {first} are the lines of entry {begins} once more");
-        (LogFault::RowDoubled, words)
-    } else {
-        return Ok(());
-    };
-    Err(fault.because(words))
+        )),
+        (Equal, Less) => LogFault::RowDoubled.because(format!(
+            "in the place of batch {first} are the lines of entry {begins} once more"
+        )),
+    })
 }
 
 fn check_end(head: &Head, entry: u64, sum: u32) -> Result<(), OpenError> {
     let next = head.next_entry;
-    if entry < next {
-        let words = format!(
+    Err(match entry.cmp(&next) {
+        Equal if sum == head.sum => return Ok(()),
+        Equal => LogFault::RowChanged.because(
+            "the row of `log` has another sum than the last batch, or the opening: one was changed",
+        ),
+        Less => LogFault::LogCut.because(format!(
             "the log ends before entry {entry}, and `log` says that entry {next} comes next"
-        );
-        return Err(LogFault::LogCut.because(words));
-    }
-    if entry > next {
-        let words = format!(
+        )),
+        Greater => LogFault::LogOld.because(format!(
             "the row of `log` is older than the batches: it says {next}, in place of {entry}"
-        );
-        return Err(LogFault::LogOld.because(words));
-    }
-    if sum != head.sum {
-        let words =
-            "the row of `log` has another sum than the last batch, or the opening: one was changed";
-        return Err(LogFault::RowChanged.because(words));
-    }
-    Ok(())
+        )),
+    })
 }

@@ -36,8 +36,9 @@ const AGAIN: u64 = 10_000;
 /// Commits wait for the log together: calls go on while a batch is written, and one write and one sync serve all
 /// commits that arrive meanwhile.
 ///
-/// If the log fails, this is *broken*: each later call returns [`LoggedError::Broken`], and commits that were waiting
-/// return [`LoggedError::InDoubt`]. A restart finds out whether they are there.
+/// Each call fails as its namesake of [`Shared`] or [`Guardian`]. If the log fails, this is *broken*: each later call
+/// returns [`LoggedError::Broken`] and isn't made, and those that were waiting for the log return
+/// [`LoggedError::InDoubt`]. A restart finds out whether they are there.
 ///
 /// **None of this is proved**, except the guardian's replies and the call that restores it from its log's lines.
 ///
@@ -59,45 +60,8 @@ const AGAIN: u64 = 10_000;
 /// # Ok::<(), LoggedError>(())
 /// ```
 ///
-/// # An order that is sent again
-///
 /// After a crash a client can't know whether its order was carried out. So it numbers its orders, and the topaction
-/// that carries out an order also records its number:
-///
-/// ```
-/// use argus_guardian::log::{Logged, LoggedAction, LoggedError};
-/// use argus_guardian::{Access, ObjId};
-///
-/// fn once(
-///     bank: &Logged,
-///     last: ObjId, // the client's record, atomic_record[number:int], created as {0}
-///     number: i64,
-///     work: impl Fn(&LoggedAction<'_>) -> Result<(), LoggedError>,
-/// ) -> Result<(), LoggedError> {
-///     bank.run(|top| {
-///         top.lock(last)?;
-///         if top.get::<i64>(last, 0)? >= number {
-///             return Ok(()); // it was carried out before
-///         }
-///         work(top)?;
-///         top.set(last, 0, number)
-///     })
-/// }
-/// # let bank = Logged::in_memory()?;
-/// # let [last, paid] = [(); 2].map(|()| bank.declare("atomic_record[n:int]").expect("declared"));
-/// # bank.run(|top| {
-/// #     for record in [last, paid] {
-/// #         top.create(record, (0,))?;
-/// #     }
-/// #     Ok::<_, LoggedError>(())
-/// # })?;
-///
-/// let pay = |top: &LoggedAction<'_>| top.update(paid, 0, |it: i64| it + 70);
-/// once(&bank, last, 1, pay)?;
-/// once(&bank, last, 1, pay)?; // sent again
-/// assert_eq!(bank.base(paid)?, Some("{70}".parse()?));
-/// # Ok::<(), LoggedError>(())
-/// ```
+/// that carries one out also records its number, as in the example `orders`.
 #[derive(Debug)]
 pub struct Logged {
     shared: Shared,
@@ -127,41 +91,24 @@ impl BatchLog for Forgetting {
     }
 }
 
+#[allow(clippy::missing_errors_doc, reason = "the type says how each fails")]
 impl Logged {
     /// A new guardian whose log forgets: for tests of a program.
-    ///
-    /// # Errors
-    ///
-    /// As for [`Guardian::new`].
     ///
     /// ```
     /// argus_guardian::log::Logged::in_memory()?.topaction()?.commit()?;
     /// # Ok::<(), argus_guardian::log::LoggedError>(())
     /// ```
     pub fn in_memory() -> Result<Logged, Error> {
-        let guardian = Guardian::new()?;
-        Ok(Logged::over(
-            guardian,
-            Box::new(Forgetting),
-            Shared::PATIENCE,
-        ))
+        let (guardian, log) = (Guardian::new()?, Box::new(Forgetting));
+        Ok(Logged::over(guardian, log, Shared::PATIENCE))
     }
 
     /// A guardian over a log that has all of its entries. Accesses wait for their locks at most for this patience.
     #[must_use]
     pub fn over(guardian: Guardian, log: Box<dyn BatchLog>, patience: Duration) -> Logged {
-        let next = guardian.entries();
-        Logged::over_from(guardian, log, next, patience)
-    }
-
-    // A guardian over a log that has its entries up to this one.
-    fn over_from(
-        guardian: Guardian,
-        log: Box<dyn BatchLog>,
-        next: u64,
-        patience: Duration,
-    ) -> Logged {
         Logged {
+            group: Group::new(log, guardian.entries()),
             names: None,
             checkpoint_after: None,
             begins: AtomicU64::new(guardian.first_entry()),
@@ -169,26 +116,21 @@ impl Logged {
             #[cfg(feature = "sqlite")]
             found: crate::log::log_options::LogFound::default(),
             shared: Shared::new(guardian, patience).fold_after(None),
-            group: Group::new(log, next),
         }
     }
 
     /// Takes a guardian that a [`Recovery`](crate::log::Recovery) has restored from this log's lines: aborts what is
     /// live, and returns when the log has that, with the number of entries that it took. Check first that the
-    /// guardian's next entry is the log's.
-    ///
-    /// # Errors
-    ///
-    /// [`OpenError::Guardian`]; [`OpenError::Broken`].
+    /// guardian's next entry is the log's. It fails with [`OpenError::Guardian`] or [`OpenError::Broken`].
     pub fn resumed(
         guardian: Guardian,
         log: Box<dyn BatchLog>,
         patience: Duration,
     ) -> Result<(Logged, u64), OpenError> {
-        let next = guardian.entries();
-        guardian.abort_live()?;
-        let entries = guardian.entries();
-        let logged = Logged::over_from(guardian, log, next, patience);
+        let logged = Logged::over(guardian, log, patience);
+        let next = logged.entries();
+        logged.shared.lend(Guardian::abort_live)?;
+        let entries = logged.entries();
         logged.group.wait(&logged.shared, Goal::entry(entries))?;
         Ok((logged, entries - next))
     }
@@ -202,21 +144,13 @@ impl Logged {
     }
 
     /// Begins a topaction. It aborts when it is dropped, unless it has committed.
-    ///
-    /// # Errors
-    ///
-    /// As for [`Shared::topaction`]; [`LoggedError::Broken`].
     pub fn topaction(&self) -> Result<LoggedAction<'_>, LoggedError> {
         let action = self.shared()?.topaction()?;
         Ok(LoggedAction::outer(self, action))
     }
 
     /// Carries out the work as a topaction, as [`Shared::run`] does: it may run more than once, and is
-    /// acknowledged when this returns `Ok`.
-    ///
-    /// # Errors
-    ///
-    /// As for [`Shared::run`]; [`LoggedError::Broken`]; [`LoggedError::InDoubt`], after which it isn't tried again.
+    /// acknowledged when this returns `Ok`. After [`LoggedError::InDoubt`] it isn't tried again.
     pub fn run<T, E: From<LoggedError> + MayConflict>(
         &self,
         work: impl FnMut(&LoggedAction<'_>) -> Result<T, E>,
@@ -243,19 +177,12 @@ impl Logged {
     }
 
     /// Declares an object of this shape. Its number is acknowledged.
-    ///
-    /// # Errors
-    ///
-    /// As for [`Guardian::declare`]; [`LoggedError::Broken`]; [`LoggedError::InDoubt`].
     pub fn declare(&self, shape: &str) -> Result<ObjId, LoggedError> {
         self.acknowledged(|guardian| guardian.declare(shape))
     }
 
     /// Declares an object of each of these shapes, and waits for the log once. Their numbers are acknowledged.
-    ///
-    /// # Errors
-    ///
-    /// As for [`declare`](Self::declare); the objects before the one that failed are declared.
+    /// At an error the objects before the one that failed are declared.
     pub fn declare_each<'t>(
         &self,
         shapes: impl IntoIterator<Item = &'t str>,
@@ -268,25 +195,20 @@ impl Logged {
     /// Finds the object of this name; if there is none, declares one of this shape. Its number and its name are
     /// acknowledged. So a program keeps names, and no numbers, from one start to the next.
     ///
-    /// # Errors
-    ///
-    /// As for [`declare`](Self::declare); [`LoggedError::OtherShape`]; [`LoggedError::NoNames`] if the log isn't in a
-    /// database.
+    /// It may also fail with [`LoggedError::OtherShape`], and [`LoggedError::NoNames`] if the log isn't in a database.
     pub fn declare_named(&self, name: &str, shape: &str) -> Result<ObjId, LoggedError> {
         let shared = self.shared()?;
         let names = self.names.as_ref().ok_or(LoggedError::NoNames)?;
         let mut names = names.lock().unwrap_or_else(PoisonError::into_inner);
         if let Some(number) = names.get(name) {
             let id = ObjId::numbered(*number);
-            let (id, has) =
-                shared.lend(|it| it.object(id).and_then(|own| Ok((own.id(), it.shape(id)?))))?;
-            return if has == shape {
-                Ok(id)
-            } else {
-                Err(LoggedError::OtherShape(has))
+            let found = shared.lend(|it| Ok::<_, Error>((it.object(id)?.id(), it.shape(id)?)));
+            return match found? {
+                (id, has) if has == shape => Ok(id),
+                (_, has) => Err(LoggedError::OtherShape(has)),
             };
         }
-        let (id, entries) = shared.lend(|guardian| {
+        let id = self.acknowledged(|guardian| {
             let id = guardian.declare(shape)?;
             let name = ObjectName {
                 number: id.number(),
@@ -294,9 +216,8 @@ impl Logged {
                 shape: shape.to_owned(),
             };
             self.group.queue().name(guardian.entries(), name);
-            Ok::<_, Error>((id, guardian.entries()))
+            Ok(id)
         })?;
-        self.wait(Goal::entry(entries))?;
         names.insert(name.to_owned(), id.number());
         Ok(id)
     }
@@ -313,38 +234,22 @@ impl Logged {
     }
 
     /// The object's base, which is acknowledged; `None` if it has no content yet.
-    ///
-    /// # Errors
-    ///
-    /// As for [`Guardian::base`]; [`LoggedError::Broken`]; [`LoggedError::InDoubt`].
     pub fn base(&self, object: impl AsObject) -> Result<Option<Content>, LoggedError> {
         let object = object.id();
         self.acknowledged(|guardian| guardian.base(object))
     }
 
     /// The object with the names of its fields or tags; its declaration is acknowledged.
-    ///
-    /// # Errors
-    ///
-    /// As for [`Guardian::object`]; [`LoggedError::Broken`]; [`LoggedError::InDoubt`].
     pub fn object(&self, object: ObjId) -> Result<Object, LoggedError> {
         self.acknowledged(|guardian| guardian.object(object))
     }
 
     /// A listing, all of which is acknowledged.
-    ///
-    /// # Errors
-    ///
-    /// As for [`Guardian::list`]; [`LoggedError::Broken`]; [`LoggedError::InDoubt`].
     pub fn list(&self, listing: Listing) -> Result<String, LoggedError> {
         self.acknowledged(|guardian| guardian.list(listing))
     }
 
     /// How many objects are declared, all of them acknowledged.
-    ///
-    /// # Errors
-    ///
-    /// [`LoggedError::Broken`]; [`LoggedError::InDoubt`].
     pub fn objects(&self) -> Result<u32, LoggedError> {
         self.acknowledged(|guardian| Ok(guardian.objects()))
     }
@@ -390,10 +295,6 @@ impl Logged {
 
     /// Returns when all earlier calls are in the log. Call it before you pass on what an action has read, if that
     /// action doesn't commit first.
-    ///
-    /// # Errors
-    ///
-    /// [`LoggedError::Broken`]; [`LoggedError::InDoubt`].
     pub fn barrier(&self) -> Result<(), LoggedError> {
         self.shared()?;
         self.wait(Goal::entry(self.entries()))
@@ -401,13 +302,9 @@ impl Logged {
 
     /// Folds the journal when no action is live, and starts the log again with what the objects hold: its old entries
     /// are removed. Until then it holds back each [`topaction`](Self::topaction), at most for this patience.
+    /// At an error the log goes on as it was, except that after `OutOfMemory` it may start again with the next commit.
     ///
     /// A log in a database does so by itself, too (`LogOptions::checkpoint_after`).
-    ///
-    /// # Errors
-    ///
-    /// As for [`Shared::checkpoint_waiting`]: the log goes on as it was, except that after `OutOfMemory` it may start
-    /// again with the next commit. [`LoggedError::Broken`]; [`LoggedError::InDoubt`].
     pub fn checkpoint_waiting(&self, patience: Duration) -> Result<(), LoggedError> {
         let fold = |guardian: &Guardian| self.group.queue().fold(guardian);
         let goal: Result<Goal, CheckpointError> = self.shared()?.fold_waiting(patience, fold);
@@ -426,10 +323,8 @@ impl Logged {
         let is_due = grown >= after || actions >= Guardian::MAX_ACTIONS / 2;
         // One thread makes it.
         let next = |at| (is_due && entries >= at).then_some(entries + AGAIN.min(after));
-        let claimed = self
-            .again_at
-            .fetch_update(Ordering::Relaxed, Ordering::Relaxed, next);
-        if claimed.is_ok() {
+        let (set, fetch) = (Ordering::Relaxed, Ordering::Relaxed);
+        if self.again_at.fetch_update(set, fetch, next).is_ok() {
             let _ = self.checkpoint_waiting(PATIENCE);
         }
     }

@@ -1,9 +1,7 @@
 //! `LoggedError`: why a call of a logged guardian failed.
 
 use crate::Error;
-use crate::error::CheckpointError;
 use crate::log::failure::Failure;
-use crate::reply::{Refusal, Signal};
 use crate::shared::retry::MayConflict;
 use std::{error, fmt};
 
@@ -60,26 +58,9 @@ impl MayConflict for LoggedError {
     }
 }
 
-impl From<Error> for LoggedError {
-    fn from(error: Error) -> LoggedError {
-        LoggedError::Guardian(error)
-    }
-}
-
-impl From<CheckpointError> for LoggedError {
-    fn from(error: CheckpointError) -> LoggedError {
+// Whatever a guardian without a log may say, too.
+impl<E: Into<Error>> From<E> for LoggedError {
+    fn from(error: E) -> LoggedError {
         LoggedError::Guardian(error.into())
-    }
-}
-
-impl From<Refusal> for LoggedError {
-    fn from(refusal: Refusal) -> LoggedError {
-        LoggedError::Guardian(refusal.into())
-    }
-}
-
-impl From<Signal> for LoggedError {
-    fn from(signal: Signal) -> LoggedError {
-        LoggedError::Guardian(signal.into())
     }
 }

@@ -106,27 +106,26 @@ impl From<Error> for OpenError {
 #[cfg(feature = "sqlite")]
 impl From<rusqlite::Error> for OpenError {
     fn from(error: rusqlite::Error) -> OpenError {
-        use rusqlite::Error::{
-            FromSqlConversionFailure, IntegralValueOutOfRange, InvalidColumnType,
-        };
+        use rusqlite::Error as Sql;
         use rusqlite::ErrorCode as Code;
         let words = error.to_string();
-        let fault = match (error.sqlite_error_code(), &error) {
-            (Some(Code::OutOfMemory), _) => return OpenError::Guardian(Error::OutOfMemory),
-            (Some(Code::NotADatabase), _) => LogFault::NotALog,
-            (Some(Code::DatabaseBusy | Code::DatabaseLocked), _) => LogFault::Locked,
-            (Some(Code::DatabaseCorrupt), _) => LogFault::PagesDamaged,
+        let fault = match error.sqlite_error_code() {
+            Some(Code::OutOfMemory) => return Error::OutOfMemory.into(),
+            Some(Code::NotADatabase) => LogFault::NotALog,
+            Some(Code::DatabaseBusy | Code::DatabaseLocked) => LogFault::Locked,
+            Some(Code::DatabaseCorrupt) => LogFault::PagesDamaged,
             _ if words.contains("malformed") || words.starts_with("no such ") => {
                 LogFault::PagesDamaged
             }
-            (
-                _,
-                FromSqlConversionFailure(..) | IntegralValueOutOfRange(..) | InvalidColumnType(..),
-            ) => {
-                let words = format!("a row hasn't the types that it should have: {words}");
-                return LogFault::RowChanged.because(words);
-            }
-            _ => LogFault::Unreadable,
+            _ => match error {
+                Sql::FromSqlConversionFailure(..)
+                | Sql::IntegralValueOutOfRange(..)
+                | Sql::InvalidColumnType(..) => {
+                    let what = "a row hasn't the types that it should have";
+                    return LogFault::RowChanged.because(format!("{what}: {words}"));
+                }
+                _ => LogFault::Unreadable,
+            },
         };
         fault.because(words)
     }

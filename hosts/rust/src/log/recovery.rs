@@ -2,7 +2,7 @@
 
 use crate::error::Error;
 use crate::guardian::Guardian;
-use crate::resumption::{LineFault, RestoredGuardian, Resumption, TakenEnd};
+use crate::resumption::{LineFault, Resumption, TakenEnd};
 
 /// Why the lines of a batch weren't taken.
 #[derive(Debug, Clone, PartialEq, Eq)]
@@ -33,40 +33,34 @@ pub enum LineError {
 /// # Ok::<(), argus_guardian::Error>(())
 /// ```
 #[derive(Debug)]
-pub struct Recovery {
-    resuming: Resumption,
-}
+pub struct Recovery(Resumption);
 
 impl Recovery {
     /// A new one, which has taken no line.
     ///
     /// # Errors
     ///
-    /// As for [`Guardian::new`].
+    /// As for [`Resumption::new`].
     pub fn new() -> Result<Recovery, Error> {
-        let resuming = Resumption::new()?;
-        Ok(Recovery { resuming })
+        Resumption::new().map(Recovery)
     }
 
-    /// A new one, for the log of this guardian from an opening on. The guardian that comes of it takes the ids of this
-    /// one's objects; an action with an id of this one is over.
+    /// A new one, for the log of this guardian from an opening on: [`Resumption::after`].
     ///
     /// # Errors
     ///
-    /// As for [`Guardian::new`].
+    /// As there.
     pub fn after(guardian: &Guardian) -> Result<Recovery, Error> {
-        let resuming = Resumption::after(guardian)?;
-        Ok(Recovery { resuming })
+        Resumption::after(guardian).map(Recovery)
     }
 
     /// The same, in place of one of which no guardian came.
     ///
     /// # Errors
     ///
-    /// As for [`Guardian::new`].
+    /// As for [`after`](Self::after).
     pub fn anew(&self) -> Result<Recovery, Error> {
-        let resuming = self.resuming.anew()?;
-        Ok(Recovery { resuming })
+        self.0.anew().map(Recovery)
     }
 
     /// Takes the next whole lines, of an opening or of entries, as a log has them.
@@ -76,7 +70,7 @@ impl Recovery {
     /// [`LineError::Fault`]: the lines before that one were taken, and no more can be.
     /// [`LineError::OutOfMemory`].
     pub fn take(&mut self, lines: &str) -> Result<(), LineError> {
-        let taken = self.resuming.take(lines);
+        let taken = self.0.take(lines);
         let why = match taken.end {
             TakenEnd::Whole => return Ok(()),
             TakenEnd::Torn => "it has no line feed".to_owned(),
@@ -96,17 +90,14 @@ impl Recovery {
     ///
     /// [`LineError::Fault`] if an opening isn't complete; [`LineError::OutOfMemory`].
     pub fn into_guardian(self) -> Result<Guardian, LineError> {
-        match self.resuming.into_guardian() {
-            Ok(RestoredGuardian {
-                guardian,
-                dropped: 0,
-            }) => Ok(guardian),
-            Ok(_) => Err(LineError::Fault {
+        let opened = self.0.into_guardian().map_err(|_| LineError::OutOfMemory)?;
+        if opened.dropped > 0 {
+            return Err(LineError::Fault {
                 line: 0,
-                why: "the opening refers to objects that aren't there".to_owned(),
-            }),
-            Err(_) => Err(LineError::OutOfMemory),
+                why: LineFault::NotSound.to_string(),
+            });
         }
+        Ok(opened.guardian)
     }
 }
 

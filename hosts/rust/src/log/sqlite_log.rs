@@ -3,11 +3,10 @@
 use crate::log::batch_log::{BatchLog, EntryLines, Opening};
 use crate::log::failure::Failure;
 use crate::log::log_making::make_log;
-use crate::log::log_opening::open_log;
+use crate::log::log_opening::{ReadLog, lock, read_log};
 use crate::log::log_options::LogOptions;
 use crate::log::log_rows::Head;
-use crate::log::log_sum::log_sum;
-use crate::log::open_error::OpenError;
+use crate::log::open_error::{LogFault, OpenError};
 pub(crate) use rusqlite::config::DbConfig::SQLITE_DBCONFIG_NO_CKPT_ON_CLOSE as KEEPS_WAL;
 use rusqlite::{Connection, ErrorCode, OpenFlags, params};
 use std::path::Path;
@@ -19,6 +18,7 @@ const BUSY: Duration = Duration::from_secs(5);
 
 const MOVE: &str = "UPDATE log SET next_entry=?, sum=?, is_open=?, epoch=?, version=? \
      WHERE epoch=? AND next_entry=? AND sum=?";
+const APPEND: &str = "INSERT INTO batch VALUES (?, ?, ?)";
 const NAME: &str = "INSERT INTO object (number, name, shape) VALUES (?, ?, ?) \
      ON CONFLICT (number) DO UPDATE SET name = excluded.name";
 const BASE: &str = "INSERT INTO object (number, shape, base) VALUES (?, ?, ?) \
@@ -54,10 +54,8 @@ fn patiently(database: &Connection, statement: &str) -> rusqlite::Result<()> {
 /// guardian.
 #[derive(Debug)]
 pub struct SqliteLog {
-    // None once it is closed.
-    writing: Option<Connection>,
-    // That of the second database, which has the lock.
-    owner: Option<Connection>,
+    // That which writes; and that of the second database, which has the lock and is closed last. None once it is dropped.
+    connections: Option<[Connection; 2]>,
     head: Head,
     broken: Option<Failure>,
     // The process that has it: SQLite's connections mustn't even be closed in one that is forked.
@@ -86,35 +84,44 @@ impl SqliteLog {
     /// ```
     pub fn create(path: impl AsRef<Path>) -> Result<SqliteLog, OpenError> {
         let path = make_log(path.as_ref())?;
-        Ok(open_log(&path, &LogOptions::default())?.0)
+        Ok(SqliteLog::open(&path, &LogOptions::default())?.0)
     }
 
-    /// Makes the log this process's: from now on whoever had it before is refused.
-    pub(crate) fn take_over(
-        writing: Connection,
-        owner: Connection,
-        head: Head,
-    ) -> Result<SqliteLog, OpenError> {
+    /// Reads the log, and makes it this process's: from now on whoever had it before is refused.
+    pub(crate) fn open(
+        path: &Path,
+        wanted: &LogOptions,
+    ) -> Result<(SqliteLog, ReadLog), OpenError> {
+        let owner = lock(path)?;
+        let read = read_log(path, wanted)?;
+        let writing = connected(path, OpenFlags::SQLITE_OPEN_READ_WRITE)?;
+        make_durable(&writing)?;
+        // Until it is closed in order, SQLite leaves the WAL where it is.
+        writing.set_db_config(KEEPS_WAL, true)?;
+        let mode: String = writing.query_row("PRAGMA journal_mode=WAL", [], |row| row.get(0))?;
+        if mode != "wal" {
+            let words = format!("the database can't have a WAL: SQLite says {mode}");
+            return Err(LogFault::Unreadable.because(words));
+        }
         let mut log = SqliteLog {
-            writing: Some(writing),
-            owner: Some(owner),
-            head,
+            connections: Some([writing, owner]),
+            head: read.head.clone(),
             broken: None,
             process: process::id(),
         };
-        let taken = Head {
-            epoch: log.head.epoch + 1,
-            is_open: 1,
-            ..log.head.clone()
-        };
-        log.change(taken, |_| Ok(()))?;
-        Ok(log)
+        let mut head = log.head.clone();
+        (head.epoch, head.is_open) = (head.epoch + 1, 1);
+        log.change(head, |_| Ok(()))?;
+        // What was read and isn't on disk, since whoever wrote it was killed, is on disk now; and the file says that
+        // there is a WAL. So it is moved into the file, as far as no reader is in the way.
+        log.writing()
+            .query_row("PRAGMA wal_checkpoint(PASSIVE)", [], |_| Ok(()))?;
+        Ok((log, read))
     }
 
-    fn writing(&self) -> io::Result<&Connection> {
-        self.writing
-            .as_ref()
-            .ok_or_else(|| io::Error::other("it is closed"))
+    fn writing(&self) -> &Connection {
+        let [writing, _] = self.connections.as_ref().expect("it isn't dropped");
+        writing
     }
 
     // Carries out statements and moves the log's end, in one transaction. Nothing is done if the end isn't ours.
@@ -123,20 +130,13 @@ impl SqliteLog {
         head: Head,
         work: impl FnOnce(&Connection) -> rusqlite::Result<()>,
     ) -> Result<(), OpenError> {
-        let database = self.writing()?;
+        let (database, was, version) = (self.writing(), &self.head, env!("CARGO_PKG_VERSION"));
         patiently(database, "BEGIN IMMEDIATE")?;
-        let was = &self.head;
-        let version = env!("CARGO_PKG_VERSION");
-        let moved = database.prepare_cached(MOVE)?.execute(params![
-            head.next_entry,
-            head.sum,
-            head.is_open,
-            head.epoch,
-            version,
-            was.epoch,
-            was.next_entry,
-            was.sum
-        ])?;
+        let new = params![head.next_entry, head.sum, head.is_open, head.epoch, version];
+        let old = params![was.epoch, was.next_entry, was.sum];
+        let moved = database
+            .prepare_cached(MOVE)?
+            .execute(&*[new, old].concat())?;
         if moved != 1 {
             return Err(io::Error::other("another process has opened the log").into());
         }
@@ -155,9 +155,9 @@ impl SqliteLog {
             return Err(failure.clone());
         }
         what(self).map_err(|error| {
-            if let Some(database) = self.writing.as_ref().filter(|it| !it.is_autocommit()) {
+            if !self.writing().is_autocommit() {
                 // It is broken anyway.
-                let _ = database.execute_batch("ROLLBACK");
+                let _ = self.writing().execute_batch("ROLLBACK");
             }
             let failure = io::Error::other(error.to_string()).into();
             self.broken.insert(failure).clone()
@@ -175,76 +175,19 @@ impl SqliteLog {
         )))
     }
 
-    fn append_batch(&mut self, lines: &EntryLines) -> Result<(), OpenError> {
-        self.check_next(lines.first())?;
-        let text = lines.text().strip_suffix('\n').unwrap_or(lines.text());
-        let first = self.head.next_entry;
-        let sum = log_sum(&self.head.name, first, self.head.sum, text.as_bytes());
-        let next_entry = lines.next();
-        let head = Head {
-            next_entry,
-            sum,
-            ..self.head.clone()
-        };
-        self.change(head, |database| {
-            database
-                .prepare_cached("INSERT INTO batch VALUES (?, ?, ?)")?
-                .execute(params![first, text, sum])?;
-            lines.names().iter().try_for_each(|it| {
-                let row = params![it.number, it.name, it.shape];
-                database.execute(NAME, row).map(|_| ())
-            })
-        })
-    }
-
-    fn replace(&mut self, opening: &Opening) -> Result<(), OpenError> {
-        if self.head.next_entry > 0 {
-            self.check_next(opening.next())?;
-        }
-        let text = opening.text().strip_suffix('\n').unwrap_or(opening.text());
-        let next_entry = opening.next();
-        let sum = log_sum(&self.head.name, next_entry, 0, text.as_bytes());
-        let head = Head {
-            next_entry,
-            sum,
-            ..self.head.clone()
-        };
-        self.change(head, |database| {
-            database.execute_batch("DELETE FROM batch; DELETE FROM opening")?;
-            let mut insert = database.prepare("INSERT INTO opening VALUES (?, ?)")?;
-            let mut base = database.prepare(BASE)?;
-            for (number, line) in (-1..).zip(text.split('\n')) {
-                insert.execute(params![number + 1, line])?;
-                // As in `opening o0 atomic_record[balance:int] {5}`; the first line is of none.
-                let mut words = line.splitn(4, ' ').skip(2);
-                if let (0.., Some(shape), Some(held)) = (number, words.next(), words.next()) {
-                    base.execute(params![
-                        number,
-                        shape,
-                        Some(held).filter(|it| *it != "absent")
-                    ])?;
-                }
-            }
-            Ok(())
-        })
-    }
-
-    /// Moves the WAL into the file, as far as no reader is in the way.
-    pub(crate) fn move_wal(&self) -> Result<(), OpenError> {
-        let database = self.writing()?;
-        Ok(database.query_row("PRAGMA wal_checkpoint(PASSIVE)", [], |_| Ok(()))?)
-    }
-
-    // Closes it; the file then says that it has no WAL. The owner's connection comes last.
+    // Closes it; the file then says that it has no WAL.
     fn close(&mut self) -> Result<(), OpenError> {
-        let closed = Head {
-            is_open: 0,
-            ..self.head.clone()
-        };
-        self.change(closed, |_| Ok(()))?;
-        self.writing()?.set_db_config(KEEPS_WAL, false)?;
+        let mut head = self.head.clone();
+        head.is_open = 0;
+        self.change(head, |_| Ok(()))?;
+        self.writing().set_db_config(KEEPS_WAL, false)?;
         Ok(())
     }
+}
+
+// As rows have lines.
+fn trimmed(lines: &str) -> &str {
+    lines.strip_suffix('\n').unwrap_or(lines)
 }
 
 impl BatchLog for SqliteLog {
@@ -252,18 +195,50 @@ impl BatchLog for SqliteLog {
         if lines.is_empty() {
             return Ok(());
         }
-        self.unless_broken(|log| log.append_batch(lines))
+        self.unless_broken(|log| {
+            log.check_next(lines.first())?;
+            let (first, text) = (lines.first(), trimmed(lines.text()));
+            let head = log.head.moved(first, lines.next(), log.head.sum, text);
+            log.change(head.clone(), |database| {
+                let row = params![first, text, head.sum];
+                database.prepare_cached(APPEND)?.execute(row)?;
+                lines.names().iter().try_for_each(|it| {
+                    let row = params![it.number, it.name, it.shape];
+                    database.execute(NAME, row).map(|_| ())
+                })
+            })
+        })
     }
 
     fn restart(&mut self, opening: &Opening) -> Result<(), Failure> {
-        self.unless_broken(|log| log.replace(opening))
+        self.unless_broken(|log| {
+            let (next, text) = (opening.next(), trimmed(opening.text()));
+            if log.head.next_entry > 0 {
+                log.check_next(next)?;
+            }
+            log.change(log.head.moved(next, next, 0, text), |database| {
+                database.execute_batch("DELETE FROM batch; DELETE FROM opening")?;
+                let mut insert = database.prepare("INSERT INTO opening VALUES (?, ?)")?;
+                let mut base = database.prepare(BASE)?;
+                for (number, line) in (-1..).zip(text.split('\n')) {
+                    insert.execute(params![number + 1, line])?;
+                    // As in `opening o0 atomic_record[balance:int] {5}`; the first line is of none.
+                    let mut words = line.splitn(4, ' ').skip(2);
+                    if let (0.., Some(shape), Some(held)) = (number, words.next(), words.next()) {
+                        let held = Some(held).filter(|it| *it != "absent");
+                        base.execute(params![number, shape, held])?;
+                    }
+                }
+                Ok(())
+            })
+        })
     }
 }
 
 impl Drop for SqliteLog {
     fn drop(&mut self) {
         if self.process != process::id() {
-            mem::forget((self.writing.take(), self.owner.take()));
+            mem::forget(self.connections.take());
         } else if self.broken.is_none() {
             // If that fails, the WAL stays, as if the process had been killed.
             let _ = self.close();

@@ -13,7 +13,7 @@ const FOLDER: &str = "ARGUS_LOG_CHILD_FOLDER";
 const LONG: Duration = Duration::from_secs(60);
 
 /// An order: its client, and its number.
-type Order = (u32, i64);
+pub type Order = (u32, i64);
 
 /// A test of this program in a process of its own, which says on its standard output which orders were
 /// acknowledged. All that it has said is read, also after its death.
@@ -23,8 +23,8 @@ pub struct Child {
     orders: JoinHandle<Vec<Order>>,
 }
 
-// The client and the number of an order that a line says was acknowledged.
-fn order_in(line: &str) -> Option<Order> {
+/// The client and the number of an order that a line says was acknowledged.
+pub fn order_in(line: &str) -> Option<Order> {
     let (client, number) = line.strip_prefix("acknowledged ")?.split_once(' ')?;
     Some((client.parse().ok()?, number.parse().ok()?))
 }

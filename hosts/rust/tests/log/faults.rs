@@ -71,8 +71,8 @@ impl Made {
         self.numbers("SELECT first FROM batch ORDER BY first")
     }
 
-    // The files that are the log. SQLite makes an index of a WAL, and an empty WAL, for who only reads.
-    fn files(&self) -> BTreeMap<PathBuf, Vec<u8>> {
+    /// The files that are the log. SQLite makes an index of a WAL, and an empty WAL, for who only reads.
+    pub fn files(&self) -> BTreeMap<PathBuf, Vec<u8>> {
         let names = fs::read_dir(self.scratch.path())
             .expect("read")
             .map(|it| it.expect("read").path());

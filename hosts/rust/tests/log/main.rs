@@ -3,6 +3,8 @@
 mod bank;
 mod child;
 mod clock;
+mod cuts;
+mod disk;
 mod faults;
 mod full;
 mod gated_log;
@@ -16,6 +18,8 @@ mod orders;
 mod owners;
 mod processes;
 mod python;
+mod read_only;
 mod scratch;
 mod syncs;
+mod trace;
 mod wal;

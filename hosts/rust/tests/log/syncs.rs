@@ -14,8 +14,9 @@ const SOURCE: &str = include_str!("syncs.c");
 const SYNC: &str = "ARGUS_SYNC";
 const CLIENTS: u32 = 4;
 
-// Orders of each client, if no sync fails: SQLite doesn't insist on that of a folder.
-const ORDERS: i64 = 60;
+// Orders of each client, if no sync fails: SQLite doesn't insist on that of a folder. Each waits for a sync, which clients
+// share.
+const ORDERS: u32 = 60;
 
 fn may_fail(served: &Result<(), LoggedError>) {
     let has_failed = matches!(
@@ -29,8 +30,10 @@ fn serve_all(bank: &Logged) -> Result<(), LoggedError> {
     set_up(bank)?;
     thread::scope(|scope| {
         let serve_one = |client| {
+            let mut left = ORDERS;
             serve(bank, client, |it| {
-                Child::tell(client, it) && it % ORDERS != 0
+                left -= 1;
+                Child::tell(client, it) && left > 0
             })
         };
         let clients = (0..CLIENTS).map(|it| scope.spawn(move || serve_one(it)));
