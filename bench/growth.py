@@ -200,7 +200,7 @@ ROWS = (
         (2_500, 5_000),
         (10_000, 20_000),
         "commits, each of one item of an array of 10,000",
-        "It should grow with the entries, and with the part of each base that is shown.",
+        "It should grow with the entries, and does: of each base only what is shown is kept.",
     ),
     Row(
         "transfers",
@@ -209,7 +209,7 @@ ROWS = (
         (8_192, 16_384),
         (32_768, 65_536),
         "entries of topactions with a subaction, over 50 objects",
-        "It should grow with the entries.",
+        "It should grow with the entries, and does.",
     ),
     Row(
         "readers",

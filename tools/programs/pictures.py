@@ -25,6 +25,9 @@ from spelling import lines_of, rows_of, spelled, spelled_lines, tests_of
 # How each tag of a picture begins.
 TAGS = re.compile(rb"</?(svg[ >]|title>|style>|rect |text|path |g>|circle |defs>|pattern)")
 
+# What a picture tells of objects: its texts, and the first line of each title that isn't the listing's.
+TOLD = re.compile(rb"(?<=>)[^<>]*(?=</text>)|(?<=<title>)(?!\d+ |opening )[^\n<]*")
+
 
 def listing_of(text: str) -> bytes:
     """The lines of a row, with a line feed each."""
@@ -95,14 +98,16 @@ def named(listing: bytes, script: bytes, form: bytes, wanted: str, programs: Pro
         return "the listing is read behind a faulty script"
     if ": " in wanted:
         return told(ended, wanted)
+    names = wanted.encode().split(b" ")
     text = programs.call("picture", (), listing).output
-    for at, name in enumerate(wanted.split(" ")):
-        if b">o%d</text>" % at not in text:
-            return f"no object o{at}"
-        text = text.replace(b">o%d</text>" % at, b">%%%s</text>" % name.encode())
-    if re.search(rb">o\d+</text>", text):
-        return "one more object"
-    return compared(ended, 0, text.replace(b">%", b">"), b"")
+    if set(re.findall(rb">o(\d+)</text>", text)) != {b"%d" % at for at in range(len(names))}:
+        return "other objects"
+    return compared(ended, 0, TOLD.sub(partial(renamed, names), text), b"")
+
+
+def renamed(names: list[bytes], told: re.Match[bytes]) -> bytes:
+    """What is told of objects, with these names in place of their numbers."""
+    return re.sub(rb"\bo(\d+)\b", lambda it: names[int(it[1])], told[0])
 
 
 def measured(listing: bytes, size: list[str], says: str, programs: Programs) -> str:

@@ -27,6 +27,7 @@ sys.path[1:1] = [str(TOP / "hosts/rows"), str(TOP / "hosts/chance")]
 import by_chance  # noqa: E402
 import coming_back  # noqa: E402
 import command_lines  # noqa: E402
+import drawn  # noqa: E402
 import examples  # noqa: E402
 import failing  # noqa: E402
 import memory  # noqa: E402
@@ -44,6 +45,7 @@ OTHERS = {
     "pictures.rows": pictures.drawings,
     "names.rows": pictures.namings,
     "sizes.rows": pictures.sizes,
+    "drawn.rows": drawn.trials,
     "command_lines.rows": command_lines.trials,
     "failing.rows": failing.trials,
 }

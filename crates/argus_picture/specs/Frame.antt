@@ -1,5 +1,5 @@
 -- Where the parts of a picture are, in pixels from its upper left corner.
-use Rattle.std.specs.Prelude.{ℕ, ◌+◌, ◌*◌, max}
+use Rattle.std.specs.Prelude.{if◌then◌else◌, max, nat_lt, ℕ, ◌+◌, ◌*◌}
 use Rattle.argus_picture.specs.declared.entry_spacing.EntrySpacing.{EntrySpacing}
 use Rattle.argus_picture.specs.declared.frame.Frame.{Frame}
 use Rattle.argus_picture.specs.EntrySpacing.{pixels_of}
@@ -16,10 +16,29 @@ row_top row = 132 + 30 * row
 abbrev pub lane_top : Frame → ℕ → ℕ
 lane_top frame lane = 158 + 30 * frame.rows + 60 * lane
 
+-- the top of the numbers of the serial order, between the rows and the lanes
+abbrev pub order_top : Frame → ℕ
+order_top frame = 134 + 30 * frame.rows
+
+-- the base line of a line of the serial order's table, below the lanes
+abbrev pub table_line : Frame → ℕ → ℕ
+table_line frame line = lane_top frame frame.lanes + 28 + 16 * line
+
+-- how many lines the table has for this many commits: five are in a line, and behind twenty there
+-- is one for how many more there are
+abbrev pub lines_for : ℕ → ℕ
+lines_for commits =
+    if nat_lt commits 1 then 0
+    else if nat_lt commits 6 then 1
+    else if nat_lt commits 11 then 2
+    else if nat_lt commits 16 then 3
+    else if nat_lt commits 21 then 4
+    else 5
+
 -- the width of the picture
 abbrev pub width_of : Frame → ℕ
 width_of frame = max (236 + pixels_of frame.step * frame.entries) 980
 
 -- the height of the picture
 abbrev pub height_of : Frame → ℕ
-height_of frame = lane_top frame frame.lanes + 40
+height_of frame = lane_top frame frame.lanes + 40 + 16 * frame.lines

@@ -1,28 +1,29 @@
-//! Draws the actions of a picture: their bars, the lines between bars, and refused calls.
+//! Draws the actions of a picture: their bars, and the lines between bars.
 
 use crate::action::Action;
-use crate::escaping::{append_escaped, open_group};
+use crate::canvas::Canvas;
+use crate::escaping::open_group;
 use crate::fate::Fate;
 use crate::frame::{BAR, Frame, bar_top, entry_left};
 use crate::life::{Life, life_of, life_within};
-use crate::limits::MAX_ROWS;
 use crate::origin::Origin;
-use crate::refused_call::RefusedCall;
+use crate::refusal_drawing::draw_refused;
 use crate::run::Run;
-use argus_memory::{OutOfMemory, Room};
+use argus_memory::{Heap, OutOfMemory, Room};
 use std::fmt::Write;
 
 /// Draws the lines between bars, then the bars, then the refused calls.
 pub(crate) fn draw_actions(
+    heap: Heap,
     run: &Run<'_>,
     frame: &Frame,
-    out: &mut String<Room>,
+    canvas: &mut Canvas,
 ) -> Result<(), OutOfMemory> {
     for action in &run.actions {
-        draw_tie(run, frame, action, out)?;
+        draw_tie(run, frame, action, &mut canvas.last)?;
     }
-    draw_bars(run, frame, out)?;
-    draw_refused(run, frame, out)
+    draw_bars(run, frame, &mut canvas.last)?;
+    draw_refused(heap, run, frame, canvas)
 }
 
 // Draws the line from the bar of the action that began this one down to its own bar, if both have a
@@ -121,82 +122,5 @@ fn draw_end(fate: Fate, x: u64, y: u64, out: &mut String<Room>) -> Result<(), Ou
         Fate::AbortedBySibling => ("cross", "m4 2l-8 5l8 5"),
     };
     write!(out, "<path class=\"{class}\" d=\"M{x} {y}{sign}\"/>")?;
-    Ok(())
-}
-
-// Draws each refused call as a diamond, on its caller's bar, or above all bars if it has none. The
-// name of the refusal is written below if the name before it in the row leaves room. Otherwise only
-// the title has it.
-fn draw_refused(run: &Run<'_>, frame: &Frame, out: &mut String<Room>) -> Result<(), OutOfMemory> {
-    let mut taken = [0u64; MAX_ROWS + 1];
-    for call in &run.refused {
-        let row = run.row(call.caller);
-        let x = entry_left(frame, call.at);
-        open_group(call.line, call.line, out)?;
-        draw_against(run, frame, call, row, out)?;
-        draw_mark(frame, x, row, out)?;
-        if let Some(until) = taken.get_mut(row.unwrap_or(MAX_ROWS as u32) as usize) {
-            if *until <= x {
-                draw_why(frame, call, row, out)?;
-                *until = x.saturating_add(6 * (call.why().len() as u64).min(1000) + 10);
-            }
-        }
-        out.push_str("</g>\n")?;
-    }
-    Ok(())
-}
-
-// The top of the row's bars; without a row, of the place above all bars.
-fn top_of(frame: &Frame, row: Option<u32>) -> u64 {
-    match row {
-        Some(row) => bar_top(frame, row),
-        None => 82,
-    }
-}
-
-fn draw_mark(
-    frame: &Frame,
-    x: u64,
-    row: Option<u32>,
-    out: &mut String<Room>,
-) -> Result<(), OutOfMemory> {
-    let y = top_of(frame, row).saturating_add(1);
-    write!(out, "<path class=\"mark\" d=\"M{x} {y}l6 6l-6 6l-6 -6z\"/>")?;
-    Ok(())
-}
-
-fn draw_why(
-    frame: &Frame,
-    call: &RefusedCall<'_>,
-    row: Option<u32>,
-    out: &mut String<Room>,
-) -> Result<(), OutOfMemory> {
-    let x = entry_left(frame, call.at).saturating_sub(4);
-    let y = top_of(frame, row).saturating_add(24);
-    write!(out, "<text class=\"small refusal\" x=\"{x}\" y=\"{y}\">")?;
-    append_escaped(call.why(), out)?;
-    out.push_str("</text>")?;
-    Ok(())
-}
-
-// Draws the line from a refused call to the bar of the holder whose lock was in the way.
-fn draw_against(
-    run: &Run<'_>,
-    frame: &Frame,
-    call: &RefusedCall<'_>,
-    row: Option<u32>,
-    out: &mut String<Room>,
-) -> Result<(), OutOfMemory> {
-    let (Some(row), Some(holder)) = (row, run.row(call.holder)) else {
-        return Ok(());
-    };
-    let x = entry_left(frame, call.at);
-    let from = bar_top(frame, row).saturating_add(7);
-    let to = bar_top(frame, holder).saturating_add(7);
-    write!(out, "<path class=\"against\" d=\"M{x} {from}V{to}\"/>")?;
-    write!(
-        out,
-        "<circle class=\"holder\" cx=\"{x}\" cy=\"{to}\" r=\"4\"/>"
-    )?;
     Ok(())
 }

@@ -34,3 +34,20 @@ pub(crate) fn lock_asked(call: &Call) -> Option<LockAsked> {
         | Call::AbortOthers(_) => None,
     }
 }
+
+/// The number of the object that the call is about.
+pub(crate) fn object_asked(call: &Call) -> Option<u32> {
+    match call {
+        Call::Ask(_, object, _)
+        | Call::Alter(_, object, _)
+        | Call::TestRead(_, object)
+        | Call::TestWrite(_, object) => Some(object.0),
+        Call::Declare(_)
+        | Call::BeginTop
+        | Call::BeginSub(_)
+        | Call::BeginNested(_)
+        | Call::Commit(_)
+        | Call::Abort(_)
+        | Call::AbortOthers(_) => None,
+    }
+}

@@ -1,9 +1,11 @@
 //! Applies a call and its reply to a run.
 
+use crate::access::Access;
 use crate::action::Action;
-use crate::asking::{caller, lock_asked};
+use crate::asking::{caller, lock_asked, object_asked};
 use crate::call_error::CallError;
 use crate::fate::Fate;
+use crate::limits::{MAX_LANES, MAX_ROWS};
 use crate::lock_asked::{LockAsked, reading, writing};
 use crate::object::Object;
 use crate::origin::Origin;
@@ -46,6 +48,7 @@ impl<'a> Run<'a> {
         let Call::Declare(shape) = call else {
             return Err(CallError::Unlawful);
         };
+        self.live.holders.add_list()?;
         self.objects.push(Object::new(heap, shape, None, line)?)?;
         Ok(())
     }
@@ -89,11 +92,11 @@ impl<'a> Run<'a> {
                 self.abort(heap, self.ending(action, answer)?, true, line)
             }
             Call::Ask(action, object, _) => {
-                self.take_lock(self.asking(action, answer)?, reading(object), line)
+                self.take_access(self.asking(action, answer)?, reading(object), line)
             }
             Call::Alter(action, object, change) => {
                 let place = self.altering(action, answer)?;
-                self.take_lock(place, writing(object), line)?;
+                self.take_access(place, writing(object), line)?;
                 self.note_change(place, object, change)
             }
             Call::TestRead(action, object) => {
@@ -156,6 +159,7 @@ impl<'a> Run<'a> {
                 None => None,
             },
         };
+        self.live.add_action()?;
         self.actions.push(Action {
             origin,
             fate: Fate::Live,
@@ -165,6 +169,30 @@ impl<'a> Run<'a> {
             first_line: line,
             last_line: line,
         })?;
+        self.live.mark_row(row, true);
+        if let Some(creator) = origin.creator() {
+            self.live.begun.append(creator, place as usize);
+        }
+        Ok(())
+    }
+
+    // Applies an access: the action gets its lock.
+    fn take_access(
+        &mut self,
+        place: usize,
+        asked: LockAsked,
+        line: &'a str,
+    ) -> Result<(), CallError> {
+        self.take_lock(place, asked, line)?;
+        if asked.object < MAX_LANES as usize {
+            self.accesses.push(Access {
+                at: self.entries,
+                line,
+                action: place,
+                lane: asked.object as u32,
+                writes: asked.writes,
+            })?;
+        }
         Ok(())
     }
 
@@ -207,12 +235,31 @@ impl<'a> Run<'a> {
             }
             (Some(_), _) | (None, _) => None,
         };
+        self.note_next_refused(caller);
         self.refused.push(RefusedCall {
             at: self.entries,
             line,
+            object: object_asked(call),
+            is_conflict: refusal == Refusal::Conflict,
             caller,
             holder,
+            next: None,
         })?;
         Ok(())
+    }
+
+    // Notes at the last refused call in the caller's row that the next one comes now.
+    fn note_next_refused(&mut self, caller: Option<usize>) {
+        let row = self.row(caller).unwrap_or(MAX_ROWS as u32) as usize;
+        let Some(last) = self.live.refused.get_mut(row) else {
+            return;
+        };
+        let before = replace(last, Some(self.refused.len()));
+        let Some(before) = before else {
+            return;
+        };
+        if let Some(call) = self.refused.get_mut(before) {
+            call.next = Some(self.entries);
+        }
     }
 }

@@ -6,7 +6,6 @@ ghost use Rattle.argus_picture.specs.Canvas.{stretch_text};
 
 use crate::escaping::append_escaped;
 use argus_memory::{Heap, OutOfMemory, Room};
-use std::mem::replace;
 
 /// A stretch of a picture's text, and the number of the object whose name comes after it.
 #[derive(Drop)]
@@ -45,7 +44,8 @@ impl Canvas {
         }
     }
 
-    /// Adds the name of this object, which `with_names` fills in.
+    /// Adds the name of this object, which `with_names` fills in. The text before it takes no more
+    /// memory than it is long.
     pub fn put_name(&mut self, heap: Heap, object: u32) -> Result<(), OutOfMemory>
         ensures text { (names : List (List ℕ)) → OnOk result (canvas_text names self.new
             ≡ canvas_text names self.old ++ label_of names object) }
@@ -53,7 +53,8 @@ impl Canvas {
             ≡ canvas_text names self.old) }
     {
         self.stretches.reserve(1)?;
-        let text = replace(&mut self.last, String::new(heap.room()));
+        let text = String::from_str(heap.room(), self.last.as_str())?;
+        self.last.clear();
         self.stretches.push_reserved(Stretch { text, object });
         Ok(())
     }
@@ -64,12 +65,21 @@ impl Canvas {
         ensures { IfOk result (λ text. string_bytes text
             ≡ canvas_text (map (λ name. name.now) names.now) self.now) }
     {
-        let mut out = String::new(heap.room());
+        let mut out = String::with_capacity(heap.room(), self.least_len())?;
         for stretch in &self.stretches {
             append_stretch(stretch, names, &mut out)?;
         }
         out.push_str(self.last.as_str())?;
         Ok(out)
+    }
+
+    // How many bytes the text has without the labels of objects.
+    fn least_len(&self) -> usize {
+        let mut len = self.last.len();
+        for stretch in &self.stretches {
+            len = len.saturating_add(stretch.text.len());
+        }
+        len
     }
 }
 

@@ -1,16 +1,18 @@
 //! `Frame`: where the parts of a picture are.
 
-ghost use Rattle.std.specs.Prelude.{◌≡◌, ◌+◌, ◌*◌, ◌<◌, ◌≤◌};
-ghost use Rattle.argus_picture.specs.Frame.{height_of, lane_top, row_top, width_of, x_of};
+ghost use Rattle.std.specs.Prelude.{◌≡◌, ◌+◌, ◌*◌, ◌<◌, ◌≤◌, ℕ};
+ghost use Rattle.argus_picture.specs.Frame.{height_of, lane_top, lines_for, order_top, row_top};
+ghost use Rattle.argus_picture.specs.Frame.{table_line, width_of, x_of};
 
 use crate::entry_spacing::{EntrySpacing, pixels};
 
-/// The size of a picture: how far apart its entries are, how many entries, rows of actions and
-/// lanes of objects there are. All coordinates follow from it, in pixels from the upper left
-/// corner.
+/// The size of a picture: how far apart its entries are, how many entries, rows of actions, lanes
+/// of objects and lines of the serial order's table there are. All coordinates follow from it, in
+/// pixels from the upper left corner.
 ///
 /// ```text
-/// let frame = Frame { step: EntrySpacing::for_entries(2), entries: 2, rows: 1, lanes: 0 };
+/// let step = EntrySpacing::for_entries(2);
+/// let frame = Frame { step, entries: 2, rows: 1, lanes: 0, lines: 1 };
 /// assert!(rt; entry_left(&frame, 1) == 196);
 /// ```
 #[derive(Clone, Copy)]
@@ -19,6 +21,7 @@ pub(crate) struct Frame {
     pub entries: u32,
     pub rows: u32,
     pub lanes: u32,
+    pub lines: u32,
 }
 
 /// The height of an action's bar.
@@ -26,6 +29,12 @@ pub(crate) const BAR: u64 = 14;
 
 /// The height of an object's lane.
 pub(crate) const LANE: u64 = 54;
+
+/// The height of the numbers of the serial order.
+pub(crate) const ORDER: u64 = 14;
+
+/// How many commits are in a line of the serial order's table.
+pub(crate) const COMMITS_IN_LINE: usize = 5;
 
 /// The x coordinate of this entry.
 pub(crate) fn entry_left(frame: &Frame, entry: u32) -> u64
@@ -52,6 +61,46 @@ pub(crate) fn lane_at(frame: &Frame, lane: u32) -> u64
     158 + 30 * u64::from(frame.rows) + 60 * u64::from(lane)
 }
 
+/// The top of the numbers of the serial order, which are between the rows and the lanes.
+pub(crate) fn order_at(frame: &Frame) -> u64
+    ensures place { result ≡ order_top frame.now }
+    ensures below { (row : ℕ) → row < frame.now.rows → row_top row + BAR < result }
+    ensures above { result + ORDER < lane_top frame.now 0 }
+{
+    134 + 30 * u64::from(frame.rows)
+}
+
+/// Where the lanes end, which are above the serial order's table.
+pub(crate) fn lanes_end(frame: &Frame) -> u64
+    ensures { result ≡ lane_top frame.now frame.now.lanes }
+{
+    lane_at(frame, frame.lanes)
+}
+
+/// The base line of the texts in this line of the serial order's table.
+pub(crate) fn table_at(frame: &Frame, line: u32) -> u64
+    ensures place { result ≡ table_line frame.now line }
+    ensures below { lane_top frame.now frame.now.lanes < result }
+    ensures within { line < frame.now.lines → result < height_of frame.now }
+{
+    lanes_end(frame) + 28 + 16 * u64::from(line)
+}
+
+/// How many lines the table has for this many commits: five are in a line, and behind twenty there
+/// is one for how many more there are.
+pub(crate) fn lines_of_table(commits: usize) -> u32
+    ensures { result ≡ lines_for commits }
+{
+    match commits {
+        0 => 0,
+        1..=5 => 1,
+        6..=10 => 2,
+        11..=15 => 3,
+        16..=20 => 4,
+        _ => 5,
+    }
+}
+
 /// The width of the picture.
 pub(crate) fn width(frame: &Frame) -> u64
     ensures { result ≡ width_of frame.now }
@@ -63,5 +112,5 @@ pub(crate) fn width(frame: &Frame) -> u64
 pub(crate) fn height(frame: &Frame) -> u64
     ensures { result ≡ height_of frame.now }
 {
-    lane_at(frame, frame.lanes) + 40
+    table_at(frame, frame.lines) + 12
 }

@@ -17,6 +17,9 @@ text{font:11px monospace;fill:#1a202c}
 .refusal{fill:#8c1d18}
 .write{fill:#41516b;stroke:#1a202c}.read{fill:#fff;stroke:#41516b;stroke-dasharray:2 2}
 .base{stroke:#1f5fa8;stroke-width:2;fill:#fff}
+.look,.version{fill:#fff;stroke:#41516b}.kept{fill:#41516b;stroke:#41516b}
+.undone{fill:none;stroke:#b3261e;stroke-width:1.5}
+.order{fill:#ffd54a;stroke:#1a202c}.place{fill:#1a202c}
 .ink{stroke:#8a5300;stroke-width:1.4}.dot{fill:#6b2d8c}.cross{stroke:#1a202c;stroke-width:1.6}
 @media (prefers-color-scheme:dark){
 text{fill:#e6e9ef}.tick{fill:#a5acb8}.page{fill:#15181d}.grid{stroke:#2b3038}
@@ -30,6 +33,8 @@ text{fill:#e6e9ef}.tick{fill:#a5acb8}.page{fill:#15181d}.grid{stroke:#2b3038}
 .mark{stroke:#e6e9ef;fill:#8a6d00}.refusal{fill:#ffb4ab}
 .write{fill:#a9b8d0;stroke:#e6e9ef}.read{fill:#15181d;stroke:#a9b8d0}
 .base{stroke:#5b9bdf;fill:#15181d}
+.look,.version{fill:#15181d;stroke:#a9b8d0}.kept{fill:#a9b8d0;stroke:#a9b8d0}.undone{stroke:#ff8a80}
+.order{stroke:#e6e9ef;fill:#8a6d00}.place{fill:#e6e9ef}
 .ink{stroke:#f0b860}.dot{fill:#d0a0ee}.cross{stroke:#e6e9ef}
 }
 </style>
@@ -59,13 +64,23 @@ pub(crate) const LEGEND: &str = r##"<text class="name plain" x="14" y="18">Actio
 <text class="small" x="294" y="42">to the creator of a nested topaction</text>
 <path class="against" d="M540 38h26"/><circle class="holder" cx="566" cy="38" r="4"/>
 <text class="small" x="580" y="42">who stood against a Conflict</text>
-<path class="mark" d="M772 32l6 6l-6 6l-6 -6z"/>
-<text class="small" x="788" y="42">refused, and why</text>
+<path class="mark" d="M764 32l6 6l-6 6l-6 -6z"/>
+<text class="small" x="778" y="42">refused, and why</text>
+<rect class="order" x="886" y="31" width="14" height="14" rx="7"/>
+<text class="tick place" x="893" y="42">1</text>
+<text class="small" x="904" y="42">serial order</text>
 <text class="name plain" x="14" y="66">Objects</text>
 <rect class="write" x="80" y="58" width="30" height="9"/>
 <text class="small" x="124" y="66">held for writing</text>
 <rect class="read" x="250" y="58" width="30" height="9"/>
 <text class="small" x="294" y="66">held for reading</text>
-<path class="base" d="M560 54v14"/><circle class="base" cx="560" cy="65" r="3"/>
-<text class="small" x="580" y="66">what is there for good from a commit on</text>
+<path class="look" d="M408 63m-3 0a3 3 0 1 0 6 0a3 3 0 1 0 -6 0z"/>
+<text class="small" x="416" y="66">read</text>
+<path class="kept" d="M456 63m-3 -3h6v6h-6z"/><text class="small" x="464" y="66">write</text>
+<path class="version" d="M510 63m-3 -3h6v6h-6z"/>
+<text class="small" x="518" y="66">before its commit</text>
+<path class="undone" d="M634 63m-3 -3l6 6m0 -6l-6 6"/>
+<text class="small" x="642" y="66">undone</text>
+<path class="base" d="M696 54v14"/><circle class="base" cx="696" cy="65" r="3"/>
+<text class="small" x="708" y="66">what is there for good from a commit on</text>
 "##;

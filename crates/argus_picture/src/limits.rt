@@ -18,8 +18,14 @@ pub(crate) const MAX_STRIPS: usize = 3;
 /// The most letters of a content that are written at a commit.
 pub(crate) const MAX_CONTENT_LETTERS: usize = 24;
 
-/// The most letters of a content in the title of a commit's sign.
+/// The most letters of a content in the title of a commit's sign, among the first 512 entries.
 pub(crate) const MAX_TITLE_LETTERS: usize = 500;
+
+/// The most letters of it behind these, so that the titles of a long run take little memory.
+pub(crate) const MAX_LATE_TITLE_LETTERS: usize = 100;
+
+/// The most commits that the table of the serial order has.
+pub(crate) const MAX_TABLE_COMMITS: usize = 20;
 
 /// The most letters of a shape that are written in front of its lane.
 pub(crate) const MAX_SHAPE_LETTERS: usize = 24;
@@ -27,5 +33,5 @@ pub(crate) const MAX_SHAPE_LETTERS: usize = 24;
 /// How many pixels apart an object's name is repeated above its lane.
 pub(crate) const NAME_DISTANCE: u64 = 800;
 
-/// A picture higher than this has the numbers of entries at the bottom, too.
-pub(crate) const TALL: u64 = 900;
+/// A picture whose lanes end below this has the numbers of entries at the bottom, too.
+pub(crate) const TALL: u64 = 866;

@@ -1,12 +1,16 @@
 //! `Object`: a declared object and its base.
 
 ghost use Rattle.std.specs.Prelude.{◌≡◌, true};
-ghost use Rattle.argus_contents.specs.Content.{KeepsLimits, plain_option};
+ghost use Rattle.argus_contents.specs.Content.{KeepsBounds, KeepsLimits, plain_option};
 
 use crate::call_error::CallError;
+use crate::limits::MAX_STRIPS;
+use crate::write::Write;
+use argus_contents::limits::{MAX_BOUND, MAX_ITEMS, MIN_BOUND};
 use argus_contents::{Change, Content, Shape, alter_in_place, change_fits, fits};
 use argus_memory::{Heap, OutOfMemory, Room};
-use argus_texts::{write_content, write_shape};
+use argus_texts::write_shape;
+use std::mem::replace;
 
 /// A declared object: its shape, its base (the content that committed topactions have left in it),
 /// and the line of the listing that it comes from.
@@ -16,6 +20,14 @@ pub(crate) struct Object<'a> {
     /// The shape's written form.
     pub shape_text: String<Room>,
     pub base: Option<Content>,
+    /// Whether the base is known to fit the shape. Objects that it refers to stay declared, and a
+    /// change leaves what fits.
+    pub is_fitting: bool,
+    /// The changes that aren't in the base, in the order in which they were made. Some of those
+    /// that were undone may still be there.
+    pub writes: Vec<Write, Room>,
+    /// In which strips of its lane a lock is held.
+    pub strips: [bool; MAX_STRIPS],
     pub line: &'a str,
 }
 
@@ -33,42 +45,61 @@ impl<'a> Object<'a> {
             shape,
             shape_text,
             base,
+            is_fitting: false,
+            writes: Vec::new(heap.room()),
+            strips: [false; MAX_STRIPS],
             line,
         })
     }
-}
 
-/// The base's written form; `absent` if nothing was created.
-pub(crate) fn base_text(heap: Heap, base: &Option<Content>) -> Result<String<Room>, OutOfMemory> {
-    let mut text = String::new(heap.room());
-    match base {
-        Some(content) => write_content(content, &mut text)?,
-        None => text.push_str("absent")?,
+    /// The changes that aren't in the base; none is left.
+    pub(crate) fn take_writes(&mut self, heap: Heap) -> Vec<Write, Room> {
+        replace(&mut self.writes, Vec::new(heap.room()))
     }
-    Ok(text)
-}
 
-/// Applies the change to the base. `declared` is how many objects there are for references to name.
-pub(crate) fn make_for_good(
-    heap: Heap,
-    shape: &Shape,
-    base: &mut Option<Content>,
-    declared: u32,
-    change: &Change,
-) -> Result<(), CallError> {
-    if !change_fits(shape, declared, change) || !base_fits(shape, base, declared) {
-        return Err(CallError::Unlawful);
+    /// Applies the change to the base. `declared` is how many objects there are for references to
+    /// name.
+    pub(crate) fn make_for_good(
+        &mut self,
+        heap: Heap,
+        declared: u32,
+        change: &Change,
+    ) -> Result<(), CallError> {
+        self.is_fitting = self.is_fitting || base_fits(&self.shape, &self.base, declared);
+        if !self.is_fitting || !change_fits(&self.shape, declared, change) {
+            return Err(CallError::Unlawful);
+        }
+        if !keeps_limits(&self.base) {
+            return Err(CallError::Unlawful);
+        }
+        alter_in_place(heap, &mut self.base, change)?;
+        Ok(())
     }
-    alter_in_place(heap, base, change)?;
-    Ok(())
 }
 
 // Whether the base fits the shape.
-fn base_fits(shape: &Shape, base: &Option<Content>, declared: u32) -> bool
-    ensures { result ≡ true → KeepsLimits (plain_option base.now) }
-{
+fn base_fits(shape: &Shape, base: &Option<Content>, declared: u32) -> bool {
     match base {
         None => true,
         Some(content) => fits(shape, declared, content),
     }
+}
+
+// Whether the base keeps the limits of an array, if it is one. A base that fits does.
+fn keeps_limits(base: &Option<Content>) -> bool
+    ensures { result ≡ true → KeepsLimits (plain_option base.now) }
+{
+    match base {
+        Some(Content::Arr { low, items }) => keeps_bounds(*low, items.len()),
+        Some(Content::Rec(_)) | Some(Content::Var { .. }) | None => true,
+    }
+}
+
+fn keeps_bounds(low: i64, size: usize) -> bool
+    ensures { result ≡ true → KeepsBounds low size }
+{
+    if size > MAX_ITEMS || low < MIN_BOUND || low > MAX_BOUND {
+        return false;
+    }
+    low + size as i64 - 1 <= MAX_BOUND
 }

@@ -139,6 +139,7 @@ impl<'a> Run<'a> {
           entries = self.old.entries;
         }) }
     {
+        self.live.holders.add_list()?;
         self.objects.push(Object::new(heap, shape, content, line)?)?;
         Ok(())
     }

@@ -7,10 +7,11 @@ ghost use Rattle.argus_picture.specs.Listing.{IsListing};
 use crate::action_drawing::draw_actions;
 use crate::canvas::Canvas;
 use crate::entry_spacing::EntrySpacing;
-use crate::frame::{Frame, entry_left, height, width};
+use crate::frame::{Frame, entry_left, height, lanes_end, lines_of_table, width};
 use crate::legend::{LEGEND, LOOKS};
 use crate::limits::{MAX_LANES, TALL};
 use crate::object_drawing::draw_objects;
+use crate::order_drawing::{draw_order, draw_table};
 use crate::picture_error::PictureError;
 use crate::run::Run;
 use crate::sketching::sketch_listing;
@@ -41,8 +42,10 @@ pub fn picture(heap: Heap, listing: &[u8]) -> Result<String<Room>, PictureError>
 pub(crate) fn draw_run(heap: Heap, run: &Run<'_>, canvas: &mut Canvas) -> Result<(), OutOfMemory> {
     let frame = frame_of(run);
     draw_page(run, &frame, &mut canvas.last)?;
-    draw_actions(run, &frame, &mut canvas.last)?;
+    draw_actions(heap, run, &frame, canvas)?;
+    draw_order(run, &frame, &mut canvas.last)?;
     draw_objects(heap, run, &frame, canvas)?;
+    draw_table(run, &frame, &mut canvas.last)?;
     draw_counts(run, &frame, height(&frame), &mut canvas.last)?;
     canvas.last.push_str("</svg>\n")?;
     Ok(())
@@ -61,7 +64,7 @@ fn draw_page(run: &Run<'_>, frame: &Frame, out: &mut String<Room>) -> Result<(),
         "<rect class=\"page\" width=\"{wide}\" height=\"{high}\"/>\n"
     )?;
     out.push_str(LEGEND)?;
-    draw_axis(run, frame, high, out)
+    draw_axis(run, frame, out)
 }
 
 // The frame, which has room for all rows and lanes.
@@ -81,18 +84,14 @@ fn frame_of(run: &Run<'_>) -> Frame {
         entries: run.entries,
         rows,
         lanes,
+        lines: lines_of_table(run.serial.len()),
     }
 }
 
 // Draws the numbers of entries, each with a line from top to bottom; in a tall picture also at the
 // bottom.
-fn draw_axis(
-    run: &Run<'_>,
-    frame: &Frame,
-    high: u64,
-    out: &mut String<Room>,
-) -> Result<(), OutOfMemory> {
-    let bottom = high.saturating_sub(34);
+fn draw_axis(run: &Run<'_>, frame: &Frame, out: &mut String<Room>) -> Result<(), OutOfMemory> {
+    let bottom = lanes_end(frame).saturating_add(6);
     let tick = frame.step.tick();
     for entry in 0..frame.entries {
         if entry % tick == 0 {
@@ -100,7 +99,7 @@ fn draw_axis(
             let number = run.first_entry.saturating_add(u64::from(entry));
             write!(out, "<path class=\"grid\" d=\"M{x} 124V{bottom}\"/>")?;
             draw_number(number, x, 120, out)?;
-            if high > TALL {
+            if bottom > TALL {
                 draw_number(number, x, bottom.saturating_add(9), out)?;
             }
         }
@@ -130,7 +129,7 @@ fn draw_counts(
         .iter()
         .filter(|action| action.row.is_none())
         .count();
-    let no_strip = run.holds.iter().filter(|hold| hold.strip.is_none()).count();
+    let no_strip = run.without_strip;
     let no_lane = run.objects.len().saturating_sub(frame.lanes as usize);
     write!(out, "<text class=\"small\" x=\"14\" y=\"{line}\">")?;
     append_count(frame.entries as usize, "entry", "entries", out)?;

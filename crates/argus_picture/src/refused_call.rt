@@ -1,13 +1,17 @@
 //! `RefusedCall`: a call that was refused.
 
-/// A refused call: its entry and its line, its caller if that action was live, and the holder whose
-/// lock was in the way.
+/// A refused call: its entry and its line, the object that it is about, its caller if that action
+/// was live, the holder whose lock was in the way, and the entry of the next refused call in the
+/// same row.
 #[derive(Clone, Copy)]
 pub(crate) struct RefusedCall<'a> {
     pub at: u32,
     pub line: &'a str,
+    pub object: Option<u32>,
+    pub is_conflict: bool,
     pub caller: Option<usize>,
     pub holder: Option<usize>,
+    pub next: Option<u32>,
 }
 
 impl<'a> RefusedCall<'a> {

@@ -1,48 +1,34 @@
 //! Replays the changes of a run, to find what commits leave in the objects' bases.
 
+ghost use Rattle.std.specs.Prelude.{if◌then◌else◌, nat_lt, ◌≡◌};
+
+use crate::beginning::beginning_of;
 use crate::call_error::CallError;
-use crate::object::{base_text, make_for_good};
+use crate::limits::{MAX_LANES, MAX_LATE_TITLE_LETTERS, MAX_TITLE_LETTERS};
+use crate::outcome::Outcome;
 use crate::run::Run;
 use crate::settling::Settling;
 use crate::write::Write;
 use argus_contents::{Change, ObjId};
-use argus_memory::Heap;
+use argus_memory::{Heap, OutOfMemory};
 
 impl<'a> Run<'a> {
     /// Records a change that the action made.
     pub(crate) fn note_change(
         &mut self,
-        owner: usize,
+        action: usize,
         object: ObjId,
         change: Change,
     ) -> Result<(), CallError> {
-        self.writes.push(Write {
-            owner,
-            object: object.0 as usize,
-            change: Some(change),
-        })?;
+        let Some(told) = self.objects.get_mut(object.0 as usize) else {
+            return Err(CallError::Unlawful);
+        };
+        told.writes.push(Write { action, change })?;
         Ok(())
     }
 
-    /// Hands the action's changes to its parent.
-    pub(crate) fn pass_changes(&mut self, place: usize, parent: usize) {
-        for write in self.writes.iter_mut() {
-            if write.owner == place {
-                write.owner = parent;
-            }
-        }
-    }
-
-    /// Discards the changes of the doomed actions, which are those that are being aborted.
-    pub(crate) fn undo_changes(&mut self, doomed: &[bool]) {
-        for write in self.writes.iter_mut() {
-            if doomed.get(write.owner).copied() == Some(true) {
-                write.change = None;
-            }
-        }
-    }
-
-    /// Applies the action's changes to the object's base, and records the commit.
+    /// Applies the changes that the action has made, or got, to the object's base, and records the
+    /// commit.
     pub(crate) fn settle(
         &mut self,
         heap: Heap,
@@ -50,44 +36,75 @@ impl<'a> Run<'a> {
         object: usize,
         line: &'a str,
     ) -> Result<(), CallError> {
-        for at in 0..self.writes.len() {
-            self.settle_change(heap, at, place, object)?;
-        }
-        let Some(told) = self.objects.get(object) else {
+        let Some(told) = self.objects.get_mut(object) else {
             return Ok(());
         };
-        let base = base_text(heap, &told.base)?;
-        let at = self.entries;
-        self.settlings.push(Settling {
-            object,
-            at,
-            line,
-            base,
-        })?;
+        for write in told.take_writes(heap) {
+            self.settle_change(heap, write, place, object)?;
+        }
+        self.note_settling(heap, object, line)?;
         Ok(())
     }
 
-    // Applies the change at index `at` to the base, if it is the action's and of this object.
+    // Applies the change to the base, if it is the action's. Another action's is left for its end,
+    // unless it was undone.
     fn settle_change(
         &mut self,
         heap: Heap,
-        at: usize,
+        write: Write,
         place: usize,
         object: usize,
     ) -> Result<(), CallError> {
         let declared = self.objects.len().min(65_535) as u32;
-        let Some(write) = self.writes.get_mut(at) else {
+        let (owner, outcome) = self.owner(write.action);
+        let Some(told) = self.objects.get_mut(object) else {
             return Ok(());
         };
-        if write.owner != place || write.object != object {
+        match outcome {
+            Outcome::Undone | Outcome::ForGood => Ok(()),
+            Outcome::InVersion if owner == place => told.make_for_good(
+                heap,
+                declared,
+                &write.change,
+            ),
+            Outcome::InVersion => {
+                told.writes.push(write)?;
+                Ok(())
+            }
+        }
+    }
+
+    // Records what the commit leaves in the object's base, as far as it is shown.
+    fn note_settling(
+        &mut self,
+        heap: Heap,
+        object: usize,
+        line: &'a str,
+    ) -> Result<(), OutOfMemory> {
+        if object >= MAX_LANES as usize {
             return Ok(());
         }
-        let change = write.change.take();
-        match (self.objects.get_mut(object), change) {
-            (Some(told), Some(change)) => {
-                make_for_good(heap, &told.shape, &mut told.base, declared, &change)
-            }
-            (None, _) | (_, None) => Ok(()),
-        }
+        let Some(told) = self.objects.get(object) else {
+            return Ok(());
+        };
+        let base = beginning_of(heap, &told.base, title_letters(self.entries))?;
+        self.settlings.push(Settling {
+            lane: object as u32,
+            at: self.entries,
+            line,
+            order: self.serial.len().saturating_add(1),
+            base,
+        })?;
+        Ok(())
+    }
+}
+
+// How many letters of a content the title of a commit has, which is at this entry.
+fn title_letters(entry: u32) -> usize
+    ensures { result ≡ (if nat_lt entry 512 then 500 else 100) }
+{
+    match entry {
+        0..=511 => MAX_TITLE_LETTERS,
+        _ => MAX_LATE_TITLE_LETTERS,
     }
 }

@@ -4,14 +4,16 @@ ghost use Rattle.std.specs.Prelude.{◌≡◌};
 ghost use Rattle.argus_picture.specs.Listing.{start};
 ghost use Rattle.argus_picture.specs.RunPlace.{place_of};
 
+use crate::access::Access;
 use crate::action::Action;
+use crate::fate::Fate;
 use crate::held_lock::HeldLock;
-use crate::limits::{MAX_ROWS, MAX_STRIPS};
-use crate::lock_asked::LockAsked;
+use crate::live::Live;
+use crate::lock_asked::{LockAsked, lock_key};
 use crate::object::Object;
+use crate::outcome::Outcome;
 use crate::refused_call::RefusedCall;
 use crate::settling::Settling;
-use crate::write::Write;
 use argus_actions::ActionId;
 use argus_memory::{Heap, Room};
 
@@ -25,10 +27,16 @@ pub(crate) struct Run<'a> {
     pub entries: u32,
     pub actions: Vec<Action<'a>, Room>,
     pub objects: Vec<Object<'a>, Room>,
+    /// Of locks on objects without a lane only those that are held, and perhaps some others.
     pub holds: Vec<HeldLock<'a>, Room>,
+    /// How many locks found no strip.
+    pub without_strip: usize,
+    pub accesses: Vec<Access<'a>, Room>,
     pub refused: Vec<RefusedCall<'a>, Room>,
     pub settlings: Vec<Settling<'a>, Room>,
-    pub writes: Vec<Write, Room>,
+    /// The topactions that committed, nested ones too, in the order of their commits.
+    pub serial: Vec<usize, Room>,
+    pub live: Live,
 }
 
 // Written by hand, so that dropping a run is one call; a derived `Drop` is expanded at each place.
@@ -41,9 +49,12 @@ impl Drop for Run<'_> {
             actions: _,
             objects: _,
             holds: _,
+            without_strip: _,
+            accesses: _,
             refused: _,
             settlings: _,
-            writes: _,
+            serial: _,
+            live: _,
         } = self;
     }
 }
@@ -60,9 +71,12 @@ impl<'a> Run<'a> {
             actions: Vec::new(heap.room()),
             objects: Vec::new(heap.room()),
             holds: Vec::new(heap.room()),
+            without_strip: 0,
+            accesses: Vec::new(heap.room()),
             refused: Vec::new(heap.room()),
             settlings: Vec::new(heap.room()),
-            writes: Vec::new(heap.room()),
+            serial: Vec::new(heap.room()),
+            live: Live::new(heap),
         }
     }
 
@@ -80,9 +94,19 @@ impl<'a> Run<'a> {
         self.actions.get(place?).copied()
     }
 
+    /// The parent of the action at this place.
+    pub(crate) fn parent(&self, place: usize) -> Option<usize> {
+        self.actions.get(place)?.origin.parent()
+    }
+
     /// The row of the action at this place.
     pub(crate) fn row(&self, place: Option<usize>) -> Option<u32> {
         self.action(place)?.row
+    }
+
+    /// The number of the action at this place.
+    pub(crate) fn number(&self, place: usize) -> u64 {
+        u64::from(self.first_action).saturating_add(place as u64)
     }
 
     /// Whether `upper` is an ancestor of `lower`. Each action is its own ancestor.
@@ -100,59 +124,52 @@ impl<'a> Run<'a> {
         false
     }
 
-    /// Whether an action that it began is live.
-    pub(crate) fn has_live_child(&self, place: usize) -> bool {
-        self.actions.iter().any(|action| action.end.is_none()
-            && action.origin.creator() == Some(place))
+    /// The action that has the changes of this one: itself, or the topmost one that they were
+    /// passed to by commits; and what has become of them.
+    pub(crate) fn owner(&self, place: usize) -> (usize, Outcome) {
+        let mut owner = place;
+        for _ in 0..self.actions.len() {
+            let Some(action) = self.action(Some(owner)) else {
+                return (owner, Outcome::Undone);
+            };
+            match (action.fate, action.origin.parent()) {
+                (Fate::Committed, Some(parent)) => owner = parent,
+                (Fate::Committed, None) => return (owner, Outcome::ForGood),
+                (Fate::Live, _) => return (owner, Outcome::InVersion),
+                (Fate::AbortedAlone | Fate::AbortedWithAncestor | Fate::AbortedBySibling, _) => {
+                    return (owner, Outcome::Undone);
+                }
+            }
+        }
+        (owner, Outcome::Undone)
     }
 
     /// The first row from `from` on without a live action.
     pub(crate) fn free_row(&self, from: usize) -> Option<u32> {
-        let mut taken = [false; MAX_ROWS];
-        for action in &self.actions {
-            if let (None, Some(row)) = (action.end, action.row) {
-                if let Some(mark) = taken.get_mut(row as usize) {
-                    *mark = true;
-                }
-            }
-        }
-        first_free(&taken, from)
+        first_free(&self.live.rows, from)
     }
 
     /// The first strip of the object's lane in which no lock is held.
     pub(crate) fn free_strip(&self, object: usize) -> Option<u32> {
-        let mut taken = [false; MAX_STRIPS];
-        for hold in &self.holds {
-            if let (None, Some(strip)) = (hold.end, hold.strip) {
-                if hold.object == object {
-                    if let Some(mark) = taken.get_mut(strip as usize) {
-                        *mark = true;
-                    }
-                }
-            }
-        }
-        first_free(&taken, 0)
+        first_free(&self.objects.get(object)?.strips, 0)
     }
 
     /// Whether the action has this lock.
     pub(crate) fn has_lock(&self, place: usize, asked: LockAsked) -> bool {
-        self.holds.iter().any(|hold| {
-            hold.end.is_none()
-                && hold.action == place
-                && hold.object == asked.object
-                && hold.writes == asked.writes
-        })
+        self.live.held.get(&lock_key(place, asked)).is_some()
     }
 
     /// The first holder in the way of the action's lock. The action's ancestors aren't in the way.
     pub(crate) fn holder_against(&self, place: usize, asked: LockAsked) -> Option<usize> {
-        for hold in &self.holds {
-            let counts = hold.end.is_none()
-                && hold.object == asked.object
-                && (asked.writes || hold.writes);
+        let mut next = self.live.holders.first(asked.object);
+        for _ in 0..self.holds.len() {
+            let at = next?;
+            let hold = self.holds.get(at)?;
+            let counts = asked.writes || hold.writes;
             if counts && !self.is_above(hold.action, place) {
                 return Some(hold.action);
             }
+            next = self.live.holders.behind(at);
         }
         None
     }

@@ -2,12 +2,13 @@
 
 use argus_memory::Room;
 
-/// A commit of a topaction that had locked the object for writing: its entry and its line, and the
-/// written form of the object's base after it.
+/// A commit of a topaction that had locked an object with a lane for writing: its entry, its line
+/// and its number in the serial order, and the beginning of the base's written form after it.
 #[derive(Drop)]
 pub(crate) struct Settling<'a> {
-    pub object: usize,
+    pub lane: u32,
     pub at: u32,
     pub line: &'a str,
+    pub order: usize,
     pub base: String<Room>,
 }

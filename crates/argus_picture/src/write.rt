@@ -1,11 +1,10 @@
-//! `Write`: a change that was made, and its owner.
+//! `Write`: a change that was made, and the action that made it.
 
 use argus_contents::Change;
 
-/// A change of an object. `change` is `None` once it was applied to the base, or undone.
+/// A change of an object that isn't in its base yet.
 #[derive(Drop)]
 pub(crate) struct Write {
-    pub owner: usize,
-    pub object: usize,
-    pub change: Option<Change>,
+    pub action: usize,
+    pub change: Change,
 }
