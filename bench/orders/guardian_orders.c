@@ -6,7 +6,6 @@
 #include "orders.h"
 
 #include <argus.h>
-#include <argus_values.h>
 #include <inttypes.h>
 
 /* So many orders are carried out between two folds of the journal, and two renewals. */
