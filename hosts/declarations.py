@@ -146,6 +146,35 @@ def numbers_in_python():
     return [(it.name, it.value) for kind in kinds for it in kind]
 
 
+def names_in_c(header):
+    """The numbers that have names in argus.h."""
+    return {name: int(value) for name, value in re.findall(r"ARGUS_(\w+)(?: =)? (\d+)\b", header)}
+
+
+def numbers_by_file(header, exports, rust, quick):
+    """The numbers by their names, as each file has them. Python's header has others of its own, too."""
+    named = names_in_c(header)
+    in_quick = [(name, int(value)) for name, value in re.findall(r"\b([A-Z]\w+) = (\d+)", quick)]
+    return {
+        EXPORTS: numbers_in_rust(exports),
+        KINDS: numbers_in_rust(KINDS.read_text(encoding="utf-8")),
+        RUST: numbers_in_rust(rust),
+        PYTHON: numbers_in_python(),
+        QUICK: [(name, value) for name, value in in_quick if name in named],
+    }
+
+
+def faults_of_numbers(header, told):
+    """Numbers that aren't those of argus.h, and kinds that aren't named everywhere."""
+    named, in_header, kinds = names_in_c(header), kinds_in_c(header), dict(told[KINDS])
+    faults = [f"{KINDS}: no kind {name}" for name, _ in in_header if name not in kinds]
+    for file, numbers in {HEADER: in_header, **told}.items():
+        faults += [f"{file}: {name} is {it}, not {named.get(name)}" for name, it in numbers if named.get(name) != it]
+        if file in (HEADER, RUST, PYTHON):
+            faults += [f"{file}: no kind {name}" for name in kinds if name not in dict(numbers)]
+    return faults
+
+
 def main():
     exports = "".join(file.read_text(encoding="utf-8") for file in (EXPORTS, READYING, PARSING))
     header = HEADER.read_text(encoding="utf-8")
@@ -156,7 +185,8 @@ def main():
         for name in sorted({*wanted, *calls}):
             if wanted.get(name) != calls.get(name):
                 failed.append(f"{file}: {name} is {calls.get(name)}, and exported as {wanted.get(name)}")
-    called = called_for_python(QUICK.read_text(encoding="utf-8"))
+    quick = QUICK.read_text(encoding="utf-8")
+    called = called_for_python(quick)
     for name in "argus_c_call", "argus_c_reply":
         if called.get(name) != wanted.get(name):
             failed.append(f"{QUICK}: {name} is called as {called.get(name)}, and exported as {wanted.get(name)}")
@@ -168,15 +198,8 @@ def main():
     for file, it in fields.items():
         if it != fields[LISTED]:
             failed.append(f"{file}: a call of a list is {it}, not {fields[LISTED]}")
-    named = {name: int(value) for name, value in re.findall(r"ARGUS_(\w+)(?: =)? (\d+)\b", header)}
-    kinds = numbers_in_rust(KINDS.read_text(encoding="utf-8"))
-    told = {EXPORTS: numbers_in_rust(exports), KINDS: kinds, RUST: numbers_in_rust(rust), PYTHON: numbers_in_python()}
-    for file, numbers in told.items():
-        failed += [f"{file}: {name} is {it}, not {named.get(name)}" for name, it in numbers if named.get(name) != it]
-    everywhere = {HEADER: kinds_in_c(header), RUST: told[RUST], PYTHON: told[PYTHON]}
-    for file, numbers in everywhere.items():
-        failed += [f"{file}: no kind {name}" for name, _ in kinds if name not in dict(numbers)]
-    failed += [f"{KINDS}: no kind {name}" for name, _ in everywhere[HEADER] if name not in dict(kinds)]
+    told = numbers_by_file(header, exports, rust, quick)
+    failed += faults_of_numbers(header, told)
     counts = f"{len(wanted)} calls, {len(fields[LISTED])} fields, {sum(map(len, told.values()))} numbers"
     print(*failed, counts, sep="\n")
     return 1 if failed or not wanted or not fields[LISTED] or not all(told.values()) else 0
