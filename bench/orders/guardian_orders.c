@@ -6,7 +6,6 @@
 #include "orders.h"
 
 #include <argus.h>
-#include <argus_values.h>
 #include <inttypes.h>
 
 /* So many orders are carried out between two folds of the journal, and two renewals. */
@@ -29,13 +28,10 @@ static void declare_seats(argus_guardian *shop) {
 
 /* Takes a seat over for an order, from an earlier one. */
 static void take(argus_guardian *shop, uint32_t top, uint32_t seat, uint32_t order) {
-    char value[24];
     uint32_t sub = (uint32_t)must(argus_begin_sub(shop, top), ARGUS_ACTION, "begin");
     must(argus_lock(shop, sub, seat), ARGUS_DONE, "lock");
-    if (must(argus_ask(shop, sub, seat, ARGUS_FIELD, 0), ARGUS_NUMBER, "read") < order) {
-        argus_value_int(value, sizeof value, order);
-        must(argus_alter(shop, sub, seat, ARGUS_SET_FIELD, 0, 0, value), ARGUS_DONE, "set");
-    }
+    if (must(argus_ask(shop, sub, seat, ARGUS_FIELD, 0), ARGUS_NUMBER, "read") < order)
+        must(argus_alter(shop, sub, seat, ARGUS_SET_FIELD_INT, 0, order, NULL), ARGUS_DONE, "set");
     must(argus_commit(shop, sub), ARGUS_DONE, "commit");
 }
 

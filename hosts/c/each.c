@@ -86,7 +86,7 @@ static void end_at_bad_ones(argus_guardian *bank, uint32_t account) {
         {call_with(ARGUS_SET_FIELD, 1, account, "\xff"), ARGUS_NOT_UTF8, 0},
         {call_with(ARGUS_DECLARE, 0, 0, "int"), ARGUS_BAD_SHAPE, 0},
         {{.kind = ARGUS_FIELD, .begun_by = 1, .first = 256}, ARGUS_BAD_NUMBER, 0},
-        {{.kind = 30}, ARGUS_BAD_KIND, 0},
+        {{.kind = ARGUS_CHANGE_TAG_BOOL + 1}, ARGUS_BAD_KIND, 0},
         {{.kind = ARGUS_COMMIT, .begun_by = 2}, ARGUS_NOT_BEGUN, 0},
         {{.kind = ARGUS_COMMIT, .demand = 3}, ARGUS_BAD_DEMAND, 0},
         {{.kind = ARGUS_SET_FIELD, .begun_by = 1, .text_size = 1}, ARGUS_NULL, 0},

@@ -31,10 +31,8 @@ static int64_t turn(argus_guardian *guardian, uint64_t *draws, int64_t number) {
     int64_t sum = 0;
     uint32_t top = (uint32_t)number_of(argus_begin_top(guardian), ARGUS_ACTION);
     for (int place = 0; place < 4; place++) {
-        char value[24];
-        int size = snprintf(value, sizeof value, "%" PRId64, 4 * number + place);
         sum += get(guardian, top, object);
-        number_of(argus_call(guardian, ARGUS_SET_FIELD, top, object, 0, 0, value, (size_t)size), ARGUS_DONE);
+        number_of(argus_call(guardian, ARGUS_SET_FIELD_INT, top, object, 0, 4 * number + place, NULL, 0), ARGUS_DONE);
         object = (object + STEP) % RECORDS;
     }
     number_of(argus_commit(guardian, top), ARGUS_DONE);
@@ -52,13 +50,11 @@ static int64_t sum_read(const argus_listed_call *calls, size_t count) {
 /* The same turn as one list of calls. */
 static int64_t turn_listed(argus_guardian *guardian, uint64_t *draws, int64_t number) {
     argus_listed_call calls[10] = {{.kind = ARGUS_BEGIN_TOP}};
-    char values[4][24];
     uint32_t object = draws_below(draws, RECORDS);
     for (int place = 0; place < 4; place++) {
-        int size = snprintf(values[place], sizeof values[place], "%" PRId64, 4 * number + place);
         calls[2 * place + 1] = (argus_listed_call){.kind = ARGUS_FIELD, .begun_by = 1, .object = object};
-        calls[2 * place + 2] = (argus_listed_call){.kind = ARGUS_SET_FIELD, .begun_by = 1, .object = object,
-                                                   .text = values[place], .text_size = (size_t)size};
+        calls[2 * place + 2] = (argus_listed_call){.kind = ARGUS_SET_FIELD_INT, .begun_by = 1, .object = object,
+                                                   .second = 4 * number + place};
         object = (object + STEP) % RECORDS;
     }
     calls[9] = (argus_listed_call){.kind = ARGUS_COMMIT, .begun_by = 1};

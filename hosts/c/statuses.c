@@ -66,7 +66,7 @@ static const step STEPS[] = {
     {ARGUS_SET_FIELD, 1, 0, 0, 0, "[1,", ARGUS_BAD_TEXT, 3},
     {ARGUS_SET_FIELD, 1, 0, 0, 0, "\xff", ARGUS_NOT_UTF8, 0},
     {ARGUS_FIELD, 1, 0, 256, 0, "", ARGUS_BAD_NUMBER, 0},
-    {ARGUS_TOUCH + 1, 1, 0, 0, 0, "", ARGUS_BAD_KIND, 0},
+    {ARGUS_CHANGE_TAG_BOOL + 1, 1, 0, 0, 0, "", ARGUS_BAD_KIND, 0},
 };
 
 static argus_answer made(argus_guardian *bank, const step *it) {

@@ -206,12 +206,12 @@ static int is_conflict(argus_answer answer) {
     return answer.status == ARGUS_REFUSED && answer.number == ARGUS_CONFLICT;
 }
 
-/* Makes a change. If the lock isn't free, waits for it and tries once more. */
-static int alter(store *it, const store_action *action, uint32_t object, uint32_t change, const char *text) {
+/* Makes a change, maybe by a number. If the lock isn't free, waits for it and tries once more. */
+static int alter(store *it, const store_action *action, uint32_t object, uint32_t change, int64_t number) {
     pthread_mutex_lock(&it->lock);
-    argus_answer answer = argus_alter(&it->guardian, action->number, object, change, 0, 0, text);
+    argus_answer answer = argus_alter(&it->guardian, action->number, object, change, 0, number, NULL);
     if (is_conflict(answer) && wait_to_write(it, action, object))
-        answer = argus_alter(&it->guardian, action->number, object, change, 0, 0, text);
+        answer = argus_alter(&it->guardian, action->number, object, change, 0, number, NULL);
     int is_had = !is_conflict(answer);
     if (is_had) expect(answer, ARGUS_DONE, "change");
     pthread_mutex_unlock(&it->lock);
@@ -219,13 +219,11 @@ static int alter(store *it, const store_action *action, uint32_t object, uint32_
 }
 
 int store_lock(store *it, const store_action *action, uint32_t object) {
-    return alter(it, action, object, ARGUS_TOUCH, NULL);
+    return alter(it, action, object, ARGUS_TOUCH, 0);
 }
 
 int store_set(store *it, const store_action *action, uint32_t object, int64_t number) {
-    char value[24];
-    snprintf(value, sizeof value, "%" PRId64, number);
-    return alter(it, action, object, ARGUS_SET_FIELD, value);
+    return alter(it, action, object, ARGUS_SET_FIELD_INT, number);
 }
 
 int store_get(store *it, const store_action *action, uint32_t object, int64_t *number) {

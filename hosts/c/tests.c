@@ -330,6 +330,70 @@ static void test_fields(void) {
     CHECK(argus_close(&guardian).status == ARGUS_DONE);
 }
 
+/* A call is read while its guardian is in another call, and made once that is over. */
+static void test_parsed(void) {
+    argus_guardian bank = ARGUS_CLOSED, held = ARGUS_CLOSED;
+    argus_parsed parsed = ARGUS_NOTHING_PARSED;
+    CHECK(argus_open(&bank).status == ARGUS_DONE);
+    CHECK(declared(&bank, "atomic_record[n:int]") == ARGUS_OBJECT);
+    CHECK(argus_begin_top(&bank).status == ARGUS_ACTION);
+    CHECK(argus_hold(&bank, &held).status == ARGUS_DONE);
+    CHECK(is_answer(argus_parse(&parsed, ARGUS_CREATE, 0, 0, 0, 0, "{5}", 3), ARGUS_DONE, 0));
+    /* What can't be read leaves what was. */
+    CHECK(is_answer(argus_parse(&parsed, ARGUS_CREATE, 0, 0, 0, 0, "{6", 2), ARGUS_BAD_TEXT, 2));
+    CHECK(is_answer(argus_call_parsed(&bank, &parsed), ARGUS_REENTERED, 0));
+    CHECK(argus_release(&bank, &held).status == ARGUS_DONE);
+    CHECK(argus_entries(&bank).number == 2);
+    CHECK(is_answer(argus_call_parsed(&bank, &parsed), ARGUS_DONE, 0));
+    CHECK(is_answer(argus_ask(&bank, 0, 0, ARGUS_FIELD, 0), ARGUS_NUMBER, 5));
+    CHECK(is_answer(argus_call_parsed(&bank, &parsed), ARGUS_NOT_THERE, 0));
+    /* What is read later takes the place of what was. */
+    CHECK(is_answer(argus_parse(&parsed, ARGUS_SET_FIELD, 0, 0, 0, 0, "6", 1), ARGUS_DONE, 0));
+    CHECK(is_answer(argus_parse(&parsed, ARGUS_SET_FIELD, 0, 0, 0, 0, "7", 1), ARGUS_DONE, 0));
+    CHECK(is_answer(argus_call_parsed(&bank, &parsed), ARGUS_DONE, 0));
+    CHECK(is_answer(argus_ask(&bank, 0, 0, ARGUS_FIELD, 0), ARGUS_NUMBER, 7));
+    CHECK(argus_close(&bank).status == ARGUS_DONE);
+}
+
+/* A call that is read and not made. */
+static void test_parsed_and_dropped(void) {
+    argus_guardian bank = ARGUS_CLOSED;
+    argus_parsed parsed = ARGUS_NOTHING_PARSED;
+    CHECK(is_answer(argus_drop_parsed(&parsed), ARGUS_NOT_THERE, 0));
+    CHECK(is_answer(argus_parse(&parsed, ARGUS_BEGIN_TOP, 0, 0, 0, 0, NULL, 0), ARGUS_DONE, 0));
+    CHECK(is_answer(argus_call_parsed(&bank, &parsed), ARGUS_NOT_OPEN, 0));
+    CHECK(is_answer(argus_drop_parsed(&parsed), ARGUS_DONE, 0));
+    CHECK(is_answer(argus_drop_parsed(&parsed), ARGUS_NOT_THERE, 0));
+    CHECK(is_answer(argus_parse(NULL, ARGUS_BEGIN_TOP, 0, 0, 0, 0, NULL, 0), ARGUS_NULL, 0));
+    CHECK(is_answer(argus_parse(&parsed, ARGUS_DECLARE, 0, 0, 0, 0, NULL, 1), ARGUS_NULL, 0));
+    CHECK(is_answer(argus_call_parsed(NULL, &parsed), ARGUS_NULL, 0));
+    CHECK(is_answer(argus_call_parsed(&bank, NULL), ARGUS_NULL, 0));
+    CHECK(is_answer(argus_drop_parsed(NULL), ARGUS_NULL, 0));
+}
+
+/* The example of argus_parse. */
+static argus_answer create(argus_guardian *bank, pthread_mutex_t *lock, uint32_t action, uint32_t object,
+                           const char *content) {
+    argus_parsed parsed = ARGUS_NOTHING_PARSED;
+    argus_answer answer = argus_parse(&parsed, ARGUS_CREATE, action, object, 0, 0, content, strlen(content));
+    if (answer.status != ARGUS_DONE) return answer;
+    pthread_mutex_lock(lock);
+    answer = argus_call_parsed(bank, &parsed);
+    pthread_mutex_unlock(lock);
+    return answer;
+}
+
+static void test_create(void) {
+    argus_guardian bank = ARGUS_CLOSED;
+    pthread_mutex_t lock = PTHREAD_MUTEX_INITIALIZER;
+    CHECK(argus_open(&bank).status == ARGUS_DONE);
+    CHECK(declared(&bank, "atomic_record[n:int]") == ARGUS_OBJECT);
+    CHECK(argus_begin_top(&bank).status == ARGUS_ACTION);
+    CHECK(is_answer(create(&bank, &lock, 0, 0, "{5}"), ARGUS_DONE, 0));
+    CHECK(is_answer(create(&bank, &lock, 0, 0, "{5}"), ARGUS_SIGNAL, ARGUS_EXISTS));
+    CHECK(argus_close(&bank).status == ARGUS_DONE);
+}
+
 /* A forked process has a guardian of its own: what one process does, the other doesn't see. */
 static void test_fork(void) {
     argus_guardian guardian = ARGUS_CLOSED;
@@ -360,6 +424,9 @@ int tests(void) {
     test_version();
     test_grammar();
     test_fields();
+    test_parsed();
+    test_parsed_and_dropped();
+    test_create();
     test_upgrade(0);
     test_upgrade(1);
     test_patience();

@@ -6,7 +6,7 @@ from itertools import zip_longest
 from random import Random
 from typing import NamedTuple
 
-from alone import Alone
+from alone import Alone, in_another_form
 from answers import answer, may_have
 from any_call import DEEP, Maker, once_in
 from guardian import NoMemory
@@ -64,14 +64,15 @@ def audit(history: History, length: int) -> list[str]:
 
 class Sequence:
     """Two guardians to which the same calls are made. The first one is left alone; the second one's journal is folded
-    now and then, and now and then it is refused memory. Their replies and bases have to be the same."""
+    now and then, and now and then it is refused memory; its calls come in another form. Their replies and bases have to
+    be the same."""
 
     def __init__(self, seed: int) -> None:
         self.chance = Random(seed)
         self.entries: list[Entry] = []
         self.history = History([])
         self.states = states(self.history, 0)
-        self.whole, self.folding = Alone(), Alone()
+        self.whole, self.folding = Alone(), Alone(in_another_form)
         self.opening = Opening([])
         is_deep = once_in(self.chance, 50)
         self.length = 100 if is_deep else 20 + self.chance.randrange(50)

@@ -5,8 +5,9 @@ from __future__ import annotations
 from collections.abc import Callable
 
 from argus_guardian.library import ActionStatus, Question, Status
-from calls import call_of, reply_of
+from calls import Call, call_of, in_numbers, reply_of
 from guardian import Guardian, opened
+from parsing import parsed
 
 LATER = b"opening entries 6 actions 3\nopening o0 atomic_record[balance:int] {7}\n"
 COUNTS = {
@@ -37,11 +38,17 @@ def shown(text: bytes | None) -> str:
     return "no text" if text is None else text.decode("utf-8", "surrogateescape")
 
 
+def in_another_form(guardian: Guardian, call: Call) -> tuple[int, int]:
+    """Makes a call with its value as a number, or else reads it before."""
+    other = in_numbers(call)
+    return parsed(guardian, call) if other is None else guardian.call(other)
+
+
 class Alone:
     """A guardian by itself."""
 
-    def __init__(self) -> None:
-        self.guardian = Guardian()
+    def __init__(self, make: Callable[[Guardian, Call], tuple[int, int]] = Guardian.call) -> None:
+        self.guardian, self.make = Guardian(), make
         self.answers: dict[str, Callable[[str], str]] = {
             "checkpoint": self._checkpoint,
             "abort_live": self._abort_live,
@@ -74,7 +81,7 @@ class Alone:
     def _call(self, asked: str) -> str:
         """The reply. Where memory is refused in turn, the entry's line has to have the call as the row does."""
         call = call_of(asked)
-        status, number = self.guardian.call(call)
+        status, number = self.make(self.guardian, call)
         text = self.guardian.kept() if status in (Status.VALUE, Status.CONTENT) else b""
         reply = reply_of(call[0], status, number, text or b"no text")
         if self.guardian.allowed >= 0:

@@ -4,7 +4,7 @@ from __future__ import annotations
 
 from typing import TypeAlias
 
-from argus_guardian.library import Kind, Status
+from argus_guardian.library import BY_BOOL, BY_INT, Kind, Status
 from reading import as_bytes
 
 # A kind, an action, an object, two numbers and a text.
@@ -34,6 +34,17 @@ def _access_of(action: str, obj: str, operation: str, behind: str = "") -> Call:
     words = behind.split(" ", count)
     first, second = ([int(it) for it in words[:count]] + [0, 0])[:2]
     return KINDS[operation], int(action[1:]), int(obj[1:]), first, second, as_bytes("".join(words[count:]))
+
+
+def in_numbers(call: Call) -> Call | None:
+    """The same call with its value as its second number; None where that is no integer and no truth value."""
+    kind, action, obj, first, _, text = call
+    if kind not in BY_INT:
+        return None
+    if text in (b"false", b"true"):
+        return BY_BOOL[kind], action, obj, first, int(text == b"true"), b""
+    is_int = text.lstrip(b"-").isdigit() and -(1 << 63) <= int(text) < 1 << 63
+    return (BY_INT[kind], action, obj, first, int(text), b"") if is_int else None
 
 
 def reply_of(kind: int, status: int, number: int, text: bytes) -> str:

@@ -5,8 +5,10 @@ from __future__ import annotations
 from collections.abc import Callable
 
 from argus_guardian.library import Question, Status
+from calls import Call
 from guardian import LIBRARY, ROOM, Changed, Guardian, NoMemory, Taken
 from lists import called_each
+from parsing import parsed
 from reading import as_bytes
 from readying import cancelled, made_ready
 
@@ -19,6 +21,12 @@ COUNTS = (Question.OBJECTS, Question.ACTIONS, Question.ENTRIES, Question.FIRST_E
 def lines_of(text: bytes) -> str:
     """The text with a bar for each line's end."""
     return text.decode("utf-8", "surrogateescape").replace("\n", "|")
+
+
+def _call_of(rest: str) -> Call:
+    """The call of a row."""
+    kind, action, obj, first, second, *text = rest.split(" ", 5)
+    return int(kind), int(action), int(obj), int(first), int(second), as_bytes("".join(text))
 
 
 def barred(text: bytes | None) -> str:
@@ -34,7 +42,8 @@ class Held:
         self.taken = NOTHING_TAKEN
         self.asked_before: list[str] = []
         self.answers: dict[str, Callable[[str], str]] = {
-            "call": self._call,
+            "call": lambda rest: self._told(*self.guardian.call(_call_of(rest))),
+            "parsed": lambda rest: self._told(*parsed(self.guardian, _call_of(rest))),
             "tell": self._tell,
             "each": self._each,
             "room": self._room,
@@ -68,11 +77,6 @@ class Held:
         if status in (Status.VALUE, Status.CONTENT, Status.TEXT):
             return f"{status} {number} {barred(self.guardian.kept())}"
         return f"{status} {number}"
-
-    def _call(self, rest: str) -> str:
-        kind, action, obj, first, second, *text = rest.split(" ", 5)
-        call = int(kind), int(action), int(obj), int(first), int(second), as_bytes("".join(text))
-        return self._told(*self.guardian.call(call))
 
     def _tell(self, rest: str) -> str:
         return self._told(*self.guardian.ask(*map(int, rest.split(" "))))

@@ -49,7 +49,20 @@ static void argus_leave_ready(argus_ready *ready, const argus_ready *held) {
     __atomic_store_n(&ready->mark, held->mark, __ATOMIC_RELEASE);
 }
 
-/* The same for both. */
+/* The same for a call that was read. */
+static int argus_enter_parsed(argus_parsed *parsed, argus_parsed *held) {
+    held->mark = argus_hold_mark(&parsed->mark);
+    if (held->mark == ARGUS_HELD) return 0;
+    held->at = parsed->at;
+    return 1;
+}
+
+static void argus_leave_parsed(argus_parsed *parsed, const argus_parsed *held) {
+    parsed->at = held->at;
+    __atomic_store_n(&parsed->mark, held->mark, __ATOMIC_RELEASE);
+}
+
+/* The same for a guardian and what is ready of it. */
 static int argus_enter_both(argus_guardian *guardian, argus_guardian *held, argus_ready *ready,
                             argus_ready *held_ready) {
     if (!argus_enter(guardian, held)) return 0;
@@ -93,15 +106,22 @@ argus_answer argus_release(argus_guardian *guardian, argus_guardian *held) {
 static argus_guardian first = ARGUS_CLOSED;
 static pthread_mutex_t turn = PTHREAD_MUTEX_INITIALIZER;
 
-argus_answer argus_open(argus_guardian *guardian) {
-    argus_guardian none = ARGUS_CLOSED, held;
+static uint32_t argus_open_beside_first(argus_guardian *held) {
+    argus_guardian none = ARGUS_CLOSED;
     uint32_t status = ARGUS_DONE;
-    if (guardian == NULL) return argus_answer_of(ARGUS_NULL, 0);
-    if (!argus_enter(guardian, &held)) return argus_answer_of(ARGUS_REENTERED, 0);
     pthread_mutex_lock(&turn);
     if (first.mark != 1) status = argus_c_open(&first, &none);
-    if (status == ARGUS_DONE) status = argus_c_open(&held, &first);
+    if (status == ARGUS_DONE) status = argus_c_open(held, &first);
     pthread_mutex_unlock(&turn);
+    return status;
+}
+
+argus_answer argus_open(argus_guardian *guardian) {
+    argus_guardian held;
+    uint32_t status;
+    if (guardian == NULL) return argus_answer_of(ARGUS_NULL, 0);
+    if (!argus_enter(guardian, &held)) return argus_answer_of(ARGUS_REENTERED, 0);
+    status = argus_open_beside_first(&held);
     argus_leave(guardian, &held);
     return argus_answer_of(status, 0);
 }
@@ -142,6 +162,50 @@ argus_answer argus_call(argus_guardian *guardian, uint32_t kind, uint32_t action
                           text_size, &number);
     argus_leave(guardian, &held);
     return argus_answer_of(status, number);
+}
+
+argus_answer argus_parse(argus_parsed *parsed, uint32_t kind, uint32_t action, uint32_t object, int64_t first_number,
+                         int64_t second, const void *text, size_t text_size) {
+    argus_parsed held;
+    /* Whose memory the call is put into. */
+    argus_guardian beside = ARGUS_CLOSED;
+    int64_t number = 0;
+    uint32_t status;
+    static const uint8_t empty[1] = {0};
+    if (parsed == NULL || (text == NULL && text_size != 0)) return argus_answer_of(ARGUS_NULL, 0);
+    if (!argus_enter_parsed(parsed, &held)) return argus_answer_of(ARGUS_REENTERED, 0);
+    status = argus_open_beside_first(&beside);
+    if (status == ARGUS_DONE)
+        status = argus_c_parse(&beside, &held, kind, action, object, first_number, second,
+                               text == NULL ? empty : (const uint8_t *)text, text_size, &number);
+    argus_c_close(&beside);
+    argus_leave_parsed(parsed, &held);
+    return argus_answer_of(status, number);
+}
+
+argus_answer argus_call_parsed(argus_guardian *guardian, argus_parsed *parsed) {
+    argus_guardian held;
+    argus_parsed held_call;
+    int64_t number = 0;
+    uint32_t status = ARGUS_REENTERED;
+    if (guardian == NULL || parsed == NULL) return argus_answer_of(ARGUS_NULL, 0);
+    if (!argus_enter(guardian, &held)) return argus_answer_of(ARGUS_REENTERED, 0);
+    if (argus_enter_parsed(parsed, &held_call)) {
+        status = argus_c_call_parsed(&held, &held_call, &number);
+        argus_leave_parsed(parsed, &held_call);
+    }
+    argus_leave(guardian, &held);
+    return argus_answer_of(status, number);
+}
+
+argus_answer argus_drop_parsed(argus_parsed *parsed) {
+    argus_parsed held;
+    uint32_t status;
+    if (parsed == NULL) return argus_answer_of(ARGUS_NULL, 0);
+    if (!argus_enter_parsed(parsed, &held)) return argus_answer_of(ARGUS_REENTERED, 0);
+    status = argus_c_drop_parsed(&held);
+    argus_leave_parsed(parsed, &held);
+    return argus_answer_of(status, 0);
 }
 
 /* Points each text that is null at an empty one. Returns how many calls come before the first that has a null text
@@ -316,99 +380,6 @@ argus_answer argus_cancel_ready(argus_ready *ready, argus_guardian *guardian) {
     return argus_answer_of(status, 0);
 }
 
-argus_answer argus_declare(argus_guardian *guardian, const char *shape) {
-    if (shape == NULL) return argus_answer_of(ARGUS_NULL, 0);
-    return argus_call(guardian, ARGUS_DECLARE, 0, 0, 0, 0, shape, strlen(shape));
-}
-
-argus_answer argus_begin_top(argus_guardian *guardian) {
-    return argus_call(guardian, ARGUS_BEGIN_TOP, 0, 0, 0, 0, NULL, 0);
-}
-
-argus_answer argus_begin_sub(argus_guardian *guardian, uint32_t parent) {
-    return argus_call(guardian, ARGUS_BEGIN_SUB, parent, 0, 0, 0, NULL, 0);
-}
-
-argus_answer argus_begin_nested(argus_guardian *guardian, uint32_t creator) {
-    return argus_call(guardian, ARGUS_BEGIN_NESTED, creator, 0, 0, 0, NULL, 0);
-}
-
-argus_answer argus_commit(argus_guardian *guardian, uint32_t action) {
-    return argus_call(guardian, ARGUS_COMMIT, action, 0, 0, 0, NULL, 0);
-}
-
-argus_answer argus_abort(argus_guardian *guardian, uint32_t action) {
-    return argus_call(guardian, ARGUS_ABORT, action, 0, 0, 0, NULL, 0);
-}
-
-argus_answer argus_abort_others(argus_guardian *guardian, uint32_t action) {
-    return argus_call(guardian, ARGUS_ABORT_OTHERS, action, 0, 0, 0, NULL, 0);
-}
-
-argus_answer argus_test_read(argus_guardian *guardian, uint32_t action, uint32_t object) {
-    return argus_call(guardian, ARGUS_TEST_READ, action, object, 0, 0, NULL, 0);
-}
-
-argus_answer argus_test_write(argus_guardian *guardian, uint32_t action, uint32_t object) {
-    return argus_call(guardian, ARGUS_TEST_WRITE, action, object, 0, 0, NULL, 0);
-}
-
-argus_answer argus_ask(argus_guardian *guardian, uint32_t action, uint32_t object, uint32_t query,
-                       int64_t first) {
-    if (query < ARGUS_WHOLE || query > ARGUS_TAG_VALUE) return argus_answer_of(ARGUS_BAD_KIND, 0);
-    return argus_call(guardian, query, action, object, first, 0, NULL, 0);
-}
-
-argus_answer argus_alter(argus_guardian *guardian, uint32_t action, uint32_t object, uint32_t change,
-                         int64_t first, int64_t second, const char *text) {
-    if (change < ARGUS_CREATE || change > ARGUS_TOUCH) return argus_answer_of(ARGUS_BAD_KIND, 0);
-    return argus_call(guardian, change, action, object, first, second, text, text == NULL ? 0 : strlen(text));
-}
-
-argus_answer argus_lock(argus_guardian *guardian, uint32_t action, uint32_t object) {
-    return argus_alter(guardian, action, object, ARGUS_TOUCH, 0, 0, NULL);
-}
-
-argus_answer argus_can_read(argus_guardian *guardian, uint32_t action, uint32_t object) {
-    return argus_tell(guardian, ARGUS_CAN_READ, action, object, 0);
-}
-
-argus_answer argus_can_write(argus_guardian *guardian, uint32_t action, uint32_t object) {
-    return argus_tell(guardian, ARGUS_CAN_WRITE, action, object, 0);
-}
-
-argus_answer argus_objects(argus_guardian *guardian) {
-    return argus_tell(guardian, ARGUS_OBJECTS, 0, 0, 0);
-}
-
-argus_answer argus_actions(argus_guardian *guardian) {
-    return argus_tell(guardian, ARGUS_ACTIONS, 0, 0, 0);
-}
-
-argus_answer argus_entries(argus_guardian *guardian) {
-    return argus_tell(guardian, ARGUS_ENTRIES, 0, 0, 0);
-}
-
-argus_answer argus_base(argus_guardian *guardian, uint32_t object) {
-    return argus_tell(guardian, ARGUS_BASE, 0, object, 0);
-}
-
-argus_answer argus_readers(argus_guardian *guardian, uint32_t object) {
-    return argus_tell(guardian, ARGUS_READERS, 0, object, 0);
-}
-
-argus_answer argus_versions(argus_guardian *guardian, uint32_t object) {
-    return argus_tell(guardian, ARGUS_VERSIONS, 0, object, 0);
-}
-
-argus_answer argus_entry(argus_guardian *guardian, uint64_t entry) {
-    return argus_tell(guardian, ARGUS_ENTRY, 0, 0, entry);
-}
-
-argus_answer argus_shape(argus_guardian *guardian, uint32_t object) {
-    return argus_tell(guardian, ARGUS_SHAPE, 0, object, 0);
-}
-
 /* The text of an object's shape, in new memory, which the caller frees; NULL at another status than ARGUS_DONE. */
 static char *shape_of(argus_guardian *held, uint32_t object, size_t *size, uint32_t *status) {
     int64_t number;
@@ -455,21 +426,4 @@ argus_answer argus_field(argus_guardian *guardian, uint32_t object, const char *
     place = place_in(shape, size, name);
     free(shape);
     return place < 0 ? argus_answer_of(ARGUS_NOT_THERE, 0) : argus_answer_of(ARGUS_NUMBER, place);
-}
-
-argus_answer argus_status_of(argus_guardian *guardian, uint32_t action) {
-    return argus_tell(guardian, ARGUS_ACTION_STATUS, action, 0, 0);
-}
-
-argus_answer argus_first_live(argus_guardian *guardian, uint32_t from) {
-    return argus_tell(guardian, ARGUS_FIRST_LIVE, from, 0, 0);
-}
-
-argus_answer argus_first_entry(argus_guardian *guardian) {
-    return argus_tell(guardian, ARGUS_FIRST_ENTRY, 0, 0, 0);
-}
-
-argus_answer argus_list(argus_guardian *guardian, uint32_t listing) {
-    if (listing < ARGUS_LIST_BASES || listing > ARGUS_LIST_AUDIT) return argus_answer_of(ARGUS_BAD_KIND, 0);
-    return argus_tell(guardian, listing, 0, 0, 0);
 }

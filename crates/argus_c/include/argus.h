@@ -97,6 +97,13 @@ typedef struct argus_ready {
     void *at;      /* what the library keeps, if one is */
 } argus_ready;
 
+/* A call that was read and isn't made yet (argus_parse), or none. It begins as ARGUS_NOTHING_PARSED (all bytes zero will
+ * do), both fields are the library's, and it is moved, never copied, as argus_guardian. */
+typedef struct argus_parsed {
+    uint32_t mark; /* 1 if it has a call, ARGUS_HELD if it is inside one; any other number: none */
+    void *at;      /* what the library keeps, if it has one */
+} argus_parsed;
+
 /* The mark of a handle whose guardian is inside a call. The functions argus_c_* take it for a closed one, and mark it
  * so; who calls them refuses calls inside calls by other means. */
 #define ARGUS_HELD 2
@@ -104,9 +111,11 @@ typedef struct argus_ready {
 #ifdef __cplusplus
 #define ARGUS_CLOSED argus_guardian{0, nullptr}
 #define ARGUS_NOTHING_READY argus_ready{0, nullptr}
+#define ARGUS_NOTHING_PARSED argus_parsed{0, nullptr}
 #else
 #define ARGUS_CLOSED {0, NULL}
 #define ARGUS_NOTHING_READY {0, NULL}
+#define ARGUS_NOTHING_PARSED {0, NULL}
 #endif
 
 /* What came of a call. From ARGUS_DONE to ARGUS_REFUSED the call was made: a journalled call is one more entry of the
@@ -138,7 +147,8 @@ typedef enum argus_status {
     ARGUS_TOO_SMALL = 17,  /* the room is too small for the reply, or for the journal's first line, and unchanged. The
                               number is the size of that in bytes: ask again with more room. The reply stays */
     ARGUS_NOT_THERE = 18,  /* the object isn't declared; no entry has this number (or only one before the last
-                              checkpoint had); the action wasn't begun; none is live; there is no reply with a text */
+                              checkpoint had); the action wasn't begun; none is live; there is no reply with a text,
+                              or no call that was read */
     ARGUS_BUSY = 19,       /* a checkpoint, or a renewal, while an action is live */
     ARGUS_FULL = 20,       /* a checkpoint, or a renewal, whose next entry's number would be above 2^63 - 1 */
     ARGUS_NULL = 21,       /* a pointer was null. No function argus_c_* returns it */
@@ -217,7 +227,20 @@ typedef enum argus_kind {
     ARGUS_SET_LOW = 26,    /* first: the new low bound. ARGUS_DONE */
     ARGUS_TRIM = 27,       /* first: where the items that stay begin; second: how many at most. ARGUS_DONE */
     ARGUS_CHANGE_TAG = 28, /* first: a tag; text: its value. ARGUS_DONE */
-    ARGUS_TOUCH = 29       /* takes the write lock, and changes nothing: argus_lock. ARGUS_DONE */
+    ARGUS_TOUCH = 29,      /* takes the write lock, and changes nothing: argus_lock. ARGUS_DONE */
+    /* the same changes where the value is a number, which needs neither a text nor memory. The journal has them as
+     * those above. second: an integer; first as above. ARGUS_DONE */
+    ARGUS_SET_FIELD_INT = 30,
+    ARGUS_STORE_INT = 31,
+    ARGUS_ADDH_INT = 32,
+    ARGUS_ADDL_INT = 33,
+    ARGUS_CHANGE_TAG_INT = 34,
+    /* second: a truth value, false if it is 0 and otherwise true; first as above. ARGUS_DONE */
+    ARGUS_SET_FIELD_BOOL = 35,
+    ARGUS_STORE_BOOL = 36,
+    ARGUS_ADDH_BOOL = 37,
+    ARGUS_ADDL_BOOL = 38,
+    ARGUS_CHANGE_TAG_BOOL = 39
 } argus_kind;
 
 /* What the outcome of a call of a list must be for the calls after it to be made. */
@@ -232,7 +255,7 @@ typedef enum argus_demand {
  *     argus_listed_call calls[] = {
  *         {.kind = ARGUS_BEGIN_TOP},
  *         {.kind = ARGUS_FIELD, .begun_by = 1, .object = account},
- *         {.kind = ARGUS_SET_FIELD, .begun_by = 1, .object = account, .text = "7", .text_size = 1},
+ *         {.kind = ARGUS_SET_FIELD_INT, .begun_by = 1, .object = account, .second = 7},
  *         {.kind = ARGUS_COMMIT, .begun_by = 1},
  *     };
  *     argus_answer made = argus_call_each(&bank, calls, 4);      // ARGUS_DONE, 4
@@ -413,6 +436,22 @@ uint32_t argus_c_make_ready(argus_ready *ready, argus_guardian *guardian, int64_
  * if nothing is ready, and ARGUS_OCCUPIED if the handle has a guardian: both handles are unchanged. */
 uint32_t argus_c_cancel_ready(argus_ready *ready, argus_guardian *guardian);
 
+/* Reads a call, and makes nothing of it. `beside` is an open guardian, in whose memory the call is put, and is
+ * unchanged. One that the call shall not keep waiting is another one, opened beside it (argus_c_open). What `parsed` had
+ * is dropped once the new call is there, and stays otherwise. `number` is written at each status. Handles and `number`
+ * don't overlap.
+ * ARGUS_DONE; ARGUS_NOT_OPEN if `beside` isn't; or why argus_c_call would make no call. */
+uint32_t argus_c_parse(argus_guardian *beside, argus_parsed *parsed, uint32_t kind, uint32_t action, uint32_t object,
+                       int64_t first, int64_t second, const uint8_t *text, size_t text_size, int64_t *number);
+
+/* Makes the call that was read, as argus_c_call makes one, and leaves `parsed` empty.
+ * What the kind says, or ARGUS_SIGNAL, ARGUS_REFUSED, or ARGUS_NO_MEMORY: then it isn't made, and is dropped.
+ * ARGUS_NOT_THERE if `parsed` has none; ARGUS_NOT_OPEN, which alone leaves the call where it is. */
+uint32_t argus_c_call_parsed(argus_guardian *guardian, argus_parsed *parsed, int64_t *number);
+
+/* Drops the call that was read. ARGUS_DONE; ARGUS_NOT_THERE if there is none. */
+uint32_t argus_c_drop_parsed(argus_parsed *parsed);
+
 /* ---- What a C program calls. ---- */
 
 /* The status of a call, one of argus_status, and its number. */
@@ -459,6 +498,32 @@ argus_answer argus_close(argus_guardian *guardian);
 /* Makes one call, with a text of this size in bytes; a size of 0 may come with a null text. */
 argus_answer argus_call(argus_guardian *guardian, uint32_t kind, uint32_t action, uint32_t object,
                         int64_t first, int64_t second, const void *text, size_t text_size);
+
+/* Reads a call, for argus_call_parsed to make it. It uses no guardian of the program's: so a long text is read while other
+ * threads use theirs.
+ *
+ *     // Creates an object whose content has a long text. `lock` is held around each call of the bank.
+ *     argus_answer create(argus_guardian *bank, pthread_mutex_t *lock, uint32_t action, uint32_t object,
+ *                         const char *content) {
+ *         argus_parsed parsed = ARGUS_NOTHING_PARSED;
+ *         argus_answer answer = argus_parse(&parsed, ARGUS_CREATE, action, object, 0, 0, content, strlen(content));
+ *         if (answer.status != ARGUS_DONE) return answer;
+ *         pthread_mutex_lock(lock);
+ *         answer = argus_call_parsed(bank, &parsed);
+ *         pthread_mutex_unlock(lock);
+ *         return answer;
+ *     }
+ *
+ * What `parsed` had is dropped once the new call is there. A call that isn't made in the end is dropped
+ * (argus_drop_parsed). No signal handler calls this, as argus_open. */
+argus_answer argus_parse(argus_parsed *parsed, uint32_t kind, uint32_t action, uint32_t object, int64_t first,
+                         int64_t second, const void *text, size_t text_size);
+
+/* Makes the call that was read. `parsed` is empty then, unless the guardian isn't open, or is inside a call. */
+argus_answer argus_call_parsed(argus_guardian *guardian, argus_parsed *parsed);
+
+/* Drops the call that was read. */
+argus_answer argus_drop_parsed(argus_parsed *parsed);
 
 /* Makes `count` calls one after another, as argus_c_call_each does; the number is how many were made. A text of size 0
  * may be null: then it is pointed at an empty one. A null text with a size fails as ARGUS_NULL. */
@@ -560,7 +625,10 @@ argus_answer argus_test_write(argus_guardian *guardian, uint32_t action, uint32_
 argus_answer argus_ask(argus_guardian *guardian, uint32_t action, uint32_t object, uint32_t query,
                        int64_t first);
 
-/* A change: ARGUS_CREATE to ARGUS_TOUCH, with its numbers and its text where it takes them (else 0 and NULL). */
+/* A change: ARGUS_CREATE to ARGUS_CHANGE_TAG_BOOL, with its numbers and its text where it takes them (else 0 and NULL):
+ *
+ *     argus_alter(&bank, top, account, ARGUS_SET_FIELD_INT, balance, 7, NULL);
+ */
 argus_answer argus_alter(argus_guardian *guardian, uint32_t action, uint32_t object, uint32_t change,
                          int64_t first, int64_t second, const char *text);
 

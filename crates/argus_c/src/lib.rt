@@ -17,10 +17,14 @@ ghost use Rattle.argus_embed.specs.Codes.{error_codes};
 ghost use Rattle.argus_embed.specs.Embedded.{IsAbortedInPart, IsBusy, after_abort_live};
 ghost use Rattle.argus_embed.specs.Embedded.{after_fold, after_renewal, empty_state};
 ghost use Rattle.argus_embed.specs.Requests.{IsRead, LacksPart};
+ghost use Rattle.argus_embed.specs.declared.kinds.TheConstants.{CHANGE_TAG_BOOL};
 
 mod held;
+mod held_parsed;
 mod held_ready;
 mod opening;
+mod parsed_slot;
+mod parsing;
 mod raw_box;
 mod ready_guardian;
 mod ready_slot;
@@ -115,7 +119,7 @@ pub extern "C" fn argus_c_call(
       second = second;
     }) text.now (result, number.new) }
     ensures bad_kind { (result ≡ 16)
-        ↔ (IsUtf8 text.now × IsSome slot.old.held.store × (30 ≤ kind)) }
+        ↔ (IsUtf8 text.now × IsSome slot.old.held.store × (CHANGE_TAG_BOOL < kind)) }
     ensures bad_number { (result ≡ 15)
         ↔ (IsUtf8 text.now × IsSome slot.old.held.store × LacksPart (record {
           kind = kind;

@@ -8,3 +8,4 @@ pub mod CallEach
 pub mod JournalLines
 pub mod Resuming
 pub mod ReadyEmbedded
+pub mod ParsedCall

@@ -1,5 +1,6 @@
 -- Which call the numbers and the text of a request stand for, and why one stands for none.
-use Rattle.std.specs.Prelude.{List, int_lt, pos, true, ℕ, ℤ, ◌<◌, ◌||◌, ◌≡◌, ◌≤◌, ◌⊎◌}
+use Rattle.std.specs.Ordering.{int_eq}
+use Rattle.std.specs.Prelude.{List, int_lt, not, pos, true, ℕ, ℤ, ◌<◌, ◌||◌, ◌≡◌, ◌≤◌, ◌⊎◌}
 use Rattle.argus_values.specs.Change.{PlainChange, addh, addl, change_tag, create, remh, reml}
 use Rattle.argus_values.specs.Change.{set_field, set_low, store, touch, trim}
 use Rattle.argus_values.specs.contents_declared.query.Query.{Query}
@@ -12,53 +13,76 @@ use Rattle.argus_values.specs.ContentSpelling.{content_spelling}
 use Rattle.argus_values.specs.Fault.{IsContentText, IsFault, IsValueText}
 use Rattle.argus_values.specs.ShapeSpelling.{IsShapeText, shape_spelling}
 use Rattle.argus_values.specs.Spelling.{spelling}
+use Rattle.argus_values.specs.Value.{PlainValue}
+use Rattle.argus_values.specs.Value as value
 use Rattle.argus_embed.specs.Embedded.{EmbeddedState, after_call, outcome_of}
 use Rattle.argus_embed.specs.declared.embed_error.EmbedError.{EmbedError}
 use Rattle.argus_embed.specs.declared.embed_error.EmbedError.TheVariants as error
+use Rattle.argus_embed.specs.declared.kinds.TheConstants.{ABORT, ABORT_OTHERS, ADDH, ADDH_BOOL}
+use Rattle.argus_embed.specs.declared.kinds.TheConstants.{ADDH_INT, ADDL, ADDL_BOOL, ADDL_INT}
+use Rattle.argus_embed.specs.declared.kinds.TheConstants.{BEGIN_NESTED, BEGIN_SUB, BEGIN_TOP, BOTTOM}
+use Rattle.argus_embed.specs.declared.kinds.TheConstants.{CHANGE_TAG, CHANGE_TAG_BOOL}
+use Rattle.argus_embed.specs.declared.kinds.TheConstants.{CHANGE_TAG_INT, COMMIT, CREATE, DECLARE}
+use Rattle.argus_embed.specs.declared.kinds.TheConstants.{FETCH, FIELD, HIGH, IS_TAG, LOW, REMH, REML}
+use Rattle.argus_embed.specs.declared.kinds.TheConstants.{SET_FIELD, SET_FIELD_BOOL, SET_FIELD_INT}
+use Rattle.argus_embed.specs.declared.kinds.TheConstants.{SET_LOW, SIZE, STORE, STORE_BOOL, STORE_INT}
+use Rattle.argus_embed.specs.declared.kinds.TheConstants.{TAG_VALUE, TEST_READ, TEST_WRITE, TOP, TOUCH}
+use Rattle.argus_embed.specs.declared.kinds.TheConstants.{TRIM, WHOLE}
 use Rattle.argus_embed.specs.declared.outcome.Outcome.{Outcome}
 use Rattle.argus_embed.specs.declared.request.Request.{Request}
 use Rattle.argus_journal.specs.JournalView.{reply_to}
 
 -- the kind and the first number are those of the query
 abbrev pub SaysQuery : ℕ → ℤ → Query → Type 0
-SaysQuery kind first Whole = kind ≡ 9
-SaysQuery kind first (Field i) = (kind ≡ 10) × (first ≡ pos i)
-SaysQuery kind first Low = kind ≡ 11
-SaysQuery kind first High = kind ≡ 12
-SaysQuery kind first Size = kind ≡ 13
-SaysQuery kind first (Fetch i) = (kind ≡ 14) × (first ≡ i)
-SaysQuery kind first Bottom = kind ≡ 15
-SaysQuery kind first Top = kind ≡ 16
-SaysQuery kind first (IsTag t) = (kind ≡ 17) × (first ≡ pos t)
-SaysQuery kind first (TagValue t) = (kind ≡ 18) × (first ≡ pos t)
+SaysQuery kind first Whole = kind ≡ WHOLE
+SaysQuery kind first (Field i) = (kind ≡ FIELD) × (first ≡ pos i)
+SaysQuery kind first Low = kind ≡ LOW
+SaysQuery kind first High = kind ≡ HIGH
+SaysQuery kind first Size = kind ≡ SIZE
+SaysQuery kind first (Fetch i) = (kind ≡ FETCH) × (first ≡ i)
+SaysQuery kind first Bottom = kind ≡ BOTTOM
+SaysQuery kind first Top = kind ≡ TOP
+SaysQuery kind first (IsTag t) = (kind ≡ IS_TAG) × (first ≡ pos t)
+SaysQuery kind first (TagValue t) = (kind ≡ TAG_VALUE) × (first ≡ pos t)
+
+-- a change's value, in the form that one of three kinds says: the text is its written form; or it is
+-- an integer, the second number; or it is a truth value, false if that number is 0
+abbrev pub SaysValue : ℕ → ℕ → ℕ → ℕ → ℤ → List ℕ → PlainValue → Type 0
+SaysValue by_text by_int by_bool kind second text v =
+    ((kind ≡ by_text) × (text ≡ spelling v))
+    ⊎ ((kind ≡ by_int) × (v ≡ value.int second))
+    ⊎ ((kind ≡ by_bool) × (v ≡ value.bool (not (int_eq second (pos 0)))))
 
 -- the kind, the numbers and the text are those of the change
 abbrev pub SaysChange : ℕ → ℤ → ℤ → List ℕ → PlainChange → Type 0
-SaysChange kind first second text (create c) = (kind ≡ 19) × (text ≡ content_spelling c)
+SaysChange kind first second text (create c) = (kind ≡ CREATE) × (text ≡ content_spelling c)
 SaysChange kind first second text (set_field i v) =
-    (kind ≡ 20) × (first ≡ pos i) × (text ≡ spelling v)
-SaysChange kind first second text (store i v) = (kind ≡ 21) × (first ≡ i) × (text ≡ spelling v)
-SaysChange kind first second text (addh v) = (kind ≡ 22) × (text ≡ spelling v)
-SaysChange kind first second text (addl v) = (kind ≡ 23) × (text ≡ spelling v)
-SaysChange kind first second text remh = kind ≡ 24
-SaysChange kind first second text reml = kind ≡ 25
-SaysChange kind first second text (set_low i) = (kind ≡ 26) × (first ≡ i)
-SaysChange kind first second text (trim i n) = (kind ≡ 27) × (first ≡ i) × (second ≡ n)
+    (first ≡ pos i) × SaysValue SET_FIELD SET_FIELD_INT SET_FIELD_BOOL kind second text v
+SaysChange kind first second text (store i v) =
+    (first ≡ i) × SaysValue STORE STORE_INT STORE_BOOL kind second text v
+SaysChange kind first second text (addh v) =
+    SaysValue ADDH ADDH_INT ADDH_BOOL kind second text v
+SaysChange kind first second text (addl v) =
+    SaysValue ADDL ADDL_INT ADDL_BOOL kind second text v
+SaysChange kind first second text remh = kind ≡ REMH
+SaysChange kind first second text reml = kind ≡ REML
+SaysChange kind first second text (set_low i) = (kind ≡ SET_LOW) × (first ≡ i)
+SaysChange kind first second text (trim i n) = (kind ≡ TRIM) × (first ≡ i) × (second ≡ n)
 SaysChange kind first second text (change_tag t v) =
-    (kind ≡ 28) × (first ≡ pos t) × (text ≡ spelling v)
-SaysChange kind first second text touch = kind ≡ 29
+    (first ≡ pos t) × SaysValue CHANGE_TAG CHANGE_TAG_INT CHANGE_TAG_BOOL kind second text v
+SaysChange kind first second text touch = kind ≡ TOUCH
 
 -- the request with its text stands for the call
 abbrev pub Says : Request → List ℕ → PlainCall → Type 0
-Says r text (declare shape) = (r.kind ≡ 0) × (text ≡ shape_spelling shape)
-Says r text begin_top = r.kind ≡ 1
-Says r text (begin_sub parent) = (r.kind ≡ 2) × (r.action ≡ parent)
-Says r text (begin_nested creator) = (r.kind ≡ 3) × (r.action ≡ creator)
-Says r text (commit a) = (r.kind ≡ 4) × (r.action ≡ a)
-Says r text (abort a) = (r.kind ≡ 5) × (r.action ≡ a)
-Says r text (abort_others a) = (r.kind ≡ 6) × (r.action ≡ a)
-Says r text (test_read a o) = (r.kind ≡ 7) × (r.action ≡ a) × (r.object ≡ o)
-Says r text (test_write a o) = (r.kind ≡ 8) × (r.action ≡ a) × (r.object ≡ o)
+Says r text (declare shape) = (r.kind ≡ DECLARE) × (text ≡ shape_spelling shape)
+Says r text begin_top = r.kind ≡ BEGIN_TOP
+Says r text (begin_sub parent) = (r.kind ≡ BEGIN_SUB) × (r.action ≡ parent)
+Says r text (begin_nested creator) = (r.kind ≡ BEGIN_NESTED) × (r.action ≡ creator)
+Says r text (commit a) = (r.kind ≡ COMMIT) × (r.action ≡ a)
+Says r text (abort a) = (r.kind ≡ ABORT) × (r.action ≡ a)
+Says r text (abort_others a) = (r.kind ≡ ABORT_OTHERS) × (r.action ≡ a)
+Says r text (test_read a o) = (r.kind ≡ TEST_READ) × (r.action ≡ a) × (r.object ≡ o)
+Says r text (test_write a o) = (r.kind ≡ TEST_WRITE) × (r.action ≡ a) × (r.object ≡ o)
 Says r text (ask a o query) = (r.action ≡ a) × (r.object ≡ o) × SaysQuery r.kind r.first query
 Says r text (alter a o change) =
     (r.action ≡ a) × (r.object ≡ o) × SaysChange r.kind r.first r.second text change
@@ -69,11 +93,15 @@ IsNoPart n = (int_lt n (pos 0) || int_lt (pos 255) n) ≡ true
 
 -- a call of this kind takes a field or a tag: field, is_tag, tag_value, set_field and change_tag
 abbrev pub TakesPart : ℕ → Type 0
-TakesPart kind = (kind ≡ 10) ⊎ (kind ≡ 17) ⊎ (kind ≡ 18) ⊎ (kind ≡ 20) ⊎ (kind ≡ 28)
+TakesPart kind =
+    (kind ≡ FIELD) ⊎ (kind ≡ IS_TAG) ⊎ (kind ≡ TAG_VALUE) ⊎ (kind ≡ SET_FIELD)
+    ⊎ (kind ≡ CHANGE_TAG) ⊎ (kind ≡ SET_FIELD_INT) ⊎ (kind ≡ CHANGE_TAG_INT)
+    ⊎ (kind ≡ SET_FIELD_BOOL) ⊎ (kind ≡ CHANGE_TAG_BOOL)
 
 -- a call of this kind takes the text of a value: set_field, store, addh, addl and change_tag
 abbrev pub TakesValue : ℕ → Type 0
-TakesValue kind = (kind ≡ 20) ⊎ (kind ≡ 21) ⊎ (kind ≡ 22) ⊎ (kind ≡ 23) ⊎ (kind ≡ 28)
+TakesValue kind =
+    (kind ≡ SET_FIELD) ⊎ (kind ≡ STORE) ⊎ (kind ≡ ADDH) ⊎ (kind ≡ ADDL) ⊎ (kind ≡ CHANGE_TAG)
 
 -- the call takes a field or a tag, and the first number isn't that of one
 abbrev pub LacksPart : Request → Type 0
@@ -81,12 +109,12 @@ LacksPart r = TakesPart r.kind × IsNoPart r.first
 
 -- the numbers are those of a call: there is such a kind, and a field or a tag if it takes one
 abbrev pub HasNumbers : Request → Type 0
-HasNumbers r = (r.kind < 30) × (LacksPart r → ⊥)
+HasNumbers r = (r.kind ≤ CHANGE_TAG_BOOL) × (LacksPart r → ⊥)
 
 -- the text is that of a shape, a content or a value, if the call takes one
 pub record HasText (r : Request) (text : List ℕ) : Type 0 where
-  pub shape : r.kind ≡ 0 → IsShapeText text
-  pub content : r.kind ≡ 19 → IsContentText text
+  pub shape : r.kind ≡ DECLARE → IsShapeText text
+  pub content : r.kind ≡ CREATE → IsContentText text
   pub value : TakesValue r.kind → IsValueText text
 
 -- the numbers and the text are those of a call
@@ -100,11 +128,11 @@ IsRead r text = HasNumbers r × HasText r text
 abbrev pub IsUnread : Request → List ℕ → EmbedError → Type 0
 IsUnread r text (error.BadText at) =
     HasNumbers r
-    × (((r.kind ≡ 19) × IsFault IsContentText text at)
+    × (((r.kind ≡ CREATE) × IsFault IsContentText text at)
     ⊎ (TakesValue r.kind × IsFault IsValueText text at))
-IsUnread r text error.BadShape = (r.kind ≡ 0) × (IsShapeText text → ⊥)
+IsUnread r text error.BadShape = (r.kind ≡ DECLARE) × (IsShapeText text → ⊥)
 IsUnread r text error.BadNumber = LacksPart r
-IsUnread r text error.BadKind = 30 ≤ r.kind
+IsUnread r text error.BadKind = CHANGE_TAG_BOOL < r.kind
 IsUnread r text error.OutOfMemory = HasNumbers r
 IsUnread r text error.NotThere = ⊥
 IsUnread r text error.Busy = ⊥

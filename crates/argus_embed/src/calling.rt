@@ -48,7 +48,7 @@ impl Embedded {
         }
     }
 
-    fn make(&mut self, call: Call) -> Result<Outcome, OutOfMemory>
+    pub(crate) fn make(&mut self, call: Call) -> Result<Outcome, OutOfMemory>
         ensures outcome { IfOk result (λ outcome. outcome
             ≡ outcome_of (reply_to self.old.journal (plain_call call))) }
         ensures ok { OnOk result (self.new ≡ after_call self.old (plain_call call)) }

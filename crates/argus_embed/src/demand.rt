@@ -6,7 +6,7 @@ ghost use Rattle.argus_embed.specs.CallEach.{demand_of, is_no_refusal, is_no_sig
 use crate::outcome::Outcome;
 
 /// What an outcome must be for the calls after it to be made.
-#[derive(Clone, Copy)]
+#[derive(Clone, Copy, Debug)]
 pub(crate) enum Demand {
     NoRefusal,
     Nothing,

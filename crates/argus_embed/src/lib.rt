@@ -3,7 +3,7 @@
 //!
 //! ```text
 //! let mut bank = Embedded::new(heap);
-//! let declare = Request { kind: 0, action: 0, object: 0, first: 0, second: 0 };
+//! let declare = Request { kind: kinds::DECLARE, action: 0, object: 0, first: 0, second: 0 };
 //! let outcome = bank.call(&declare, "atomic_record[balance:int]")?;     // Outcome::Object(0)
 //! ```
 #![tactic(auto)]
@@ -21,6 +21,7 @@ mod embed_error;
 mod embedded;
 mod journal_writing;
 mod kept;
+pub mod kinds;
 pub mod laws;
 mod lines;
 mod lines_writing;
@@ -30,6 +31,7 @@ mod listed_reading;
 mod object_writing;
 mod outcome;
 mod outcome_writing;
+mod parsed_call;
 mod question;
 mod ready_embedded;
 mod readying;
@@ -49,6 +51,7 @@ pub use lines::Lines;
 pub use list_end::ListEnd;
 pub use listed_call::ListedCall;
 pub use outcome::Outcome;
+pub use parsed_call::ParsedCall;
 pub use question::Question;
 pub use ready_embedded::ReadyEmbedded;
 pub use request::Request;

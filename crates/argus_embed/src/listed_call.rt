@@ -16,10 +16,10 @@ ghost use Rattle.argus_embed.specs.CallEach.{with_codes};
 /// The calls of the list are counted from 1.
 ///
 /// ```text
-/// let commit = ListedCall { kind: 4, begun_by: 1, ..ListedCall::default() };
+/// let commit = ListedCall { kind: kinds::COMMIT, begun_by: 1, ..ListedCall::default() };
 /// ```
 #[repr(C)]
-#[derive(Clone, Copy)]
+#[derive(Clone, Copy, Debug)]
 pub struct ListedCall<'a> {
     pub kind: u32,
     pub demand: u32,

@@ -15,7 +15,7 @@ use argus_values::Signal;
 ///     outcome => ..,
 /// }
 /// ```
-#[derive(Clone, Copy)]
+#[derive(Clone, Copy, Debug)]
 pub enum Outcome {
     /// It is done; there is nothing more to say.
     Done,

@@ -27,7 +27,7 @@ use argus_values::ObjId;
 /// ```text
 /// let question = Question::of(5, 0, 3, 0);                // Some(Question::Base(ObjId(3)))
 /// ```
-#[derive(Clone, Copy)]
+#[derive(Clone, Copy, Debug)]
 pub enum Question {
     CanRead(ActionId, ObjId),
     CanWrite(ActionId, ObjId),

@@ -6,12 +6,19 @@ ghost use Rattle.argus_values.specs.Content.{plain_content};
 ghost use Rattle.argus_values.specs.Value.{plain_value};
 ghost use Rattle.argus_values.specs.Fault.{IsContentText, IsValueText};
 ghost use Rattle.argus_embed.specs.Requests.{HasNumbers, IsNoPart, IsRead, IsUnread, LacksPart};
+ghost use Rattle.argus_embed.specs.declared.kinds.TheConstants as kinds;
 ghost use Rattle.argus_embed.specs.Requests.{Says, SaysChange, SaysQuery, TakesPart, TakesValue};
 ghost use Rattle.argus_journal.specs.Call.{plain_call};
 ghost use Rattle.argus_values.specs.ContentSpelling.{content_spelling};
 ghost use Rattle.argus_values.specs.Spelling.{spelling};
 
 use crate::embed_error::EmbedError;
+use crate::kinds::{
+    ABORT, ABORT_OTHERS, ADDH, ADDH_BOOL, ADDH_INT, ADDL, ADDL_BOOL, ADDL_INT, BEGIN_NESTED,
+    BEGIN_SUB, BEGIN_TOP, BOTTOM, CHANGE_TAG, CHANGE_TAG_BOOL, CHANGE_TAG_INT, COMMIT, CREATE,
+    DECLARE, FETCH, FIELD, HIGH, IS_TAG, LOW, REMH, REML, SET_FIELD, SET_FIELD_BOOL, SET_FIELD_INT,
+    SET_LOW, SIZE, STORE, STORE_BOOL, STORE_INT, TEST_READ, TEST_WRITE, TOP, TOUCH, TRIM, WHOLE,
+};
 use crate::request::Request;
 use argus_actions::ActionId;
 use argus_journal::Call;
@@ -28,21 +35,21 @@ pub(crate) fn call_of(heap: Heap, request: &Request, text: &str) -> Result<Call,
     let a = ActionId(request.action);
     let o = ObjId(request.object);
     match request.kind {
-        0 => declaration_of(heap, request, text),
-        1 => Ok(Call::BeginTop),
-        2 => Ok(Call::BeginSub(a)),
-        3 => Ok(Call::BeginNested(a)),
-        4 => Ok(Call::Commit(a)),
-        5 => Ok(Call::Abort(a)),
-        6 => Ok(Call::AbortOthers(a)),
-        7 => Ok(Call::TestRead(a, o)),
-        8 => Ok(Call::TestWrite(a, o)),
+        DECLARE => declaration_of(heap, request, text),
+        BEGIN_TOP => Ok(Call::BeginTop),
+        BEGIN_SUB => Ok(Call::BeginSub(a)),
+        BEGIN_NESTED => Ok(Call::BeginNested(a)),
+        COMMIT => Ok(Call::Commit(a)),
+        ABORT => Ok(Call::Abort(a)),
+        ABORT_OTHERS => Ok(Call::AbortOthers(a)),
+        TEST_READ => Ok(Call::TestRead(a, o)),
+        TEST_WRITE => Ok(Call::TestWrite(a, o)),
         _ => access_of(heap, request, text),
     }
 }
 
 fn declaration_of(heap: Heap, request: &Request, text: &str) -> Result<Call, EmbedError>
-    requires { request.now.kind ≡ 0 }
+    requires { request.now.kind ≡ kinds.DECLARE }
     ensures says { IfOk result (λ call. Says request.now text.now (plain_call call)) }
     ensures read { OnOk result (IsRead request.now text.now) }
     ensures unread { IfErr result (λ e. IsUnread request.now text.now e) }
@@ -55,14 +62,14 @@ fn declaration_of(heap: Heap, request: &Request, text: &str) -> Result<Call, Emb
 }
 
 fn access_of(heap: Heap, request: &Request, text: &str) -> Result<Call, EmbedError>
-    requires { 9 ≤ request.now.kind }
+    requires { kinds.WHOLE ≤ request.now.kind }
     ensures says { IfOk result (λ call. Says request.now text.now (plain_call call)) }
     ensures read { OnOk result (IsRead request.now text.now) }
     ensures unread { IfErr result (λ e. IsUnread request.now text.now e) }
 {
     let a = ActionId(request.action);
     let o = ObjId(request.object);
-    if request.kind < 19 {
+    if request.kind < CREATE {
         Ok(Call::Ask(a, o, query_of(request)?))
     } else {
         Ok(Call::Alter(a, o, change_of(heap, request, text)?))
@@ -70,50 +77,75 @@ fn access_of(heap: Heap, request: &Request, text: &str) -> Result<Call, EmbedErr
 }
 
 fn query_of(request: &Request) -> Result<Query, EmbedError>
-    requires { (9 ≤ request.now.kind) × (request.now.kind < 19) }
+    requires { (kinds.WHOLE ≤ request.now.kind) × (request.now.kind < kinds.CREATE) }
     ensures says { IfOk result (λ query. SaysQuery request.now.kind request.now.first query) }
     ensures numbers { OnOk result (HasNumbers request.now) }
     ensures unread { IfErr result (λ e. (text : List ℕ) → IsUnread request.now text e) }
 {
     match request.kind {
-        9 => Ok(Query::Whole),
-        10 => Ok(Query::Field(part_of(request)?)),
-        11 => Ok(Query::Low),
-        12 => Ok(Query::High),
-        13 => Ok(Query::Size),
-        14 => Ok(Query::Fetch(request.first)),
-        15 => Ok(Query::Bottom),
-        16 => Ok(Query::Top),
-        17 => Ok(Query::IsTag(part_of(request)?)),
+        WHOLE => Ok(Query::Whole),
+        FIELD => Ok(Query::Field(part_of(request)?)),
+        LOW => Ok(Query::Low),
+        HIGH => Ok(Query::High),
+        SIZE => Ok(Query::Size),
+        FETCH => Ok(Query::Fetch(request.first)),
+        BOTTOM => Ok(Query::Bottom),
+        TOP => Ok(Query::Top),
+        IS_TAG => Ok(Query::IsTag(part_of(request)?)),
         _ => Ok(Query::TagValue(part_of(request)?)),
     }
 }
 
 fn change_of(heap: Heap, request: &Request, text: &str) -> Result<Change, EmbedError>
-    requires { 19 ≤ request.now.kind }
+    requires { kinds.CREATE ≤ request.now.kind }
     ensures says { IfOk result (λ change. SaysChange request.now.kind request.now.first
         request.now.second text.now (plain_change change)) }
     ensures read { OnOk result (IsRead request.now text.now) }
     ensures unread { IfErr result (λ e. IsUnread request.now text.now e) }
 {
     match request.kind {
-        19 => Ok(Change::create(heap, content_of(heap, request, text)?)?),
-        20 => {
+        CREATE => Ok(Change::create(heap, content_of(heap, request, text)?)?),
+        SET_FIELD => {
             let field = part_of(request)?;
             Ok(Change::SetField(field, value_of(heap, request, text)?))
         }
-        21 => Ok(Change::Store(request.first, value_of(heap, request, text)?)),
-        22 => Ok(Change::Addh(value_of(heap, request, text)?)),
-        23 => Ok(Change::Addl(value_of(heap, request, text)?)),
-        24 => Ok(Change::Remh),
-        25 => Ok(Change::Reml),
-        26 => Ok(Change::SetLow(request.first)),
-        27 => Ok(Change::Trim(request.first, request.second)),
-        28 => {
+        STORE => Ok(Change::Store(request.first, value_of(heap, request, text)?)),
+        ADDH => Ok(Change::Addh(value_of(heap, request, text)?)),
+        ADDL => Ok(Change::Addl(value_of(heap, request, text)?)),
+        REMH => Ok(Change::Remh),
+        REML => Ok(Change::Reml),
+        SET_LOW => Ok(Change::SetLow(request.first)),
+        TRIM => Ok(Change::Trim(request.first, request.second)),
+        CHANGE_TAG => {
             let tag = part_of(request)?;
             Ok(Change::ChangeTag(tag, value_of(heap, request, text)?))
         }
-        29 => Ok(Change::Touch),
+        TOUCH => Ok(Change::Touch),
+        _ => change_by_number(request),
+    }
+}
+
+/// The change whose value is a number of the request, which takes no memory.
+fn change_by_number(request: &Request) -> Result<Change, EmbedError>
+    requires { kinds.TOUCH < request.now.kind }
+    ensures says { (text : List ℕ) → IfOk result (λ change. SaysChange request.now.kind
+        request.now.first request.now.second text (plain_change change)) }
+    ensures numbers { OnOk result (HasNumbers request.now) }
+    ensures unread { IfErr result (λ e. (text : List ℕ) → IsUnread request.now text e) }
+{
+    let number = request.second;
+    let truth = number != 0;
+    match request.kind {
+        SET_FIELD_INT => Ok(Change::SetField(part_of(request)?, Value::Int(number))),
+        STORE_INT => Ok(Change::Store(request.first, Value::Int(number))),
+        ADDH_INT => Ok(Change::Addh(Value::Int(number))),
+        ADDL_INT => Ok(Change::Addl(Value::Int(number))),
+        CHANGE_TAG_INT => Ok(Change::ChangeTag(part_of(request)?, Value::Int(number))),
+        SET_FIELD_BOOL => Ok(Change::SetField(part_of(request)?, Value::Bool(truth))),
+        STORE_BOOL => Ok(Change::Store(request.first, Value::Bool(truth))),
+        ADDH_BOOL => Ok(Change::Addh(Value::Bool(truth))),
+        ADDL_BOOL => Ok(Change::Addl(Value::Bool(truth))),
+        CHANGE_TAG_BOOL => Ok(Change::ChangeTag(part_of(request)?, Value::Bool(truth))),
         _ => Err(EmbedError::BadKind),
     }
 }
@@ -147,7 +179,7 @@ fn value_of(heap: Heap, request: &Request, text: &str) -> Result<Value, EmbedErr
 }
 
 fn content_of(heap: Heap, request: &Request, text: &str) -> Result<Content, EmbedError>
-    requires { request.now.kind ≡ 19 }
+    requires { request.now.kind ≡ kinds.CREATE }
     ensures says { IfOk result (λ content. text.now ≡ content_spelling (plain_content content)) }
     ensures read { OnOk result (IsContentText text.now) }
     ensures unread { IfErr result (λ e. IsUnread request.now text.now e) }

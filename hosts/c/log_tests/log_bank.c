@@ -80,9 +80,7 @@ static int64_t get(bank *it, uint32_t action, uint32_t object) {
 }
 
 static void set(bank *it, uint32_t action, uint32_t object, int64_t number) {
-    char text[32];
-    snprintf(text, sizeof text, "%" PRId64, number);
-    want_answer(argus_alter(&it->guardian, action, object, ARGUS_SET_FIELD, 0, 0, text), ARGUS_DONE, "set");
+    want_answer(argus_alter(&it->guardian, action, object, ARGUS_SET_FIELD_INT, 0, number, NULL), ARGUS_DONE, "set");
 }
 
 /* Takes the locks of an order. */

@@ -6,7 +6,6 @@
  * do it. Where this file isn't built, plain.py stands in for it. */
 #include "_call.h"
 
-#include <stdio.h>
 #include <string.h>
 
 PyTypeObject *gate_type, *acting_type, *typed_type, *view_type, *place_type;
@@ -58,15 +57,9 @@ static void put_text(text *it, const char *words) {
     memcpy(it->room, words, (size_t)it->size);
 }
 
-/* Whether it is an integer of 64 bits or a short text in which nothing is escaped, which is written. */
+/* Whether it is a short text in which nothing is escaped, which is written. */
 static int write_simply(PyObject *value, text *it) {
     const char *words;
-    int beyond = 0;
-    if (PyLong_CheckExact(value)) {
-        long long number = PyLong_AsLongLongAndOverflow(value, &beyond);
-        if (!beyond) it->size = snprintf(it->room, SHORT, "%lld", number);
-        return !beyond;
-    }
     if (!PyUnicode_CheckExact(value)) return 0;
     words = PyUnicode_AsUTF8AndSize(value, &it->size);
     if (words == NULL) return PyErr_Clear(), 0;
@@ -85,8 +78,6 @@ static int write_value(PyObject *guardian, PyObject *value, text *it) {
     char *words;
     it->kept = NULL, it->at = it->room;
     if (value == Py_None) return put_text(it, "null"), 1;
-    if (value == Py_True) return put_text(it, "true"), 1;
-    if (value == Py_False) return put_text(it, "false"), 1;
     if (write_simply(value, it)) return 1;
     it->kept = PyObject_CallMethod(guardian, "_written", "(O)", value);
     if (it->kept == NULL) return 0;
@@ -192,10 +183,26 @@ static PyObject *ask(PyObject *self, PyObject *const *given, Py_ssize_t count) {
     return access_of(it, kind, other, number, first, second, "", 0);
 }
 
+/* Whether a change's value is an integer of 64 bits or a truth value: the change is by that number then. */
+static int is_by_number(PyObject *value, uint32_t *kind, int64_t *second) {
+    int beyond = 0;
+    if (PyLong_CheckExact(value)) {
+        *second = PyLong_AsLongLongAndOverflow(value, &beyond);
+        if (!beyond) *kind = *kind == CHANGE_TAG ? CHANGE_TAG_INT : *kind + BY_INT;
+        return !beyond;
+    }
+    if (value != Py_True && value != Py_False) return 0;
+    *second = value == Py_True;
+    *kind = *kind == CHANGE_TAG ? CHANGE_TAG_BOOL : *kind + BY_BOOL;
+    return 1;
+}
+
 PyObject *alter_by(acting *it, uint32_t kind, PyObject *object, uint32_t number, int64_t first,
                           PyObject *value) {
     PyObject *answer;
+    int64_t second;
     text words;
+    if (is_by_number(value, &kind, &second)) return access_of(it, kind, object, number, first, second, "", 0);
     if (!write_value(it->guardian, value, &words)) return NULL;
     answer = access_of(it, kind, object, number, first, 0, words.at, words.size);
     Py_XDECREF(words.kept);

@@ -16,11 +16,13 @@ typedef uint32_t library_reply(void *guardian, uint8_t *into, size_t room, size_
 /* Of argus_status: those whose answer is given here. */
 enum { DONE = 0, ACTION = 2, NUMBER = 3, FLAG = 4, VALUE = 5, CONTENT = 6, NO_MEMORY = 10, TOO_SMALL = 17 };
 
-/* Of argus_kind: those that aren't said by the caller. */
-enum { BEGIN_NESTED = 3 };
+/* Of argus_kind: those that aren't said by the caller. The changes whose value is a number are so far behind those with a
+ * text, but for CHANGE_TAG. */
+enum { BEGIN_NESTED = 3, CHANGE_TAG = 28, CHANGE_TAG_INT = 34, CHANGE_TAG_BOOL = 39, BY_INT = 10, BY_BOOL = 15 };
 
-/* With a text of so many bytes other threads of Python may go on meanwhile; and what is written or read on the stack. */
-enum { LONG = 4096, SHORT = 512 };
+/* A text of so many bytes is read before its call, and other threads of Python may go on meanwhile; and what is written
+ * or read on the stack. */
+enum { LONG = 1024, SHORT = 512 };
 
 /* ---- What the classes of the package have in C, by the names that they have in Python. ---- */
 

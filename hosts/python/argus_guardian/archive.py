@@ -6,6 +6,7 @@ import ctypes
 from collections.abc import Iterator
 from typing import Any, NamedTuple
 
+from .call_reading import ReadCall
 from .errors import ArgusError, OutOfMemory, Refused, Signal
 from .library import Handle, Question, Ready, Status, address, address_of, bare, load, opening, quick
 from .shapes import read_shape
@@ -35,7 +36,7 @@ class Archive:
         self._checkpoint, self._close = library.argus_c_checkpoint, library.argus_c_close
         self._abort_live, self._renew = library.argus_c_abort_live, library.argus_c_renew
         self._lines, self._count = library.argus_c_lines, ctypes.c_uint64()
-        self._call_each = library.argus_c_call_each
+        self._call_each, self._call_parsed = library.argus_c_call_each, library.argus_c_call_parsed
         self._ready_commit, self._ready_line = library.argus_c_ready_commit, library.argus_c_ready_line
         self._make_ready, self._cancel_ready = library.argus_c_make_ready, library.argus_c_cancel_ready
         self._resume, self._resumed = library.argus_c_resume, library.argus_c_resumed
@@ -50,7 +51,8 @@ class Archive:
         self._first, self._second, self._entry = ctypes.c_int64(), ctypes.c_int64(), ctypes.c_uint64()
         self._text_size = ctypes.c_size_t()
         self._make_room(256)
-        status = opening(library)(self._handle_at).status
+        self._open, self._library = opening(library), library
+        status = self._open(self._handle_at).status
         if status != Status.DONE:
             raise error_of(status)
 
@@ -76,6 +78,14 @@ class Archive:
         self._text_size.value = len(text)
         given = self._first, self._second, text, self._text_size, self._number_at
         return self._call(self._handle_at, kind, action, obj, *given), self._number.value
+
+    def read_call(self, call: Call) -> ReadCall:
+        """A call that is read and not made. It touches no guardian, so it takes no mutex."""
+        return ReadCall(self._library, self._open, call)
+
+    def make_read(self, read: ReadCall) -> tuple[int, int]:
+        """The status and the number of a call that was read, which is made."""
+        return self._call_parsed(self._handle_at, read.handle, self._number_at), self._number.value
 
     def make_each(self, array: Any) -> tuple[int, int]:
         """The status of a list of calls, and how many of them were made."""

@@ -18,6 +18,7 @@ from . import errors
 from .action import Action
 from .archive import Archive, Unread, read_late
 from .asked import Asked
+from .call_reading import LONG_CALL
 from .circles import Search, Wait, Waits, holders_of
 from .entering import LOOK_AFTER, Entering, looks
 from .ids import number_of
@@ -146,6 +147,8 @@ class Calling(Entering, Asked):
         of = type(obj)
         if of is not self._object_id and of is not int:
             obj = object_number(obj, self._ids)
+        if len(text) >= LONG_CALL:
+            return self._long_access_of(action, (kind, action._number, obj, first, second, text))
         archive = self._archive
         make = archive.call
         if self._busy:
@@ -167,6 +170,21 @@ class Calling(Entering, Asked):
                 self._break_circles_within(action._number)
             self._busy = self._awaited
         return answer if type(answer) is not Unread else read_late(answer)
+
+    def _long_access_of(self, action: Action, call: Call) -> Any:
+        """The same with a long text, which is read before the lock is taken, and once more if it waits."""
+        if self._busy:
+            self._refuse_reentered()
+        with self._archive.read_call(call) as read, self._lock:
+            self._busy = True
+            if self._dropped:
+                self._abort_dropped()
+            self._be_since(action, call[0], call[2])
+            self._left -= 1
+            told = self._archive.make_read(read)
+            answer = self._answered(told, call, action._lineage, action._renewals, action._is_in_loop())
+            self._busy = self._awaited
+        return read_late(answer)
 
     # What a call that is made at once asks of the guardian in Python, without the lock.
 

@@ -50,6 +50,12 @@ class Ready(ctypes.Structure):
     _fields_ = [("mark", ctypes.c_uint32), ("at", ctypes.c_void_p)]
 
 
+class Parsed(ctypes.Structure):
+    """The handle of a call that was read. All zero: none."""
+
+    _fields_ = [("mark", ctypes.c_uint32), ("at", ctypes.c_void_p)]
+
+
 class ListedCall(ctypes.Structure):
     """One call of a list, with its outcome."""
 
@@ -144,6 +150,24 @@ class Kind(IntEnum):
     TRIM = 27
     CHANGE_TAG = 28
     TOUCH = 29
+    SET_FIELD_INT = 30
+    STORE_INT = 31
+    ADDH_INT = 32
+    ADDL_INT = 33
+    CHANGE_TAG_INT = 34
+    SET_FIELD_BOOL = 35
+    STORE_BOOL = 36
+    ADDH_BOOL = 37
+    ADDL_BOOL = 38
+    CHANGE_TAG_BOOL = 39
+
+
+# The kinds of changes whose value is a number of the call, an integer or a truth value, by those with a text.
+_BY_TEXT = (Kind.SET_FIELD, Kind.STORE, Kind.ADDH, Kind.ADDL, Kind.CHANGE_TAG)
+BY_INT: dict[int, Kind] = {kind: Kind[f"{kind.name}_INT"] for kind in _BY_TEXT}
+BY_BOOL: dict[int, Kind] = {kind: Kind[f"{kind.name}_BOOL"] for kind in _BY_TEXT}
+# The other way round.
+BY_TEXT: dict[int, Kind] = {by: kind for kinds in (BY_INT, BY_BOOL) for kind, by in zip(_BY_TEXT, kinds.values())}
 
 
 class Question(IntEnum):
@@ -195,7 +219,7 @@ def load() -> ctypes.CDLL:
         raise OSError(f"no library {NAME} is to be had: {words} ({error})") from None
     handle, number = ctypes.POINTER(Handle), ctypes.POINTER(ctypes.c_int64)
     listed, made = ctypes.POINTER(ListedCall), ctypes.POINTER(ctypes.c_size_t)
-    ready = ctypes.POINTER(Ready)
+    ready, parsed = ctypes.POINTER(Ready), ctypes.POINTER(Parsed)
     u32, u64, i64, size = ctypes.c_uint32, ctypes.c_uint64, ctypes.c_int64, ctypes.c_size_t
     calls = {
         "argus_c_open": (handle, handle),
@@ -215,6 +239,9 @@ def load() -> ctypes.CDLL:
         "argus_c_ready_line": (ready, ctypes.c_char_p, size, ctypes.POINTER(size)),
         "argus_c_make_ready": (ready, handle, number),
         "argus_c_cancel_ready": (ready, handle),
+        "argus_c_parse": (handle, parsed, u32, u32, u32, i64, i64, ctypes.c_char_p, size, number),
+        "argus_c_call_parsed": (handle, parsed, number),
+        "argus_c_drop_parsed": (parsed,),
     }
     for name, given in calls.items():
         call = getattr(library, name)
@@ -272,9 +299,9 @@ def _by_ctypes(library: ctypes.CDLL) -> QuickCall:
     told_at, zero, done, number = ctypes.byref(told), _NUMBERS[0], Status.DONE, Status.NUMBER
 
     def call(guardian: Any, kind: int, action: int, obj: int, first: int, second: int, text: bytes) -> Any:
-        if len(text) < _MANY and 0 <= obj <= U32 and type(first) is int and 0 <= first < _MANY and second == 0:
-            size = _SIZES[len(text)]
-            status = short(guardian, kind, action, obj, _NUMBERS[first], zero, text, size, told_at)
+        if len(text) < _MANY and 0 <= obj <= U32 and type(first) is int and 0 <= first < _MANY:
+            size, last = _SIZES[len(text)], zero if second == 0 else ctypes.c_int64(i64(second, "number"))
+            status = short(guardian, kind, action, obj, _NUMBERS[first], last, text, size, told_at)
         else:
             numbers = ctypes.c_int64(i64(first, "number")), ctypes.c_int64(i64(second, "number"))
             size = ctypes.c_size_t(len(text))

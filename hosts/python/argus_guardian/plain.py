@@ -8,6 +8,9 @@ from __future__ import annotations
 from collections.abc import Callable
 from typing import Any, TypeVar
 
+from .library import BY_BOOL, BY_INT
+from .ranges import LEAST, MOST
+
 _Acting = TypeVar("_Acting", bound="Acting")
 
 
@@ -81,7 +84,11 @@ class Acting:
         return self.guardian._access_of(self, kind, obj, first, second, b"")
 
     def _alter(self, kind: int, obj: Any, first: int, value: Any) -> Any:
-        """Makes a change with a value."""
+        """Makes a change with a value. An integer and a truth value need no text."""
+        if type(value) is int and LEAST <= value <= MOST:
+            return self.guardian._access_of(self, BY_INT[kind], obj, first, value)
+        if type(value) is bool:
+            return self.guardian._access_of(self, BY_BOOL[kind], obj, first, int(value))
         return self.guardian._access_of(self, kind, obj, first, 0, self.guardian._written(value))
 
     def _end_at_once(self, kind: int) -> bool:

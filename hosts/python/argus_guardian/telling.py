@@ -6,7 +6,7 @@ from collections.abc import Callable, Iterable
 from typing import TYPE_CHECKING, Any
 
 from . import errors
-from .library import Kind, Question, Status
+from .library import BY_TEXT, Kind, Question, Status
 from .shapes import Shape
 
 if TYPE_CHECKING:
@@ -68,6 +68,7 @@ def circle(action: int, waits_for: Iterable[int]) -> str:
 
 def _operation(kind: int, action: int, obj: int, first: int = 0, second: int = 0, *_: object) -> str:
     """The operation of an access, as in `set_field 0`."""
+    kind = BY_TEXT.get(kind, kind)
     if kind in _NUMBERED:
         return f"{_NAMES[kind]} {first}"
     return f"trim {first} {second}" if kind == Kind.TRIM else _NAMES[kind]
@@ -100,7 +101,7 @@ def _why(refused: type[errors.Refused], call: Call, shape: Shape | None) -> str:
 
 def _typed(call: Call, shape: Shape) -> str:
     """What the shape has where the call wants something, as in `field balance is int`."""
-    kind, number = call[0], (*call, 0, 0)[3]
+    kind, number = BY_TEXT.get(call[0], call[0]), (*call, 0, 0)[3]
     part = shape.part(number)
     if part is not None and shape.kind == "array" and kind in _ITEMS:
         return f"an item is {part.text}"

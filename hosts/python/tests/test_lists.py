@@ -70,7 +70,7 @@ class Lists(unittest.TestCase):
             (self.listed(Kind.FIELD, 256), argus.BadNumber),
             (Listed(Kind.COMMIT, begun_by=1), argus.NotBegun),
             (Listed(Kind.COMMIT, demand=3), argus.BadDemand),
-            (Listed(30), argus.BadKind),
+            (Listed(40), argus.BadKind),
         ):
             with self.subTest(call=call):
                 made = self.guardian.call_each([Listed(Kind.BEGIN_TOP), call, self.listed(Kind.ABORT)])

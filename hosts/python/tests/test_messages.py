@@ -60,7 +60,9 @@ class Messages(unittest.TestCase):
         top, variant = self.guardian.topaction(), self.guardian.declare("atomic_variant[no:null,yes:int]")
         for call, given, told in (
             (top.set_field, (self.record, 1, 5), "its shape is atomic_record[n:int]"),
+            (top.set_field, (self.record, 0, True), "field n is int"),
             (top.addh, (self.array, "text"), "an item is int"),
+            (top.addh, (self.array, True), "an item is int"),
             (top.fetch, (self.record, 0), "its shape is atomic_record[n:int]"),
             (top.change_tag, (variant, 1, None), "tag yes is int"),
             (top.create, (self.record, ("text",)), "its shape is atomic_record[n:int]"),

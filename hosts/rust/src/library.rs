@@ -114,21 +114,43 @@ impl Words {
             Change::ChangeTag(tag, value) => (kind::CHANGE_TAG, i64::from(*tag), 0, Some(value)),
             Change::Touch => (kind::TOUCH, 0, 0, None),
         };
+        let (kind, second, text) = match value {
+            Some(Value::Int(number)) => (by_int(kind), *number, String::new()),
+            Some(Value::Bool(flag)) => (by_bool(kind), i64::from(*flag), String::new()),
+            Some(other) => (kind, second, other.to_string()),
+            None => (kind, second, String::new()),
+        };
         Words {
             first,
             second,
-            text: value.map_or_else(String::new, text_of),
+            text,
             is_own: value.is_none_or(|it| it.is_for(guardian)),
             ..Words::of_kind(kind)
         }
     }
 }
 
-// The written form. Most values are integers, which need no formatter.
-fn text_of(value: &Value) -> String {
-    match value {
-        Value::Int(number) => number.to_string(),
-        other => other.to_string(),
+// The kind of the same change by an integer, which needs no text.
+fn by_int(kind: u32) -> u32 {
+    match kind {
+        kind::SET_FIELD => kind::SET_FIELD_INT,
+        kind::STORE => kind::STORE_INT,
+        kind::ADDH => kind::ADDH_INT,
+        kind::ADDL => kind::ADDL_INT,
+        kind::CHANGE_TAG => kind::CHANGE_TAG_INT,
+        other => other,
+    }
+}
+
+// The same by a truth value.
+fn by_bool(kind: u32) -> u32 {
+    match kind {
+        kind::SET_FIELD => kind::SET_FIELD_BOOL,
+        kind::STORE => kind::STORE_BOOL,
+        kind::ADDH => kind::ADDH_BOOL,
+        kind::ADDL => kind::ADDL_BOOL,
+        kind::CHANGE_TAG => kind::CHANGE_TAG_BOOL,
+        other => other,
     }
 }
 

@@ -37,6 +37,21 @@ impl Ready {
     };
 }
 
+/// The handle of a call that was read: `argus_parsed`. All zero: none.
+#[repr(C)]
+pub struct Parsed {
+    mark: u32,
+    at: *mut c_void,
+}
+
+impl Parsed {
+    /// A handle without a call.
+    pub const NOTHING: Parsed = Parsed {
+        mark: 0,
+        at: std::ptr::null_mut(),
+    };
+}
+
 /// A status and a number: `argus_answer`.
 #[repr(C)]
 pub struct Answer {
@@ -126,6 +141,20 @@ unsafe extern "C" {
     ) -> u32;
     pub fn argus_c_make_ready(ready: *mut Ready, handle: *mut Handle, number: *mut i64) -> u32;
     pub fn argus_c_cancel_ready(ready: *mut Ready, handle: *mut Handle) -> u32;
+    pub fn argus_c_parse(
+        beside: *mut Handle,
+        parsed: *mut Parsed,
+        kind: u32,
+        action: u32,
+        object: u32,
+        first: i64,
+        second: i64,
+        text: *const u8,
+        text_size: usize,
+        number: *mut i64,
+    ) -> u32;
+    pub fn argus_c_call_parsed(handle: *mut Handle, parsed: *mut Parsed, number: *mut i64) -> u32;
+    pub fn argus_c_drop_parsed(parsed: *mut Parsed) -> u32;
 }
 
 /// The outcome of a call: `argus_status`.
@@ -196,6 +225,16 @@ pub mod kind {
     pub const TRIM: u32 = 27;
     pub const CHANGE_TAG: u32 = 28;
     pub const TOUCH: u32 = 29;
+    pub const SET_FIELD_INT: u32 = 30;
+    pub const STORE_INT: u32 = 31;
+    pub const ADDH_INT: u32 = 32;
+    pub const ADDL_INT: u32 = 33;
+    pub const CHANGE_TAG_INT: u32 = 34;
+    pub const SET_FIELD_BOOL: u32 = 35;
+    pub const STORE_BOOL: u32 = 36;
+    pub const ADDH_BOOL: u32 = 37;
+    pub const ADDL_BOOL: u32 = 38;
+    pub const CHANGE_TAG_BOOL: u32 = 39;
 }
 
 /// The questions, which aren't journalled: `argus_question`.
