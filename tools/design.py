@@ -46,6 +46,7 @@ LAYERS = [
             ("argus_sharing", "one lock, seats"),
             ("argus_board", "readers, no lock"),
             ("argus_listings", "written as text"),
+            ("argus_audit", "writes, run again"),
             ("argus_resume", "from its journal"),
             ("argus_streams", "reads and writes"),
         ]),

@@ -1,17 +1,20 @@
 //! An object's lines in the audit: what the journal's writes leave when they are run again.
 
-ghost use Rattle.std.specs.Prelude.{◌≡◌, ◌<◌, ◌++◌, OnOk, map, string_bytes};
+ghost use Rattle.std.specs.Prelude.{◌≡◌, ◌<◌, ◌++◌, OnOk, map, string_bytes, true};
+ghost use Rattle.argus_audit.specs.Audit.{IsAudit};
 ghost use Rattle.argus_journal.specs.Journal.{entries_of, opening_of};
 ghost use Rattle.argus_journal.specs.Legal.{Legal};
 ghost use Rattle.argus_journal.specs.Objects.{declared};
+ghost use Rattle.argus_journal.specs.Opening.{is_sound};
 ghost use Rattle.argus_journal.specs.JournalFacts.{base_of, visible_to};
 ghost use Rattle.argus_listings.specs.Listing.{audit_text, base_line, length_line};
 ghost use Rattle.argus_listings.specs.Listing.{version_lines};
 
 use crate::appending::{append, append_number, append_object_line, append_version_line};
+use argus_audit::Audit;
 use argus_contents::{Name, ObjId};
 use argus_core::Guardian;
-use argus_journal::{Journal, replay_base, replay_for};
+use argus_journal::Journal;
 use argus_memory::{Heap, OutOfMemory, Room};
 use argus_objects::Version;
 
@@ -20,18 +23,20 @@ use argus_objects::Version;
 pub(crate) fn append_audit(
     heap: Heap,
     guardian: &Guardian,
+    audit: &Audit,
     o: ObjId,
     name: &Name,
     text: &mut String<Room>,
 ) -> Result<(), OutOfMemory>
-    requires { o.0 < declared guardian.now.opening guardian.now.entries }
+    requires there { o.0 < declared guardian.now.opening guardian.now.entries }
+    requires audit { IsAudit audit.now guardian.now.opening guardian.now.entries }
     ensures { OnOk result (string_bytes text.new
         ≡ string_bytes text.old ++ audit_text guardian.now o.0 name.now) }
 {
     let journal = guardian.journal().journal();
-    append_base_again(heap, journal, o, name, text)?;
+    append_base_again(heap, journal, audit, o, name, text)?;
     match guardian.versions(o) {
-        Some(versions) => append_versions_again(heap, journal, o, name, versions, text),
+        Some(versions) => append_versions_again(heap, journal, audit, o, name, versions, text),
         None => Ok(()),
     }
 }
@@ -39,15 +44,18 @@ pub(crate) fn append_audit(
 fn append_base_again(
     heap: Heap,
     journal: &Journal,
+    audit: &Audit,
     o: ObjId,
     name: &Name,
     text: &mut String<Room>,
 ) -> Result<(), OutOfMemory>
-    requires { Legal (opening_of journal.now) (entries_of journal.now) }
+    requires legal { Legal (opening_of journal.now) (entries_of journal.now) }
+    requires sound { is_sound (opening_of journal.now) ≡ true }
+    requires audit { IsAudit audit.now (opening_of journal.now) (entries_of journal.now) }
     ensures { OnOk result (string_bytes text.new ≡ string_bytes text.old
         ++ base_line name.now (base_of (opening_of journal.now) (entries_of journal.now) o.0)) }
 {
-    let base = replay_base(heap, journal, o)?;
+    let base = audit.base(heap, journal, o)?;
     append_object_line(name, " base ", &base, text)
 }
 
@@ -55,12 +63,15 @@ fn append_base_again(
 fn append_versions_again(
     heap: Heap,
     journal: &Journal,
+    audit: &Audit,
     o: ObjId,
     name: &Name,
     versions: &[Version],
     text: &mut String<Room>,
 ) -> Result<(), OutOfMemory>
-    requires { Legal (opening_of journal.now) (entries_of journal.now) }
+    requires legal { Legal (opening_of journal.now) (entries_of journal.now) }
+    requires sound { is_sound (opening_of journal.now) ≡ true }
+    requires audit { IsAudit audit.now (opening_of journal.now) (entries_of journal.now) }
     ensures { OnOk result (string_bytes text.new ≡ string_bytes text.old
         ++ version_lines name.now (map (λ v. (
           v.holder.0,
@@ -69,7 +80,7 @@ fn append_versions_again(
         versions.now)) }
 {
     for version in versions {
-        let content = replay_for(heap, journal, version.holder, o)?;
+        let content = audit.seen(heap, journal, version.holder, o)?;
         append_version_line(name, version.holder, &content, text)?;
     }
     Ok(())

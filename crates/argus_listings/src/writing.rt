@@ -13,7 +13,7 @@ use crate::flushing::flush;
 use crate::journal_listing::{write_entries, write_opening};
 use crate::list_error::ListError;
 use crate::listing::Listing;
-use crate::object_listing::write_objects;
+use crate::object_listing::{write_audits, write_objects};
 use argus_contents::Name;
 use argus_core::Guardian;
 use argus_memory::{Heap, Room};
@@ -31,8 +31,8 @@ use std::io::Write;
 /// | `OutOfMemory` | there is no memory |
 /// | `Write` | the writer failed or accepted nothing, and only then |
 ///
-/// Condition: the writer hasn't failed before. An audit scans the journal for each object, and
-/// again for each version.
+/// Condition: the writer hasn't failed before. An audit walks over the journal twice, and
+/// then visits each object's writes, and again for each of its versions.
 ///
 /// ```text
 /// let mut writer = FailStop::new(rt.stdout());
@@ -79,7 +79,7 @@ fn write_lines<W: Write + Drop>(
 {
     match listing {
         Listing::Bases | Listing::Stacks => {
-            write_objects(heap, guardian, names, listing, text, writer)
+            write_objects(heap, guardian, names, listing, None, text, writer)
         }
         Listing::Journal => {
             let journal = guardian.journal().journal();
@@ -87,7 +87,7 @@ fn write_lines<W: Write + Drop>(
             write_entries(journal, text, writer)
         }
         Listing::Audit => {
-            write_objects(heap, guardian, names, listing, text, writer)?;
+            write_audits(heap, guardian, names, text, writer)?;
             append_length(guardian, text)?;
             Ok(())
         }

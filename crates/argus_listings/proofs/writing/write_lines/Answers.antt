@@ -24,9 +24,8 @@ same_journal listing names journal s j e f h =
 
 -- the objects and the last line are an audit
 same_audit : (listing : Listing) (names : List (List ℕ)) (journal : JournalView) → listing ≡ Audit
-    → objects_text listing names journal ++ length_line journal ≡ listing_of listing names journal
-same_audit listing names journal e =
-    ap (λ k. objects_text k names journal ++ length_line journal) e ∙ ap (λ k. listing_of k names journal) (sym e)
+    → objects_text Audit names journal ++ length_line journal ≡ listing_of listing names journal
+same_audit listing names journal e = ap (λ k. listing_of k names journal) (sym e)
 
 pub returns-in_err-write_opening-in-Journal-clause-cut : goal.returns-in_err-write_opening-in-Journal-clause-cut
 returns-in_err-write_opening-in-Journal-clause-cut g c =
@@ -76,27 +75,27 @@ returns-in_ok-write_opening-in-Journal-clause-cut g c =
     (cut_then a t m n d (opening_text s) (entries_text s j) c.in_ok-write_opening-in-Journal.ensures.ok cut))
     c.write_entries.ensures.cut
 
-pub returns-in_err-write_objects-in-Audit-clause-cut : goal.returns-in_err-write_objects-in-Audit-clause-cut
-returns-in_err-write_objects-in-Audit-clause-cut g c =
+pub returns-in_err-write_audits-in-Audit-clause-cut : goal.returns-in_err-write_audits-in-Audit-clause-cut
+returns-in_err-write_audits-in-Audit-clause-cut g c =
     let journal = c.args.guardian.now in
     let a = g.W.Write.contents (inner_of c.args.writer.now) in
-    let d = g.W.Write.contents (inner_of c.write_objects-in-Audit.new.writer) in
+    let d = g.W.Write.contents (inner_of c.write_audits.new.writer) in
     let t = string_bytes c.args.text.now in
     let P : List ℕ → Type 0 = λ x. Cut a t d x in
-    on_err c.from_residual-in_err-write_objects-in-Audit.result
+    on_err c.from_residual-in_err-write_audits-in-Audit.result
     (subst P (same_audit c.args.listing c.args.names.now journal c.in-Audit.is)
-    (cut_before a t d (objects_text c.args.listing c.args.names.now journal) (length_line journal)
-    c.in_err-write_objects-in-Audit.ensures.cut))
+    (cut_before a t d (objects_text Audit c.args.names.now journal) (length_line journal)
+    c.in_err-write_audits-in-Audit.ensures.cut))
 
 pub returns-in_err-append_length-in-Audit-clause-cut : goal.returns-in_err-append_length-in-Audit-clause-cut
 returns-in_err-append_length-in-Audit-clause-cut g c =
     let journal = c.args.guardian.now in
     let a = g.W.Write.contents (inner_of c.args.writer.now) in
-    let d = g.W.Write.contents (inner_of c.write_objects-in-Audit.new.writer) in
+    let d = g.W.Write.contents (inner_of c.write_audits.new.writer) in
     let t = string_bytes c.args.text.now in
-    let u = string_bytes c.write_objects-in-Audit.new.text in
+    let u = string_bytes c.write_audits.new.text in
     let P : List ℕ → Type 0 = λ x. Cut a t d x in
     on_err c.from_residual-in_err-append_length-in-Audit.result
     (subst P (same_audit c.args.listing c.args.names.now journal c.in-Audit.is)
-    (stops_then a t d u (objects_text c.args.listing c.args.names.now journal) (length_line journal)
-    c.in_ok-write_objects-in-Audit.ensures.ok))
+    (stops_then a t d u (objects_text Audit c.args.names.now journal) (length_line journal)
+    c.in_ok-write_audits-in-Audit.ensures.ok))

@@ -1,0 +1,5 @@
+mod Places
+mod Retraced
+mod Owners
+mod Visits
+mod Linked

@@ -1,0 +1,48 @@
+-- One more entry, and all of them.
+use Rattle.std.proofs.Common.{List, None, Some, [], ap, arith, drop, inl, inr, length, reverse, subst, suc, sym}
+use Rattle.std.proofs.Common.{take, ℕ, ◌++◌, ◌+◌, ◌∙◌, ◌∷◌, ◌≡◌, ◌≤◌}
+use Rattle.std.specs.Prelude.{slice_get}
+use Rattle.std.proofs.Math.Seq.{take-suc}
+use Rattle.std.proofs.lemmas.List.{length-reverse, reverse-append, reverse-reverse, take-append-drop, take_all}
+use Rattle.std.proofs.lemmas.Option.{get_or_from_slice_get, none-some, slice_get_cases, slice_get_within}
+use Rattle.argus_audit.specs.Places.{first_entries}
+use Rattle.argus_entries.specs.Entry.{PlainEntry}
+use Rattle.argus_journal.specs.Legal.{Legal}
+use Rattle.argus_journal.specs.Opening.{Opening}
+
+-- one more entry, which was found
+pub one_more : (j : List PlainEntry) (n : ℕ) (e : PlainEntry) → slice_get (reverse j) n ≡ Some e
+    → first_entries j (n + 1) ≡ e ∷ first_entries j n
+one_more j n e is =
+    let next : n + 1 ≡ suc n = omega arith in
+    ap (λ k. reverse (take k (reverse j))) next
+    ∙ ap reverse (take-suc (reverse j) n e (slice_get_within (reverse j) n e is)
+    ∙ ap (λ x. take n (reverse j) ++ x ∷ []) (get_or_from_slice_get (reverse j) n e e is))
+    ∙ reverse-append (take n (reverse j)) (e ∷ [])
+
+-- no more entries, where none is found
+pub all_entries : (j : List PlainEntry) (n : ℕ) → length j ≤ n → first_entries j n ≡ j
+all_entries j n past =
+    let long : length (reverse j) ≤ n = subst (λ k. k ≤ n) (sym (length-reverse j)) past in
+    ap reverse (take_all n (reverse j) long) ∙ reverse-reverse j
+
+pub no_more : (j : List PlainEntry) (n : ℕ) → slice_get (reverse j) n ≡ None → first_entries j (n + 1) ≡ first_entries j n
+no_more j n none =
+    elim ((slice_get_cases (reverse j) n).1) [
+      | inl here ↦ absurd (none-some here.0 (sym none ∙ here.2))
+      | inr past ↦
+          let long = past.0 in
+          ap reverse (take_all (n + 1) (reverse j) (omega (arith, long)) ∙ sym (take_all n (reverse j) long))
+    ]
+
+-- the older entries of a legal journal are legal
+older_legal : (s : Opening) (newer older : List PlainEntry) → Legal s (newer ++ older) → Legal s older
+older_legal s [] older l = l
+older_legal s (e ∷ newer) older l = older_legal s newer older l.1
+
+pub first_legal : (s : Opening) (j : List PlainEntry) (n : ℕ) → Legal s j → Legal s (first_entries j n)
+first_legal s j n l =
+    let parts : j ≡ reverse (drop n (reverse j)) ++ first_entries j n =
+    sym (reverse-reverse j) ∙ ap reverse (sym (take-append-drop n (reverse j)))
+    ∙ reverse-append (take n (reverse j)) (drop n (reverse j)) in
+    older_legal s (reverse (drop n (reverse j))) (first_entries j n) (subst (Legal s) parts l)

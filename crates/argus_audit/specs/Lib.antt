@@ -1,0 +1,4 @@
+pub mod Places
+pub mod Retracing
+pub mod Writes
+pub mod Audit
