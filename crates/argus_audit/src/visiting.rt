@@ -116,7 +116,7 @@ fn write(heap: Heap, entry: &Entry, content: &mut Option<Content>) -> Result<(),
 {
     match &entry.call {
         Call::Alter(_, _, change) => {
-            let _ = alter_in_place(content, change.duplicate(heap)?)?;
+            let _ = alter_in_place(heap, content, change)?;
             Ok(())
         }
         Call::TestWrite(_, _) => Ok(()),
