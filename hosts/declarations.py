@@ -7,7 +7,8 @@ The calls are read from the source of argus_c: each has to be declared everywher
 parameters, in their order, and the same result; so have argus_c_call and argus_c_reply in what calls
 them for Python without ctypes. A call of a list, and a status with its number, have to have the same fields, in
 their order, wherever they are declared. A number that has a name in argus.h has to be the same
-wherever that name stands, and each kind of call has to be named everywhere. Each difference is printed, and then the status is 1.
+wherever that name stands, and each kind of call has to be named everywhere. Each difference is printed,
+and then the status is 1.
 """
 
 import importlib
