@@ -1,11 +1,11 @@
 //! Integers and truth values, which cross to the library as numbers: the journal has them as their written forms.
 
-use argus_guardian::{Change, Error, Guardian, ObjId, Value};
+use argus_guardian::{Access, Change, Error, Guardian, ObjId, Refusal};
 
 // An object of this shape and this content.
 fn created(guardian: &mut Guardian, shape: &str, content: &str) -> Result<ObjId, Error> {
     let object = guardian.declare(shape)?;
-    let mut top = guardian.topaction()?;
+    let top = guardian.topaction()?;
     top.alter(object, Change::Create(content.parse()?))?
         .done()?;
     top.commit()?;
@@ -14,7 +14,7 @@ fn created(guardian: &mut Guardian, shape: &str, content: &str) -> Result<ObjId,
 
 // Makes these changes, each of which the journal has to have as it is displayed, and returns what they leave.
 fn left_by(guardian: &mut Guardian, object: ObjId, changes: Vec<Change>) -> Result<String, Error> {
-    let mut top = guardian.topaction()?;
+    let top = guardian.topaction()?;
     for change in changes {
         let line = format!("alter {} {object} {change} -> done", top.id());
         top.alter(object, change)?.done()?;
@@ -75,10 +75,11 @@ fn each_change_by_a_truth_value() -> Result<(), Error> {
 fn a_number_of_another_type_is_refused() -> Result<(), Error> {
     let mut guardian = Guardian::new()?;
     let record = created(&mut guardian, "atomic_record[n:int,is:bool]", "{0,false}")?;
-    let mut top = guardian.topaction()?;
-    let refused = Err(Error::Refused(argus_guardian::Refusal::IllTyped));
-    assert_eq!(top.set(record, 0, true), refused);
-    assert_eq!(top.set(record, 1, 1), refused);
-    assert_eq!(top.get(record, 0)?, Value::Int(0));
+    let top = guardian.topaction()?;
+    for refused in [top.set(record, 0, true), top.set(record, 1, 1)] {
+        let error = refused.expect_err("another type");
+        assert_eq!(error.refusal(), Some(Refusal::IllTyped));
+    }
+    assert_eq!(top.get::<i64>(record, 0)?, 0);
     Ok(())
 }
