@@ -18,6 +18,7 @@ sys.path.insert(0, str(Path(__file__).resolve().parent))
 
 from log_bank import LogCase, carry_out, number_in, open_bank  # noqa: E402
 
+from argus_guardian import Guardian  # noqa: E402
 from argus_guardian import log as logs  # noqa: E402
 from argus_guardian.log import Log  # noqa: E402
 from argus_guardian.log_rows import summed  # noqa: E402
@@ -269,6 +270,7 @@ class LogFaults(LogCase):
     def test_what_may_not_be_written(self) -> None:
         """The superuser may write everything, and so is another user meanwhile."""
         self.crash(self.orders)
+        Guardian().close()  # That user may not be able to read the library.
         self.addCleanup(self.room.chmod, 0o700)
         if os.geteuid() == 0:
             self.addCleanup(os.seteuid, 0)
