@@ -70,8 +70,13 @@ uint32_t store_declare(store *it, int64_t number) {
     return object;
 }
 
-/* A fold was made. The mutex is held. */
+/* Half of the numbers that a guardian has for actions. */
+enum { HALF_OF_ACTIONS = 500000 };
+
+/* A fold was made. Where half of the numbers for actions are used, they begin anew. The mutex is held. */
 static void note_fold(store *it) {
+    if (expect(argus_actions(&it->guardian), ARGUS_NUMBER, "actions") >= HALF_OF_ACTIONS)
+        expect(argus_renew(&it->guardian), ARGUS_DONE, "renew");
     it->folded_at = expect(argus_entries(&it->guardian), ARGUS_NUMBER, "entries");
     pthread_cond_broadcast(&it->ended);
 }

@@ -43,8 +43,9 @@ void store_close(store *it);
 /* Declares a record of one integer, and creates it by a topaction of its own. */
 uint32_t store_declare(store *it, int64_t number);
 
-/* Begins an action. Before a topaction the journal is folded if that is due. This waits until all
- * live topactions have ended, so don't begin a topaction in a thread that has a live action. */
+/* Begins an action. Before a topaction the journal is folded if that is due, and actions are numbered
+ * from 0 again if half of the numbers are used. This waits until all live topactions have ended, so
+ * don't begin a topaction in a thread that has a live action. */
 store_action store_begin_top(store *it);
 store_action store_begin_sub(store *it, const store_action *parent);
 
@@ -74,7 +75,7 @@ int store_set(store *it, const store_action *action, uint32_t object, int64_t nu
 /* A record's base: what the committed topactions have left in it. */
 int64_t store_base(store *it, uint32_t object);
 
-/* How many entries the journal has had. */
+/* How many entries the journal has had since actions were numbered from 0. */
 int64_t store_entries(store *it);
 
 /* Folds the journal. No action may be live. */

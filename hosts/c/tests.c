@@ -96,6 +96,20 @@ static void test_fold(void) {
     store_close(&records);
 }
 
+/* More topactions than a guardian has numbers for. */
+static void test_renewal(void) {
+    store records;
+    store_open(&records, 1000);
+    uint32_t object = store_declare(&records, 5);
+    for (int turn = 0; turn < 1100000; turn++) {
+        store_action top = store_begin_top(&records);
+        store_abort(&records, &top);
+    }
+    CHECK(argus_actions(&records.guardian).number < 1000000);
+    CHECK(store_base(&records, object) == 5);
+    store_close(&records);
+}
+
 /* The example of argus.h: opens an account with this content. If that fails, prints why and returns
  * 0. */
 static int open_account(argus_guardian *bank, const char *content) {
@@ -431,5 +445,6 @@ int tests(void) {
     test_upgrade(1);
     test_patience();
     test_fold();
+    test_renewal();
     return failed;
 }
