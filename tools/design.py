@@ -17,7 +17,7 @@ TOP = pathlib.Path(__file__).resolve().parent.parent
 PICTURE = TOP / "docs/design.svg"
 WIDTH, MARGIN, GAP = 960, 20, 14
 TITLE, INNER, PAD = 40, 46, 10
-NOT_DRAWN = re.compile(r".*_(tests|bench|example)|test_rows")
+NOT_DRAWN = re.compile(r".*_(tests|bench|example)")
 
 # From the top down: layers of boxes. A box has a kind, a name, what it is for, and its inner crates with theirs.
 LAYERS = [

@@ -1,6 +1,6 @@
 """Files of rows: their tests, rows that stand for many, and marks that stand for bytes.
 
-This is what all rows have in common, here, in tools/programs, and in crates/test_rows, which reads them in Rattle. A
+This is what all rows have in common, here, in tools/programs, and in crates/guardian_tests, which reads them in Rattle. A
 file says at its head what its own rows are. An empty line separates tests, and a line that begins with `#` is a
 comment. What a row gets comes from the rules, never from a run.
 

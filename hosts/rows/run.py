@@ -31,6 +31,7 @@ OWN, SHARED = TOP / "hosts/rows/data", TOP / "crates/guardian_tests/data"
 # Those in SHARED are made by a seat of a shared guardian, too.
 ALONE = [SHARED / name for name in ("locks.rows", "ends.rows", "contents.rows", "questions.rows")]
 ALONE += [OWN / name for name in ("listings.rows", "checkpoints.rows", "outliving.rows", "limits.rows", "memory.rows")]
+ALONE += [OWN / name for name in ("operations.rows", "fitting.rows")]
 # After each of these tests the journal's listing is made into a guardian again in all ways that resuming.py has.
 RESUMED = [OWN / "resuming.rows"]
 HELD = sorted(OWN.glob("host_*.rows"))

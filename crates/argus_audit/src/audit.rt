@@ -1,12 +1,11 @@
 //! `Audit`: what is found once of a journal, for all of its objects.
 
-ghost use Rattle.std.specs.Prelude.{IfOk, true, ◌≡◌};
+ghost use Rattle.std.specs.Prelude.{IfOk, ◌≡◌};
 ghost use Rattle.argus_audit.specs.Audit.{IsAudit, tree_of, writes_of};
 ghost use Rattle.argus_contents.specs.Content.{plain_option};
 ghost use Rattle.argus_journal.specs.Journal.{entries_of, opening_of};
 ghost use Rattle.argus_journal.specs.JournalFacts.{base_of, visible_to};
 ghost use Rattle.argus_journal.specs.Legal.{Legal};
-ghost use Rattle.argus_journal.specs.Opening.{is_sound};
 
 use crate::retracing::retrace;
 use crate::visiting::replay;
@@ -55,7 +54,6 @@ impl Audit {
         o: ObjId,
     ) -> Result<Option<Content>, OutOfMemory>
         requires legal { Legal (opening_of journal.now) (entries_of journal.now) }
-        requires sound { is_sound (opening_of journal.now) ≡ true }
         requires audit { IsAudit self.now (opening_of journal.now) (entries_of journal.now) }
         ensures { IfOk result (λ content. plain_option content
             ≡ base_of (opening_of journal.now) (entries_of journal.now) o.0) }
@@ -76,7 +74,6 @@ impl Audit {
         o: ObjId,
     ) -> Result<Option<Content>, OutOfMemory>
         requires legal { Legal (opening_of journal.now) (entries_of journal.now) }
-        requires sound { is_sound (opening_of journal.now) ≡ true }
         requires audit { IsAudit self.now (opening_of journal.now) (entries_of journal.now) }
         ensures { IfOk result (λ content. plain_option content
             ≡ visible_to (opening_of journal.now) (entries_of journal.now) h.0 o.0) }

@@ -10,8 +10,10 @@
 mod audit;
 mod owning;
 mod reading;
+mod replaying;
 mod retracing;
 mod visiting;
 mod writes;
 
 pub use audit::Audit;
+pub use replaying::{replay_base, replay_for};

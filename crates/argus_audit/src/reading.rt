@@ -1,14 +1,15 @@
 //! A journal's entries by their places: the first since the opening has place 0.
 
-ghost use Rattle.std.specs.Prelude.{length, reverse, slice_get, ◌≡◌};
-ghost use Rattle.argus_journal.specs.Journal.{entries_of, plain_entry_found};
+ghost use Rattle.std.specs.Prelude.{length, reverse, slice_get, ◌+◌, ◌<◌, ◌≡◌};
+ghost use Rattle.argus_journal.specs.Journal.{entries_of, opening_of, plain_entry_found};
 
 use argus_entries::Entry;
 use argus_journal::Journal;
 
 /// How many entries came since the opening.
 pub(crate) fn count(journal: &Journal) -> usize
-    ensures { result ≡ length (entries_of journal.now) }
+    ensures all { result ≡ length (entries_of journal.now) }
+    ensures numbered { (opening_of journal.now).first_entry + result < 18446744073709551616 }
 {
     (journal.len() - journal.first_entry()) as usize
 }

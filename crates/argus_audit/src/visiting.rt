@@ -31,7 +31,6 @@ pub(crate) fn replay(
     o: ObjId,
 ) -> Result<Option<Content>, OutOfMemory>
     requires legal { Legal (opening_of journal.now) (entries_of journal.now) }
-    requires sound { is_sound (opening_of journal.now) ≡ true }
     requires audit { IsAudit audit.now (opening_of journal.now) (entries_of journal.now) }
     ensures { let j = entries_of journal.now in
         IfOk result (λ content. plain_option content
@@ -126,9 +125,10 @@ fn write(heap: Heap, entry: &Entry, content: &mut Option<Content>) -> Result<(),
     }
 }
 
-// A copy of what the object held in the opening; none if it wasn't declared.
+// A copy of what the object held in the opening; none if it wasn't declared. The opening is sound.
 fn opening_content(heap: Heap, journal: &Journal, o: ObjId) -> Result<Option<Content>, OutOfMemory>
-    ensures { IfOk result (λ content. plain_option content
+    ensures sound { is_sound (opening_of journal.now) ≡ true }
+    ensures content { IfOk result (λ content. plain_option content
         ≡ content_in (opening_of journal.now).objects o.0) }
 {
     match journal.opening(o) {

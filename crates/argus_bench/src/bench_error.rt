@@ -1,6 +1,6 @@
 //! `BenchError`: why a run has no figure.
 
-use argus_values::{NameError, OutOfMemory, ShapeFault};
+use argus_values::OutOfMemory;
 use std::alloc::{AllocError, AllocFailed};
 use std::io;
 use thiserror::Error;
@@ -16,8 +16,6 @@ pub(crate) enum BenchError {
     UnknownWork,
     #[error("how many objects is a number of 1 to 65535")]
     BadCount,
-    #[error("no shape of that name")]
-    BadShape,
     /// The guardian refused a call, or returned what the run doesn't ask for. A guardian begins at
     /// most a million actions, so a run of too many turns ends like this.
     #[error("a call wasn't answered as the run needs")]
@@ -49,20 +47,5 @@ impl From<AllocError> for BenchError {
 impl<T: Drop> From<AllocFailed<T>> for BenchError {
     fn from(_refused: AllocFailed<T>) -> BenchError {
         BenchError::OutOfMemory
-    }
-}
-
-impl From<NameError> for BenchError {
-    fn from(error: NameError) -> BenchError {
-        match error {
-            NameError::BadName => BenchError::BadShape,
-            NameError::OutOfMemory => BenchError::OutOfMemory,
-        }
-    }
-}
-
-impl From<ShapeFault> for BenchError {
-    fn from(_fault: ShapeFault) -> BenchError {
-        BenchError::BadShape
     }
 }

@@ -8,17 +8,16 @@ use crate::draws::Draws;
 use crate::figure::Figure;
 use crate::manner::Manner;
 use crate::outcome::Outcome;
-use crate::part::Part;
 use crate::seated::Seated;
-use crate::stopwatch::Stopwatch;
 use crate::turning::{RECORDS, turn_counts};
-use crate::working::add_records;
+use crate::working::read_records;
 use argus_guardian::{Seat, Shared, Sharing};
 use argus_values::{Heap, OutOfMemory, Room};
 use std::alloc::AllocError;
 use std::rt::Clock;
 use std::sync::Wait;
 use std::thread::{Threads, map_vec};
+use std::time::Instant;
 
 // A thread's number, how many turns it makes, and how.
 #[derive(Clone, Copy)]
@@ -45,24 +44,14 @@ pub(crate) fn time_threads<
     let threads = u32::try_from(seats.len()).unwrap_or(u32::MAX);
     let each = turns.checked_div(threads).unwrap_or(0);
     let jobs = jobs_for(heap, seats, each, manner)?;
-    let figure = time_jobs(rt, heap, shared, jobs)?;
-    let mut client = Client::of(heap, Seated::new(rt, shared, last));
-    let sum = add_records(&mut client, RECORDS)?;
-    Ok(Outcome::of(figure, sum))
-}
-
-fn time_jobs<N: Sharing + Send + Sync, R: Threads + Wait + Clock + Drop + Send + Sync>(
-    rt: &R,
-    heap: Heap,
-    shared: &Shared<N, R>,
-    jobs: Vec<(Job, Seat<N>), Room>,
-) -> Result<Figure, BenchError> {
-    let watch = Stopwatch::start(rt)?;
+    let start = Instant::now(rt)?;
     let made = count_all(rt, heap, shared, jobs)?;
-    Ok(Figure {
-        part: Part::Turns,
-        taken: watch.taken(rt)?,
-        count: added_up(made.as_slice()),
+    let first = Figure::since(rt, start, "turns", added_up(made.as_slice()))?;
+    let mut client = Client::of(heap, Seated::new(rt, shared, last));
+    Ok(Outcome {
+        first,
+        second: None,
+        sum: read_records(&mut client, RECORDS, false)?,
     })
 }
 

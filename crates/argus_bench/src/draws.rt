@@ -6,7 +6,7 @@ ghost use Rattle.std.specs.Prelude.{◌<◌};
 /// 31 bits are used. Its factor is Knuth's for words of 64 bits.
 ///
 /// ```text
-/// let mut draws = Draws::new();
+/// let mut draws = Draws::seeded(42);
 /// let o = ObjId(draws.below(1000));
 /// ```
 #[derive(Drop)]
@@ -15,10 +15,6 @@ pub(crate) struct Draws {
 }
 
 impl Draws {
-    pub(crate) fn new() -> Draws {
-        Draws::seeded(42)
-    }
-
     /// Other numbers for each seed.
     pub(crate) fn seeded(seed: u64) -> Draws {
         Draws { state: seed }

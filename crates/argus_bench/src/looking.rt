@@ -7,19 +7,17 @@ use crate::draws::Draws;
 use crate::figure::Figure;
 use crate::looks::Looks;
 use crate::outcome::Outcome;
-use crate::part::Part;
 use crate::seated::Seated;
-use crate::stopwatch::Stopwatch;
 use crate::turning::{pair, turn_pair};
 use crate::working::number_in;
 use argus_guardian::{Looker, Seat, Shared, Sharing};
-use argus_values::{Content, Heap, OutOfMemory, Room};
+use argus_values::{Content, Heap, Room};
 use std::alloc::AllocError;
 use std::rt::Clock;
 use std::sync::Wait;
 use std::sync::atomic::{AtomicU64, Ordering};
 use std::thread::{Threads, join, map_vec, sleep};
-use std::time::Duration;
+use std::time::{Duration, Instant};
 
 // A guardian begins at most a million actions.
 const BATCHES: u32 = 60_000;
@@ -40,30 +38,28 @@ pub(crate) fn time_lookers<
     is_busy: bool,
     millis: u32,
 ) -> Result<Outcome, BenchError> {
-    let word = AtomicU64::new(0);
-    let over = &word;
+    let (word, next) = (AtomicU64::new(0), AtomicU64::new(7));
+    let (over, seeds) = (&word, &next);
     let (looked, commits) = join(
         rt,
-        move || look_apart(rt, heap, lookers, over),
+        move || look_all(rt, heap, lookers, seeds, over),
         || {
             let commits = commit_or_sleep(rt, heap, shared, seat, is_busy, millis);
             over.store(1, Ordering::SeqCst);
             commits
         },
     );
-    Ok(outcome_of(looked?, commits?))
-}
-
-// Each looker looks in a thread of its own, and draws numbers of its own.
-fn look_apart<N: Sharing + Send + Sync, R: Threads + Wait + Drop + Send + Sync>(
-    rt: &R,
-    heap: Heap,
-    lookers: Vec<Looker<N>, Room>,
-    is_over: &AtomicU64,
-) -> Result<Looks, OutOfMemory> {
-    let seeds = AtomicU64::new(7);
-    let looked = look_all(rt, heap, lookers, &seeds, is_over)?;
-    Ok(added_up(looked.as_slice()))
+    let (looks, commits) = (added_up(looked?.as_slice()), commits?);
+    let first = Figure {
+        part: "looks",
+        count: looks.made,
+        taken: commits.taken,
+    };
+    Ok(Outcome {
+        first,
+        second: Some(commits),
+        sum: i64::from(looks.torn),
+    })
 }
 
 fn added_up(looked: &[Looks]) -> Looks {
@@ -74,6 +70,7 @@ fn added_up(looked: &[Looks]) -> Looks {
     looks
 }
 
+// Each looker looks in a thread of its own, and draws numbers of its own.
 fn look_all<N: Sharing + Send + Sync, R: Threads + Wait + Drop + Send + Sync>(
     rt: &R,
     heap: Heap,
@@ -143,50 +140,28 @@ fn commit_or_sleep<N: Sharing, R: Wait + Clock + Drop>(
     is_busy: bool,
     millis: u32,
 ) -> Result<Figure, BenchError> {
-    let mut client = Client::of(heap, Seated::new(rt, shared, seat));
     let limit = Duration::from_millis(u64::from(millis));
-    if is_busy {
-        time_commits(rt, &mut client, limit)
-    } else {
-        time_sleep(rt, limit)
+    let start = Instant::now(rt)?;
+    let mut client = Client::of(heap, Seated::new(rt, shared, seat));
+    if !is_busy {
+        sleep(rt, limit);
+        return Figure::since(rt, start, "commits", 0);
     }
-}
-
-fn time_commits<K: Callee>(
-    rt: &impl Clock,
-    client: &mut Client<K>,
-    limit: Duration,
-) -> Result<Figure, BenchError> {
-    let watch = Stopwatch::start(rt)?;
-    let count = commit_until(rt, client, watch, limit)?;
-    Ok(Figure {
-        part: Part::Commits,
-        count,
-        taken: watch.taken(rt)?,
-    })
-}
-
-fn time_sleep<R: Wait + Clock>(rt: &R, limit: Duration) -> Result<Figure, BenchError> {
-    let watch = Stopwatch::start(rt)?;
-    sleep(rt, limit);
-    Ok(Figure {
-        part: Part::Commits,
-        count: 0,
-        taken: watch.taken(rt)?,
-    })
+    let count = commit_until(rt, &mut client, start, limit)?;
+    Figure::since(rt, start, "commits", count)
 }
 
 // How many topactions were committed.
 fn commit_until<K: Callee>(
     rt: &impl Clock,
     client: &mut Client<K>,
-    watch: Stopwatch,
+    start: Instant,
     limit: Duration,
 ) -> Result<u32, BenchError> {
-    let mut draws = Draws::new();
+    let mut draws = Draws::seeded(42);
     let mut number = 0u32;
     for _ in 0..BATCHES {
-        if watch.taken(rt)? >= limit {
+        if start.elapsed(rt)? >= limit {
             break;
         }
         commit_often(client, &mut draws, number)?;
@@ -204,13 +179,4 @@ fn commit_often<K: Callee>(
         turn_pair(client, pair(draws), number)?;
     }
     Ok(())
-}
-
-fn outcome_of(looks: Looks, commits: Figure) -> Outcome {
-    let made = Figure {
-        part: Part::Looks,
-        count: looks.made,
-        taken: commits.taken,
-    };
-    Outcome::of_two(made, commits, i64::from(looks.torn))
 }

@@ -17,13 +17,10 @@ mod looking;
 mod looks;
 mod manner;
 mod outcome;
-mod part;
 mod reply_summary;
 mod seated;
-mod shared_work;
 mod sharing;
-mod stopwatch;
-mod timing;
+mod turn;
 mod turning;
 mod work;
 mod working;
@@ -32,13 +29,13 @@ use anyhow::Result;
 use argus_values::Heap;
 use bench_error::BenchError;
 use outcome::Outcome;
-use shared_work::SharedWork;
 use std::env;
 use std::io::Print;
 use std::rt::Clock;
 use std::sync::Wait;
 use std::thread::Threads;
 use work::Work;
+use working::{time_turns, with_records};
 
 const HELP: &str = "\
 argus_bench TURNS WORK..: makes so many turns of each work, on a guardian of its own, and
@@ -69,22 +66,21 @@ It prints WORK PART n=N ns_each=NANOSECONDS sum=SUM for each part that is timed.
 that of what was read and of what the objects then hold, each times its place; of own, hot and
 batch that of what the records hold; of busy and idle the looks that didn't show one number twice.";
 
-// The turns of the small runs.
-const SMALL: u32 = 20;
-
-const WORKS: &[&str] = &[
-    "flat",
-    "nested",
-    "commit:10",
-    "abort:10",
-    "chain",
-    "shared:flat",
-    "shared:nested",
-    "own:2",
-    "hot:2",
-    "batch:2",
-    "busy:2",
-    "idle:1",
+// The small runs, and their turns. Eight threads lock the same ten records so often that most of
+// them wait.
+const WORKS: &[(&str, u32)] = &[
+    ("flat", 20),
+    ("nested", 20),
+    ("commit:10", 20),
+    ("abort:10", 20),
+    ("chain", 20),
+    ("shared:flat", 20),
+    ("shared:nested", 20),
+    ("own:2", 20),
+    ("hot:8", 8000),
+    ("batch:2", 20),
+    ("busy:4", 200),
+    ("idle:1", 20),
 ];
 
 fn run<R: Threads + Wait + Clock + Copy + Drop + Send + Sync>(
@@ -93,19 +89,29 @@ fn run<R: Threads + Wait + Clock + Copy + Drop + Send + Sync>(
     word: &str,
     turns: u32,
 ) -> Result<Outcome, BenchError> {
-    if let Ok(work) = word.parse::<SharedWork>() {
-        return sharing::run(rt, heap, work, turns);
+    let work = word.parse::<Work>()?;
+    match work {
+        Work::Alone(turn, records) => {
+            let mut client = with_records(heap, records)?;
+            time_turns(&rt, &mut client, turn, records, turns)
+        }
+        Work::Seat(_) => sharing::run(rt, heap, work, turns, 1, 0),
+        Work::Threads(_, threads) => {
+            sharing::run(rt, heap, work, turns, threads.saturating_add(1), 0)
+        }
+        Work::Busy(lookers) | Work::Idle(lookers) => {
+            sharing::run(rt, heap, work, turns, 1, lookers)
+        }
     }
-    timing::run(&rt, heap, word.parse::<Work>()?, turns)
 }
 
 fn tell<R: Print + Threads + Wait + Clock + Copy + Drop + Send + Sync>(
     rt: R,
     heap: Heap,
 ) -> Result<()> {
-    for word in WORKS {
-        let sum = run(rt, heap, word, SMALL)?.sum;
-        println!(rt; "{word} n={SMALL} sum={sum}")?;
+    for (word, turns) in WORKS {
+        let sum = run(rt, heap, word, *turns)?.sum;
+        println!(rt; "{word} n={turns} sum={sum}")?;
     }
     Ok(())
 }
@@ -116,8 +122,8 @@ fn time<R: Print + Threads + Wait + Clock + Copy + Drop + Send + Sync>(
     word: &str,
     turns: u32,
 ) -> Result<()> {
-    let Outcome { figures, sum } = run(rt, heap, word, turns)?;
-    for figure in &figures {
+    let Outcome { first, second, sum } = run(rt, heap, word, turns)?;
+    for figure in &[Some(first), second] {
         if let Some(figure) = figure {
             let (part, count, nanos) = (figure.part, figure.count, figure.nanos_each());
             println!(rt; "{word} {part} n={count} ns_each={nanos:.1} sum={sum}")?;

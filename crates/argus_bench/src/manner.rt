@@ -4,9 +4,9 @@
 /// each in its own, by lists of calls.
 ///
 /// ```text
-/// let is_shared = manner == Manner::Hot;
+/// let work = Work::Threads(Manner::Hot, 4);
 /// ```
-#[derive(Clone, Copy, PartialEq, Eq)]
+#[derive(Clone, Copy)]
 pub(crate) enum Manner {
     Own,
     Hot,

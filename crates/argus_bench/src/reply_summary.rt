@@ -1,8 +1,9 @@
 //! `ReplySummary`: what a reply says, as far as a run needs it.
 
+use crate::bench_error::BenchError;
 use argus_actions::ActionId;
 use argus_journal::Reply;
-use argus_values::{Answer, ObjId, Value};
+use argus_values::{Answer, Value};
 
 /// What a reply says, as far as a run needs it. It is copied, while a reply would have to be
 /// dropped on each way out of the function that holds it.
@@ -12,15 +13,13 @@ use argus_values::{Answer, ObjId, Value};
 /// ```
 #[derive(Clone, Copy)]
 pub(crate) enum ReplySummary {
-    /// The number of an object.
-    Object(ObjId),
     /// The number of an action.
     Begun(ActionId),
     /// What was asked for, an integer.
     Number(i64),
     /// The change, commit or abort was made.
     Done,
-    /// A refusal, or a reply that no run asks for.
+    /// A refusal, the number of an object, or a reply that no run asks for.
     Other,
 }
 
@@ -29,11 +28,19 @@ impl ReplySummary {
     #[inline(always)]
     pub(crate) fn by(reply: Reply) -> ReplySummary {
         match &reply {
-            Reply::Object(o) => ReplySummary::Object(*o),
             Reply::Begun(a) => ReplySummary::Begun(*a),
             Reply::Answered(Answer::Done) => ReplySummary::Done,
             Reply::Answered(Answer::Val(Value::Int(number))) => ReplySummary::Number(*number),
-            Reply::Answered(_) | Reply::Refused(_) => ReplySummary::Other,
+            Reply::Answered(_) | Reply::Object(_) | Reply::Refused(_) => ReplySummary::Other,
+        }
+    }
+
+    pub(crate) fn expect_done(self) -> Result<(), BenchError> {
+        match self {
+            ReplySummary::Done => Ok(()),
+            ReplySummary::Begun(_) | ReplySummary::Number(_) | ReplySummary::Other => {
+                Err(BenchError::OtherReply)
+            }
         }
     }
 }

@@ -12,11 +12,10 @@ use crate::counting::time_threads;
 use crate::looking::time_lookers;
 use crate::outcome::Outcome;
 use crate::seated::Seated;
-use crate::shared_work::SharedWork;
-use crate::timing::time_turns;
+use crate::turn::Turn;
 use crate::turning::RECORDS;
 use crate::work::Work;
-use crate::working::with_records;
+use crate::working::{time_turns, with_records};
 use argus_guardian::{Guardian, Keeper, Parts, Seat, Shared, Sharing};
 use argus_values::Heap;
 use std::marker::Brand;
@@ -25,15 +24,17 @@ use std::sync::Wait;
 use std::sync::ledger::Blank;
 use std::thread::Threads;
 
-/// A run of this many turns; with lookers, of this many milliseconds.
+/// A run of this many turns; with lookers, of this many milliseconds. What is read at the end is read
+/// by the last seat, which makes all calls if there is no other.
 pub(crate) fn run<R: Threads + Wait + Clock + Copy + Drop + Send + Sync>(
     rt: R,
     heap: Heap,
-    work: SharedWork,
+    work: Work,
     turns: u32,
+    seats: u8,
+    lookers: u8,
 ) -> Result<Outcome, BenchError> {
     let guardian = with_records(heap, RECORDS)?.callee;
-    let (seats, lookers) = (work.seats(), work.lookers());
     let blank = Blank::new(u64::from(seats));
     time_shared::<Brand, R>(
         rt,
@@ -53,7 +54,7 @@ fn time_shared<N: Sharing + Send + Sync, R: Threads + Wait + Clock + Copy + Drop
     rt: R,
     heap: Heap,
     guardian: Guardian,
-    work: SharedWork,
+    work: Work,
     turns: u32,
     seats: u8,
     lookers: u8,
@@ -80,7 +81,7 @@ fn time_parts<N: Sharing + Send + Sync, R: Threads + Wait + Clock + Drop + Send 
     rt: &R,
     heap: Heap,
     parts: Parts<N, R>,
-    work: SharedWork,
+    work: Work,
     turns: u32,
 ) -> Result<Outcome, BenchError> {
     let Parts {
@@ -92,13 +93,10 @@ fn time_parts<N: Sharing + Send + Sync, R: Threads + Wait + Clock + Drop + Send 
         return Err(BenchError::BadCount);
     };
     match work {
-        SharedWork::Turns(work) => time_seat(rt, heap, &shared, last, work, turns),
-        SharedWork::Own(_) | SharedWork::Hot(_) | SharedWork::Batch(_) => {
-            time_threads(rt, heap, &shared, last, seats, work.manner(), turns)
-        }
-        SharedWork::Busy(_) | SharedWork::Idle(_) => {
-            time_lookers(rt, heap, &shared, last, lookers, work.is_busy(), turns)
-        }
+        Work::Alone(turn, _) | Work::Seat(turn) => time_seat(rt, heap, &shared, last, turn, turns),
+        Work::Threads(manner, _) => time_threads(rt, heap, &shared, last, seats, manner, turns),
+        Work::Busy(_) => time_lookers(rt, heap, &shared, last, lookers, true, turns),
+        Work::Idle(_) => time_lookers(rt, heap, &shared, last, lookers, false, turns),
     }
 }
 
@@ -107,9 +105,9 @@ fn time_seat<N: Sharing, R: Wait + Clock + Drop>(
     heap: Heap,
     shared: &Shared<N, R>,
     seat: Seat<N>,
-    work: Work,
+    turn: Turn,
     turns: u32,
 ) -> Result<Outcome, BenchError> {
     let mut client = Client::of(heap, Seated::new(rt, shared, seat));
-    time_turns(rt, &mut client, work, turns)
+    time_turns(rt, &mut client, turn, RECORDS, turns)
 }

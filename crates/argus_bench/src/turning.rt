@@ -93,30 +93,22 @@ fn commit_and_retry<K: Callee>(
     client.abort(second)
 }
 
-/// A topaction that sets one of this many records, and commits.
-pub(crate) fn turn_commit<K: Callee>(
+/// A topaction that sets one of this many records, and commits or aborts.
+pub(crate) fn turn_ended<K: Callee>(
     client: &mut Client<K>,
     draws: &mut Draws,
     count: u16,
     turn: u32,
+    is_committed: bool,
 ) -> Result<(), BenchError> {
     let o = ObjId(draws.below(count));
     let a = client.begin_top()?;
     client.set(a, o, i64::from(turn))?;
-    client.commit(a)
-}
-
-/// A topaction that sets one of this many records, and aborts.
-pub(crate) fn turn_abort<K: Callee>(
-    client: &mut Client<K>,
-    draws: &mut Draws,
-    count: u16,
-    turn: u32,
-) -> Result<(), BenchError> {
-    let o = ObjId(draws.below(count));
-    let a = client.begin_top()?;
-    client.set(a, o, i64::from(turn))?;
-    client.abort(a)
+    if is_committed {
+        client.commit(a)
+    } else {
+        client.abort(a)
+    }
 }
 
 /// A chain of 64 actions, each the subaction of the one before. The last sets a record, and all

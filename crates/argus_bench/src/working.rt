@@ -1,76 +1,82 @@
-//! The runs: what is there before them, their turns, and what they leave.
+//! The runs: what is there before them, their turns, what they take, and what they leave.
 
 use crate::bench_error::BenchError;
 use crate::callee::Callee;
 use crate::client::Client;
 use crate::draws::Draws;
-use crate::turning::{
-    CHAIN_RECORDS, RECORDS, turn_abort, turn_chain, turn_commit, turn_flat, turn_nested,
-};
-use crate::work::Work;
-use argus_actions::ActionId;
+use crate::figure::Figure;
+use crate::outcome::Outcome;
+use crate::turn::Turn;
+use crate::turning::{turn_chain, turn_ended, turn_flat, turn_nested};
 use argus_guardian::Guardian;
 use argus_values::{Content, Heap, ObjId, Value};
+use std::rt::Clock;
+use std::time::Instant;
 
 /// A guardian with this many records, of the numbers from 0 on.
 pub(crate) fn with_records(heap: Heap, count: u16) -> Result<Client<Guardian>, BenchError> {
     let mut client = Client::of(heap, Guardian::new(heap));
-    for _ in 0..count {
-        let _ = client.declare_record()?;
+    for number in 0..count {
+        client.declare_record(ObjId(u32::from(number)))?;
     }
     Ok(client)
 }
 
-/// How many records the work begins with.
-pub(crate) fn records_of(work: Work) -> u16 {
-    match work {
-        Work::Flat | Work::Nested => RECORDS,
-        Work::Commit(count) | Work::Abort(count) => count,
-        Work::Chain => CHAIN_RECORDS,
-    }
+/// Makes this many turns, with this many records there, and reads what they leave, each times its
+/// place from 1 on. What comes before the first turn and after the last isn't timed.
+pub(crate) fn time_turns<K: Callee>(
+    rt: &impl Clock,
+    client: &mut Client<K>,
+    turn: Turn,
+    records: u16,
+    turns: u32,
+) -> Result<Outcome, BenchError> {
+    let start = Instant::now(rt)?;
+    let read = make_turns(client, turn, records, turns)?;
+    let first = Figure::since(rt, start, "turns", turns)?;
+    let left = read_records(client, records, true)?;
+    Ok(Outcome {
+        first,
+        second: None,
+        sum: read.wrapping_add(left),
+    })
 }
 
-/// Makes this many turns. Returns the sum of what they read.
-pub(crate) fn make_turns<K: Callee>(
+// Returns the sum of what the turns read.
+fn make_turns<K: Callee>(
     client: &mut Client<K>,
-    work: Work,
+    turn: Turn,
+    records: u16,
     turns: u32,
 ) -> Result<i64, BenchError> {
-    let mut draws = Draws::new();
+    let mut draws = Draws::seeded(42);
     let mut sum = 0i64;
-    for turn in 0..turns {
-        sum = sum.wrapping_add(make_turn(client, work, &mut draws, turn)?);
+    for number in 0..turns {
+        match turn {
+            Turn::Flat => sum = sum.wrapping_add(turn_flat(client, &mut draws, number)?),
+            Turn::Nested => turn_nested(client, &mut draws, number)?,
+            Turn::Chain => turn_chain(client, number)?,
+            Turn::Commit => turn_ended(client, &mut draws, records, number, true)?,
+            Turn::Abort => turn_ended(client, &mut draws, records, number, false)?,
+        }
     }
     Ok(sum)
 }
 
-fn make_turn<K: Callee>(
-    client: &mut Client<K>,
-    work: Work,
-    draws: &mut Draws,
-    turn: u32,
-) -> Result<i64, BenchError> {
-    match work {
-        Work::Flat => return turn_flat(client, draws, turn),
-        Work::Nested => turn_nested(client, draws, turn)?,
-        Work::Commit(count) => turn_commit(client, draws, count, turn)?,
-        Work::Abort(count) => turn_abort(client, draws, count, turn)?,
-        Work::Chain => turn_chain(client, turn)?,
-    }
-    Ok(0)
-}
-
-/// What the action sees in the records, each times its place from 1 on.
+/// The sum of the bases of the records, which may be each times its place from 1 on.
 pub(crate) fn read_records<K: Callee>(
     client: &mut Client<K>,
-    a: ActionId,
     count: u16,
+    is_weighed: bool,
 ) -> Result<i64, BenchError> {
     let mut sum = 0i64;
+    let a = client.begin_top()?;
     for number in 0..count {
         let read = client.get(a, ObjId(u32::from(number)))?;
-        sum = sum.wrapping_add(read.wrapping_mul(i64::from(number) + 1));
+        let weight = if is_weighed { i64::from(number) + 1 } else { 1 };
+        sum = sum.wrapping_add(read.wrapping_mul(weight));
     }
+    client.commit(a)?;
     Ok(sum)
 }
 
@@ -83,29 +89,4 @@ pub(crate) fn number_in(content: &Option<Content>) -> Option<i64> {
         return None;
     };
     Some(*number)
-}
-
-/// The bases of the records, each times its place from 1 on.
-pub(crate) fn weigh_records<K: Callee>(
-    client: &mut Client<K>,
-    count: u16,
-) -> Result<i64, BenchError> {
-    let a = client.begin_top()?;
-    let sum = read_records(client, a, count)?;
-    client.commit(a)?;
-    Ok(sum)
-}
-
-/// The sum of the bases of the records.
-pub(crate) fn add_records<K: Callee>(
-    client: &mut Client<K>,
-    count: u16,
-) -> Result<i64, BenchError> {
-    let mut sum = 0i64;
-    let a = client.begin_top()?;
-    for number in 0..count {
-        sum = sum.wrapping_add(client.get(a, ObjId(u32::from(number)))?);
-    }
-    client.commit(a)?;
-    Ok(sum)
 }

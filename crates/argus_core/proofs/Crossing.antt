@@ -25,7 +25,7 @@ objects_sends : IsSend (list_row object_row memory.room memory.rests)
 objects_sends = memory.list_sends object_row object_sends
 
 legal_field_sends : IsSend legal_field.row
-legal_field_sends = search (sendable, journal.objects_sends, journal.entries_sends) depth 40 fits 20000
+legal_field_sends = search (sendable, journal.objects_sends, journal.entries_sends, journal.filled_sends) depth 50 fits 40000
 
 parts_field_sends : IsSend parts_field.row
 parts_field_sends = struct_send (shape parts_type) (

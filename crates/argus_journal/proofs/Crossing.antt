@@ -45,17 +45,23 @@ entries_sends = memory.list_sends entry_row entries.entry_sends
 pub entries_syncs : IsSync (list_row entry_row memory.room memory.rests)
 entries_syncs = memory.list_syncs entry_row entries.entry_syncs
 
+pub filled_sends : IsSend (list_row (list_row entry_row memory.room memory.rests) memory.room memory.rests)
+filled_sends = memory.list_sends (list_row entry_row memory.room memory.rests) entries_sends
+
+pub filled_syncs : IsSync (list_row (list_row entry_row memory.room memory.rests) memory.room memory.rests)
+filled_syncs = memory.list_syncs (list_row entry_row memory.room memory.rests) entries_syncs
+
 pub journal_sends : IsSend journal_row
-journal_sends = search (sendable, objects_sends, entries_sends) depth 20
+journal_sends = search (sendable, objects_sends, entries_sends, filled_sends) depth 30 fits 20000
 
 pub journal_syncs : IsSync journal_row
-journal_syncs = search (sendable, objects_syncs, entries_syncs) depth 20
+journal_syncs = search (sendable, objects_syncs, entries_syncs, filled_syncs) depth 30 fits 20000
 
 pub legal_sends : IsSend legal_row
-legal_sends = search (sendable, objects_sends, entries_sends) depth 40 fits 20000
+legal_sends = search (sendable, objects_sends, entries_sends, filled_sends) depth 50 fits 40000
 
 pub legal_syncs : IsSync legal_row
-legal_syncs = search (sendable, objects_syncs, entries_syncs) depth 40 fits 20000
+legal_syncs = search (sendable, objects_syncs, entries_syncs, filled_syncs) depth 50 fits 40000
 
 pub ruleset crosses = (
   entries.crosses,
@@ -63,6 +69,8 @@ pub ruleset crosses = (
   objects_syncs,
   entries_sends,
   entries_syncs,
+  filled_sends,
+  filled_syncs,
   journal_sends,
   journal_syncs,
   legal_sends,

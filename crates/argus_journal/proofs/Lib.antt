@@ -1,3 +1,5 @@
+pub mod Chunked
+pub mod Newest
 pub mod Shifted
 pub mod Legal
 pub mod Rules
@@ -8,8 +10,6 @@ pub mod Serial
 pub mod NextEntry
 pub mod Kin
 pub mod OwnersByEntries
-pub mod Newest
-pub mod Owners
 pub mod Replay
 pub mod Within
 pub mod Folded

@@ -1,33 +1,34 @@
--- Entries from the newest to the oldest.
-use Rattle.std.proofs.Common.{List, [], ap, drop, map, reverse, subst, sym, take, ℕ, ◌++◌, ◌∙◌, ◌∷◌, ◌≡◌}
-use Rattle.std.proofs.lemmas.List.{map-append, reverse-append, take-append-drop}
+-- The newest of the first entries.
+use Rattle.std.proofs.Common.{List, None, Option, Some, [], ap, arith, length, map, refl, reverse, slice_get, subst, suc, sym}
+use Rattle.std.proofs.Common.{take, zero, ℕ, ◌++◌, ◌<◌, ◌∙◌, ◌∷◌, ◌≡◌}
+use Rattle.std.proofs.lemmas.List.{map-append, reverse-append}
+use Rattle.std.proofs.lemmas.Option.{slice_get-map}
+use Rattle.std.specs.Option.{option_map}
 use Rattle.argus_entries.specs.Entry.{PlainEntry, plain_entry}
 use Rattle.argus_entries.specs.declared.entry.Entry.{Entry}
-use Rattle.argus_journal.specs.Journal.{newest_first}
-use Rattle.argus_journal.specs.Legal.{Legal}
-use Rattle.argus_journal.specs.Opening.{Opening}
+use Rattle.argus_journal.specs.Journal.{IsNewest, newest_first}
 
-pub newest_append : (xs ys : List Entry) → newest_first (xs ++ ys) ≡ newest_first ys ++ newest_first xs
-newest_append xs ys =
-    ap reverse (map-append plain_entry xs ys) ∙ reverse-append (map plain_entry xs) (map plain_entry ys)
+newest_push : (xs : List Entry) (x : Entry) → newest_first (xs ++ x ∷ []) ≡ plain_entry x ∷ newest_first xs
+newest_push xs x =
+    ap reverse (map-append plain_entry xs (x ∷ [])) ∙ reverse-append (map plain_entry xs) (plain_entry x ∷ [])
 
-pub newest_push : (xs ys : List Entry) (x : Entry) → ys ≡ xs ++ x ∷ []
-    → newest_first ys ≡ plain_entry x ∷ newest_first xs
-newest_push xs ys x e = ap newest_first e ∙ newest_append xs (x ∷ [])
+-- what stands in a place comes next behind those before it
+found_at : (xs : List Entry) (k : ℕ) → k < length xs
+    → (x : Entry) × (slice_get xs k ≡ Some x) × (take (suc k) xs ≡ take k xs ++ x ∷ [])
+found_at [] k lt = absurd (omega arith)
+found_at (x ∷ xs) zero lt = (x, refl, refl)
+found_at (x ∷ xs) (suc k) lt =
+    let next = found_at xs k (omega arith) in (next.0, next.1, ap (λ l. x ∷ l) next.2)
 
-pub newest_parted : (items : List Entry) (i : ℕ)
-    → newest_first items ≡ newest_first (drop i items) ++ newest_first (take i items)
-newest_parted items i =
-    ap newest_first (sym (take-append-drop i items)) ∙ newest_append (take i items) (drop i items)
+module _ (xs : List Entry) (k : ℕ) (lt : k < length xs) (found : Option PlainEntry)
+    (is : found ≡ slice_get (map plain_entry xs) k) where
+  some : found ≡ Some (plain_entry (found_at xs k lt).0)
+  some = is ∙ slice_get-map plain_entry xs k ∙ ap (option_map plain_entry) (found_at xs k lt).1
 
--- the older entries of a legal journal are legal
+  pub newest_taken : IsNewest found (newest_first (take (suc k) xs)) (newest_first (take k xs))
+  newest_taken =
+      subst (λ f. IsNewest f (newest_first (take (suc k) xs)) (newest_first (take k xs))) (sym some)
+      (ap newest_first (found_at xs k lt).2 ∙ newest_push (take k xs) (found_at xs k lt).0)
 
-older_legal : (s : Opening) (newer older : List PlainEntry) → Legal s (newer ++ older) → Legal s older
-older_legal s [] older l = l
-older_legal s (e ∷ newer) older l = older_legal s newer older l.1
-
-pub taken_legal : (s : Opening) (items : List Entry) (i : ℕ) → Legal s (newest_first items)
-    → Legal s (newest_first (take i items))
-taken_legal s items i l =
-    older_legal s (newest_first (drop i items)) (newest_first (take i items))
-    (subst (Legal s) (newest_parted items i) l)
+  pub is_there : found ≡ None → ⊥
+  is_there none = let gone = sym some ∙ none in cc

@@ -1,8 +1,7 @@
 -- What contracts see of a `Journal`: its opening, its entries, and room for how many more there is.
-use Rattle.std.specs.Prelude.{List, None, Option, Some, if◌then◌else◌, map, nat_lt, reverse}
-use Rattle.std.specs.Prelude.{slice_get, take, vec_len, ℕ, ◌-◌}
+use Rattle.std.specs.Prelude.{List, None, Option, Some, [], if◌then◌else◌, length, map, nat_lt, reverse}
+use Rattle.std.specs.Prelude.{slice_get, take, ℕ, ◌-◌, ◌∷◌, ◌≡◌, ◌≤◌}
 use Rattle.std.specs.Borrow.{Bor}
-use Rattle.std.specs.Vec.{vec_capacity}
 use Rattle.argus_actions.specs.declared.action_id.ActionId.{ActionId}
 use Rattle.argus_contents.specs.Content.{PlainContent, plain_option}
 use Rattle.argus_contents.specs.Shape.{PlainShape}
@@ -10,6 +9,7 @@ use Rattle.argus_contents.specs.declared.content.Content.{Content}
 use Rattle.argus_contents.specs.declared.shape.Shape.{Shape}
 use Rattle.argus_entries.specs.Entry.{PlainEntry, plain_entry}
 use Rattle.argus_entries.specs.declared.entry.Entry.{Entry}
+use Rattle.argus_journal.specs.Chunks.{chunk_room, chunked}
 use Rattle.argus_journal.specs.Legal.{Legal, Legal-prop}
 use Rattle.argus_journal.specs.Opening.{Opening, opening_with}
 use Rattle.argus_journal.specs.declared.journal.Journal.{Journal}
@@ -30,11 +30,20 @@ newest_first entries = reverse (map plain_entry entries)
 
 -- the entries since then, the newest first
 abbrev pub entries_of : Journal → List PlainEntry
-entries_of j = newest_first j.entries.items
+entries_of j = newest_first (chunked j.entries)
 
 -- this many of them from the first on, the newest first
 abbrev pub first_entries_of : Journal → ℕ → List PlainEntry
-first_entries_of j n = newest_first (take n j.entries.items)
+first_entries_of j n = newest_first (take n (chunked j.entries))
+
+-- the journal has so many entries
+abbrev pub HasEntries : Journal → ℕ → Type 0
+HasEntries j n = n ≤ length (chunked j.entries)
+
+-- the newest of some entries, and the older ones; or there is none
+abbrev pub IsNewest : Option PlainEntry → List PlainEntry → List PlainEntry → Type 0
+IsNewest None entries older = entries ≡ []
+IsNewest (Some entry) entries older = entries ≡ entry ∷ older
 
 -- each reply is the answer of the entries before it
 abbrev pub IsLegal : Journal → Type 0
@@ -46,7 +55,7 @@ IsLegal-prop j = Legal-prop (opening_of j) (entries_of j)
 
 -- room for how many more entries there is
 abbrev pub room_of : Journal → ℕ
-room_of j = vec_capacity j.entries - vec_len j.entries
+room_of j = chunk_room j.entries
 
 -- the entry of a number, if the journal has it; the first one has the number of the opening's first
 -- entry

@@ -15,6 +15,7 @@ pub mod WorkedOrders
 pub mod WorkedSiblings
 pub mod WorkedOpenings
 pub mod Replaying
+pub mod Chunks
 pub mod Journal
 pub mod LegalJournal
 pub mod JournalView

@@ -129,29 +129,6 @@ owner_by_entries first (e ∷ older) a =
     if begins e.reply a then Some (Held (record { 0 = a })) else
     owner_next e older (owner_by_entries first older a)
 
--- what is known of the last owner of an action's work, if anything, agrees with the entries
-abbrev pub IsOwnerByEntries : ℕ → List PlainEntry → Option (ActionId × Option Owner) → Type 0
-IsOwnerByEntries first j None = Unit {0}
-IsOwnerByEntries first j (Some known) = known.1 ≡ owner_by_entries first j known.0.0
-
--- the last owner of work with this owner now, if that can be said: for good, undone and folded
--- stay, and what an action holds shares the fate of its own work
-abbrev pub last_owner : Option (ActionId × Option Owner) → Option Owner → Option (Option Owner)
-last_owner known None = None
-last_owner known (Some Folded) = Some (Some Folded)
-last_owner known (Some Gone) = Some (Some Gone)
-last_owner known (Some Base) = Some (Some Base)
-last_owner None (Some (Held x)) = None
-last_owner (Some known) (Some (Held x)) = if known.0.0 == x.0 then Some known.1 else None
-
--- the first other than a to hold its work: this one, or the holder now if there was none
-abbrev pub first_heir : ℕ → ActionId → Option Owner → ActionId
-first_heir a heir None = heir
-first_heir a heir (Some Folded) = heir
-first_heir a heir (Some Gone) = heir
-first_heir a heir (Some Base) = heir
-first_heir a heir (Some (Held x)) = if heir.0 == a then x else heir
-
 -- work with this owner counts for the reader: it is there for good, or held by the reader or an
 -- ancestor of it
 abbrev pub counts_with : List PlainEntry → Option ActionId → Option Owner → Bool

@@ -1,16 +1,15 @@
 //! `Journal`: the calls of a guardian in order, with their replies.
 
-ghost use Rattle.std.specs.Prelude.{◌≡◌, ◌<◌, ◌≤◌, ◌+◌, [], ◌∷◌, length, map, slice_get, true};
-ghost use Rattle.std.specs.Prelude.{IfOk, OnOk};
-ghost use Rattle.argus_contents.specs.Content.{plain_option};
+ghost use Rattle.std.specs.Prelude.{◌≡◌, ◌<◌, ◌≤◌, ◌+◌, ◌-◌, [], ◌∷◌, None, OnOk, length, slice_get, true};
 ghost use Rattle.argus_contents.specs.declared.limits.TheConstants.{MAX_ACTIONS, MAX_OBJECTS};
 ghost use Rattle.argus_entries.specs.Entry.{plain_entry};
 ghost use Rattle.argus_journal.specs.Folding.{fold, next_entry_number};
 ghost use Rattle.argus_journal.specs.Legal.{Legal};
-ghost use Rattle.argus_journal.specs.Opening.{KeepsNumbers, content_in, empty, is_sound};
+ghost use Rattle.argus_journal.specs.Opening.{KeepsNumbers, empty, is_sound};
 ghost use Rattle.argus_journal.specs.Opening.{opening_with};
 ghost use Rattle.argus_journal.specs.declared.limits.TheConstants.{MAX_FIRST_ENTRY};
 
+use crate::chunks::Chunks;
 use argus_contents::{Content, ObjId, Shape};
 use argus_entries::Entry;
 use argus_memory::{Heap, OutOfMemory, Room};
@@ -32,7 +31,7 @@ pub struct Journal {
     objects: Vec<(Shape, Option<Content>), Room>,
     first_action: u32,
     first_entry: u64,
-    entries: Vec<Entry, Room>,
+    entries: Chunks,
     ghost few_objects: { length objects.items ≤ MAX_OBJECTS },
     ghost few_actions: { first_action ≤ MAX_ACTIONS },
     ghost numbered: { first_entry ≤ MAX_FIRST_ENTRY },
@@ -40,7 +39,8 @@ pub struct Journal {
 }
 
 impl Journal {
-    ghost use Rattle.argus_journal.specs.Journal.{entries_of, entry_at, opening_of};
+    ghost use Rattle.argus_journal.specs.Journal.{HasEntries, IsNewest, entries_of, entry_at};
+    ghost use Rattle.argus_journal.specs.Journal.{first_entries_of, opening_of};
     ghost use Rattle.argus_journal.specs.Journal.{plain_entry_found};
     ghost use Rattle.argus_journal.specs.Journal.{plain_opened, room_of};
 
@@ -74,7 +74,7 @@ impl Journal {
             objects,
             first_action,
             first_entry,
-            entries: Vec::new(heap.room()),
+            entries: Chunks::new(heap),
         }
     }
 
@@ -114,22 +114,7 @@ impl Journal {
         ensures room { room_of self.old ≤ room_of self.new }
         ensures ok { OnOk result (0 < room_of self.new) }
     {
-        if self.entries.len() < self.entries.capacity() {
-            return Ok(());
-        }
-        self.grow()
-    }
-
-    // The same if there is no room; it is rare, so it isn't inlined.
-    #[inline(never)]
-    fn grow(&mut self) -> Result<(), OutOfMemory>
-        ensures opening { opening_of self.new ≡ opening_of self.old }
-        ensures entries { entries_of self.new ≡ entries_of self.old }
-        ensures room { room_of self.old ≤ room_of self.new }
-        ensures ok { OnOk result (0 < room_of self.new) }
-    {
-        self.entries.reserve(1)?;
-        Ok(())
+        self.entries.reserve()
     }
 
     /// Appends an entry, in the reserved room. It takes no memory.
@@ -139,7 +124,7 @@ impl Journal {
         ensures entries { entries_of self.new ≡ plain_entry entry ∷ entries_of self.old }
         ensures room { room_of self.new + 1 ≡ room_of self.old }
     {
-        self.entries.push_reserved(entry);
+        self.entries.push(entry);
     }
 
     /// Folds the entries into the opening: these are the objects of its fold, with their bases, and
@@ -158,7 +143,6 @@ impl Journal {
     {
         let first_entry = self.len();
         self.entries.clear();
-        self.entries.shrink_to_fit();
         self.objects = objects;
         self.first_action = first_action;
         self.first_entry = first_entry;
@@ -179,34 +163,27 @@ impl Journal {
         if at < self.first_entry {
             return None;
         }
-        Journal::at_place(&self.entries, (at - self.first_entry) as usize)
+        self.entries.get((at - self.first_entry) as usize)
     }
 
-    /// All entries since the opening, the oldest first.
-    pub(crate) fn entries(&self) -> &[Entry]
-        ensures { result.now ≡ self.now.entries.items }
+    /// How many entries there are since the opening.
+    pub(crate) fn count(&self) -> usize
+        ensures all { first_entries_of self.now result ≡ entries_of self.now }
+        ensures there { HasEntries self.now result }
     {
-        self.entries.as_slice()
+        self.entries.len()
     }
 
-    /// A copy of what the object held in the opening; none if it wasn't declared.
-    pub(crate) fn opening_content(
-        &self,
-        heap: Heap,
-        o: ObjId,
-    ) -> Result<Option<Content>, OutOfMemory>
-        ensures { IfOk result (λ content. plain_option content
-            ≡ content_in (opening_of self.now).objects o.0) }
+    /// The newest of this many entries, the first since the opening. `None` if they are none.
+    pub(crate) fn newest(&self, count: usize) -> Option<&Entry>
+        requires { HasEntries self.now count }
+        ensures newest { IsNewest (plain_entry_found result) (first_entries_of self.now count)
+            (first_entries_of self.now (count - 1)) }
+        ensures none { plain_entry_found result ≡ None → count ≡ 0 }
     {
-        match self.objects.get(o.0 as usize) {
-            Some((_, content)) => Content::duplicate_option(heap, content),
-            None => Ok(None),
+        if count == 0 {
+            return None;
         }
-    }
-
-    fn at_place(entries: &[Entry], place: usize) -> Option<&Entry>
-        ensures { plain_entry_found result ≡ slice_get (map plain_entry entries.now) place }
-    {
-        entries.get(place)
+        self.entries.get(count - 1)
     }
 }

@@ -5,11 +5,12 @@ ghost use Rattle.std.specs.Prelude.{◌≡◌, None, Option, Some};
 ghost use Rattle.argus_actions.specs.declared.action_id.ActionId.{ActionId};
 ghost use Rattle.argus_entries.specs.Call.{plain_call};
 ghost use Rattle.argus_entries.specs.Reply.{plain_reply};
-ghost use Rattle.argus_journal.specs.Journal.{newest_first, action_number_of};
+ghost use Rattle.argus_journal.specs.Journal.{HasEntries, action_number_of, first_entries_of};
 ghost use Rattle.argus_journal.specs.Replaying as by_entries;
 
+use crate::journal::Journal;
 use argus_actions::ActionId;
-use argus_entries::{Call, Entry, Reply};
+use argus_entries::{Call, Reply};
 
 pub(crate) fn begins(reply: &Reply, a: ActionId) -> bool
     ensures { result ≡ by_entries.begins (plain_reply reply.now) a.0 }
@@ -46,41 +47,44 @@ fn begun_by_call(call: &Call) -> Option<ActionId>
 }
 
 /// The parent of the action; none for a topaction.
-pub(crate) fn parent_of(entries: &[Entry], a: ActionId) -> Option<ActionId>
+pub(crate) fn parent_of(journal: &Journal, count: usize, a: ActionId) -> Option<ActionId>
+    requires { HasEntries journal.now count }
     ensures { action_number_of result ≡ by_entries.parent_by_entries
-        (newest_first entries.now) a.0 }
+        (first_entries_of journal.now count) a.0 }
 {
-    let mut rest = entries;
-    while let Some((entry, older)) = rest.split_last() {
+    let mut left = count;
+    while let Some(entry) = journal.newest(left) {
         if begins(&entry.reply, a) {
             return parent_by(&entry.call);
         }
-        rest = older;
+        left -= 1;
     }
     None
 }
 
 /// The action that began it: its parent or its creator.
-pub(crate) fn begun_by(entries: &[Entry], a: ActionId) -> Option<ActionId>
-    ensures { action_number_of result ≡ by_entries.begun_by_entries (newest_first entries.now) a.0 }
+pub(crate) fn begun_by(journal: &Journal, count: usize, a: ActionId) -> Option<ActionId>
+    requires { HasEntries journal.now count }
+    ensures { action_number_of result ≡ by_entries.begun_by_entries (first_entries_of journal.now count) a.0 }
 {
-    let mut rest = entries;
-    while let Some((entry, older)) = rest.split_last() {
+    let mut left = count;
+    while let Some(entry) = journal.newest(left) {
         if begins(&entry.reply, a) {
             return begun_by_call(&entry.call);
         }
-        rest = older;
+        left -= 1;
     }
     None
 }
 
 /// Whether `x` is `a` or an ancestor of it.
-pub(crate) fn is_above(entries: &[Entry], x: ActionId, a: ActionId) -> bool
-    ensures { result ≡ by_entries.is_ancestor_by_entries (newest_first entries.now) x.0 a.0 }
+pub(crate) fn is_above(journal: &Journal, count: usize, x: ActionId, a: ActionId) -> bool
+    requires { HasEntries journal.now count }
+    ensures { result ≡ by_entries.is_ancestor_by_entries (first_entries_of journal.now count) x.0 a.0 }
 {
     let mut at = a;
-    let mut rest = entries;
-    while let Some((entry, older)) = rest.split_last() {
+    let mut left = count;
+    while let Some(entry) = journal.newest(left) {
         if begins(&entry.reply, at) {
             if at == x {
                 return true;
@@ -90,19 +94,26 @@ pub(crate) fn is_above(entries: &[Entry], x: ActionId, a: ActionId) -> bool
                 None => return false,
             }
         }
-        rest = older;
+        left -= 1;
     }
     x == at
 }
 
 /// Whether `x`, or an ancestor of it, is another than `b` and was begun by `c`.
-pub(crate) fn is_under_sibling(entries: &[Entry], c: ActionId, b: ActionId, x: ActionId) -> bool
+pub(crate) fn is_under_sibling(
+    journal: &Journal,
+    count: usize,
+    c: ActionId,
+    b: ActionId,
+    x: ActionId,
+) -> bool
+    requires { HasEntries journal.now count }
     ensures { result ≡ by_entries.is_under_sibling_by_entries
-        (newest_first entries.now) c.0 b.0 x.0 }
+        (first_entries_of journal.now count) c.0 b.0 x.0 }
 {
     let mut at = x;
-    let mut rest = entries;
-    while let Some((entry, older)) = rest.split_last() {
+    let mut left = count;
+    while let Some(entry) = journal.newest(left) {
         if begins(&entry.reply, at) {
             if at != b && is_this_action(begun_by_call(&entry.call), c) {
                 return true;
@@ -112,7 +123,7 @@ pub(crate) fn is_under_sibling(entries: &[Entry], c: ActionId, b: ActionId, x: A
             };
             at = parent;
         }
-        rest = older;
+        left -= 1;
     }
     false
 }

@@ -17,6 +17,7 @@
 //! legal journal, whatever its opening.
 #![tactic(auto)]
 
+mod chunks;
 pub mod folding;
 mod journal;
 mod kinship;
@@ -26,7 +27,6 @@ pub mod limits;
 pub mod next_entry;
 mod owner;
 mod owning;
-mod replaying;
 pub mod worked;
 pub mod worked_openings;
 pub mod worked_orders;
@@ -37,4 +37,3 @@ pub use journal::Journal;
 pub use legal_journal::LegalJournal;
 pub use owner::Owner;
 pub use owning::owner_of;
-pub use replaying::{replay_base, replay_for};

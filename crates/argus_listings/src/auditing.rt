@@ -1,11 +1,10 @@
 //! An object's lines in the audit: what the journal's writes leave when they are run again.
 
-ghost use Rattle.std.specs.Prelude.{◌≡◌, ◌<◌, ◌++◌, OnOk, map, string_bytes, true};
+ghost use Rattle.std.specs.Prelude.{◌≡◌, ◌<◌, ◌++◌, OnOk, map, string_bytes};
 ghost use Rattle.argus_audit.specs.Audit.{IsAudit};
 ghost use Rattle.argus_journal.specs.Journal.{entries_of, opening_of};
 ghost use Rattle.argus_journal.specs.Legal.{Legal};
 ghost use Rattle.argus_journal.specs.Objects.{declared};
-ghost use Rattle.argus_journal.specs.Opening.{is_sound};
 ghost use Rattle.argus_journal.specs.JournalFacts.{base_of, visible_to};
 ghost use Rattle.argus_listings.specs.Listing.{audit_text, base_line, length_line};
 ghost use Rattle.argus_listings.specs.Listing.{version_lines};
@@ -50,7 +49,6 @@ fn append_base_again(
     text: &mut String<Room>,
 ) -> Result<(), OutOfMemory>
     requires legal { Legal (opening_of journal.now) (entries_of journal.now) }
-    requires sound { is_sound (opening_of journal.now) ≡ true }
     requires audit { IsAudit audit.now (opening_of journal.now) (entries_of journal.now) }
     ensures { OnOk result (string_bytes text.new ≡ string_bytes text.old
         ++ base_line name.now (base_of (opening_of journal.now) (entries_of journal.now) o.0)) }
@@ -70,7 +68,6 @@ fn append_versions_again(
     text: &mut String<Room>,
 ) -> Result<(), OutOfMemory>
     requires legal { Legal (opening_of journal.now) (entries_of journal.now) }
-    requires sound { is_sound (opening_of journal.now) ≡ true }
     requires audit { IsAudit audit.now (opening_of journal.now) (entries_of journal.now) }
     ensures { OnOk result (string_bytes text.new ≡ string_bytes text.old
         ++ version_lines name.now (map (λ v. (

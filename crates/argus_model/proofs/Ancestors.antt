@@ -1,6 +1,6 @@
 -- Lineages go down in number, and an ancestor's ancestors are ancestors.
-use Rattle.std.proofs.Common.{List, [], ap, arith, cond, inl, inr, refl, subst, sym, true, ℕ, ⊎_elim, ◌++◌, ◌+◌, ◌<◌}
-use Rattle.std.proofs.Common.{◌∙◌, ◌∷◌, ◌≡◌, ◌≢◌, ◌≤◌, ◌⊎◌}
+use Rattle.std.proofs.Common.{List, [], ap, arith, cond, inl, inr, refl, sym, true, ℕ, ⊎_elim, ◌++◌, ◌+◌, ◌<◌, ◌∙◌, ◌∷◌}
+use Rattle.std.proofs.Common.{◌≡◌, ◌≢◌, ◌≤◌, ◌⊎◌}
 use Rattle.std.specs.Prelude.{◌==◌}
 use Rattle.std.proofs.lemmas.Bool.{cases_eq, eqb-true, ne_eqb, or_cases}
 use Rattle.std.proofs.lemmas.Bool.Decides.{nat_tests}
@@ -34,12 +34,8 @@ lineage_cases h from y = grind (arith, nat_tests)
 
 -- each number is its own ancestor
 pub ancestor_self : {V : Type 0} (h : History V) (y : ℕ) → is_ancestor h y y ≡ true
-ancestor_self (Opened n) y =
-    ⊎_elim (λ e. subst (λ u. contains (to_base u) u ≡ true) (sym e) (contains_first 0 []))
-    (λ ne. ap (λ b. contains (cond b (0 ∷ []) (y ∷ 0 ∷ [])) y) (ne_eqb y 0 ne) ∙ contains_first y (0 ∷ []))
-    (cases_eq y 0)
-ancestor_self (Began from ▹ h) y = let ih = ancestor_self h y in let k = lineage_cases h from y in
-    grind (arith, nat_tests, contains_first)
+ancestor_self (Opened n) y = grind (arith, nat_tests, contains_first 0, contains_first y (0 ∷ []), cases_eq y 0)
+ancestor_self (Began from ▹ h) y = grind (arith, nat_tests, ancestor_self h y, lineage_cases h from y, contains_first)
 ancestor_self (Committed a ▹ h) y = ancestor_self h y
 ancestor_self (Aborted a ▹ h) y = ancestor_self h y
 ancestor_self (Accessed a o v ▹ h) y = ancestor_self h y
@@ -49,14 +45,7 @@ opened_lineage : (y : ℕ) → y ≢ 0 → to_base y ≡ y ∷ 0 ∷ []
 opened_lineage y ne = ap (λ b. cond b (0 ∷ []) (y ∷ 0 ∷ [])) (ne_eqb y 0 ne)
 
 opened_ancestor : (x y : ℕ) → contains (to_base y) x ≡ true → (x ≡ y) ⊎ ((x ≡ 0) × (y ≢ 0))
-opened_ancestor x y a =
-    ⊎_elim
-    (λ e. let m : contains (0 ∷ []) x ≡ true = subst (λ u. contains (to_base u) x ≡ true) e a in
-    inl (grind (arith, nat_tests)))
-    (λ ne. let m : contains (y ∷ 0 ∷ []) x ≡ true = subst (λ t. contains t x ≡ true) (opened_lineage y ne) a in
-    ⊎_elim (λ q. inl (eqb-true x y q)) (λ q. inr (grind (arith, nat_tests), ne))
-    (or_cases (x == y) (contains (0 ∷ []) x) m))
-    (cases_eq y 0)
+opened_ancestor x y a = grind (arith, nat_tests, opened_lineage y, cases_eq y 0)
 
 small_step : (n p x y : ℕ) (tp ty t : List ℕ) → p < n → y < n + 1 → ((y ≡ n) × (t ≡ y ∷ tp)) ⊎ ((y ≢ n) × (t ≡ ty))
     → (contains tp x ≡ true → x ≤ p) → (y < n → contains ty x ≡ true → x ≤ y) → contains t x ≡ true → x ≤ y
@@ -97,18 +86,8 @@ split_step : (n p x y : ℕ) (tp ty tx t tx' : List ℕ) → p < n → y < n + 1
     → ((y ≡ n) × (t ≡ y ∷ tp)) ⊎ ((y ≢ n) × (t ≡ ty)) → (x ≢ n → tx' ≡ tx) → (contains tp x ≡ true → x ≤ p)
     → (y < n → contains ty x ≡ true → x ≤ y) → (contains tp x ≡ true → Split tp tx x)
     → (y < n → contains ty x ≡ true → Split ty tx x) → contains t x ≡ true → Split t tx' x
-split_step n p x y tp ty tx t tx' pn yn ne (inl k) kx lp ly sp sy a =
-    let m : contains (y ∷ tp) x ≡ true = rw k.1 at a in
-    let m' : contains tp x ≡ true = grind (arith, nat_tests) in
-    let l : x ≤ p = lp m' in
-    let ex : tx' ≡ tx = kx (omega arith) in
-    rw (k.1, ex) (split_more y x tp tx (omega arith) (sp m'))
-split_step n p x y tp ty tx t tx' pn yn ne (inr k) kx lp ly sp sy a =
-    let m : contains ty x ≡ true = rw k.1 at a in
-    let y' : y < n = omega (arith, k.0) in
-    let l : x ≤ y = ly y' m in
-    let ex : tx' ≡ tx = kx (omega arith) in
-    rw (k.1, ex) (sy y' m)
+split_step n p x y tp ty tx t tx' pn yn ne (inl k) kx lp ly sp sy a = grind (arith, nat_tests, split_more)
+split_step n p x y tp ty tx t tx' pn yn ne (inr k) kx lp ly sp sy a = grind (arith, nat_tests)
 
 -- a begin leaves the lineage of every other
 pub lineage_old : {V : Type 0} (h : History V) (from : Origin) (y : ℕ) → y ≢ next_action h
@@ -265,5 +244,4 @@ folded_next (Accessed a o v ▹ h) = folded_next h
 -- what is below an action that is under one of these is under one of them, too
 pub under_below : {V : Type 0} (h : History V) (zs : List ℕ) (x y : ℕ) → ParentsAreOlder h → y < next_action h
     → is_under h zs x ≡ true → is_ancestor h x y ≡ true → is_under h zs y ≡ true
-under_below h zs x y f l u a = let w = any_found (λ z. is_ancestor h z x) zs u in
-    any_from (λ z. is_ancestor h z y) zs w.0 w.1 (ancestor_trans h w.0 x y f l w.2 a)
+under_below h zs x y f l u a = grind (arith, nat_tests, any_found, any_from, ancestor_trans h)

@@ -1,10 +1,9 @@
 -- The work of an action is each access that it owns, once.
-use Rattle.std.proofs.Common.{Bool, List, None, Option, Some, [], ap, arith, cond, false, refl, subst}
-use Rattle.std.proofs.Common.{sym, true, ℕ, ⊎_elim, ◌++◌, ◌<◌, ◌∙◌, ◌∷◌, ◌≡◌, ◌≢◌}
+use Rattle.std.proofs.Common.{Bool, List, None, Option, Some, [], ap, arith, cond, false, refl, subst, sym, true, ℕ}
+use Rattle.std.proofs.Common.{⊎_elim, ◌++◌, ◌<◌, ◌∙◌, ◌∷◌, ◌≡◌, ◌≢◌}
 use Rattle.std.specs.List.Sorted.{IsPermutation}
 use Rattle.std.specs.Prelude.{◌==◌, ◌||◌}
-use Rattle.std.proofs.lemmas.Bool.{both_ways, cases_Bool, cases_eq, eq-eqb, eqb-true}
-use Rattle.std.proofs.lemmas.Bool.{false_from_ne_true, false≢true, ne_eqb}
+use Rattle.std.proofs.lemmas.Bool.{cases_Bool, cases_eq, eq-eqb, eqb-true, false_from_ne_true, false≢true, ne_eqb}
 use Rattle.std.proofs.lemmas.Bool.Decides.{nat_tests}
 use Rattle.std.proofs.lemmas.List.Sorted.{IsPermutation-append, IsPermutation-cons, IsPermutation-middle}
 use Rattle.std.proofs.lemmas.List.Sorted.{IsPermutation-refl, IsPermutation-trans}
@@ -83,12 +82,7 @@ handed_other s p y (Some x) e n = grind (arith, nat_tests)
 pub kept_exact : (lost : ℕ → Bool) (y : ℕ) (q : Option ℕ) → lost y ≡ false
     → is_exactly q y ≡ is_exactly (unless_lost lost q) y
 kept_exact lost y None n = refl
-kept_exact lost y (Some x) n =
-    ⊎_elim
-    (λ k. ne_eqb x y (λ e. both_ways (lost y) n (subst (λ u. lost u ≡ true) e k))
-    ∙ sym (ap (λ b. is_exactly (cond b None (Some x)) y) k))
-    (λ k. sym (ap (λ b. is_exactly (cond b None (Some x)) y) k))
-    (cases_Bool (lost x))
+kept_exact lost y (Some x) n = grind (arith, nat_tests, cases_Bool (lost x))
 
 -- what began last answers for nothing that was done before
 new_owns_none : {V : Type 0} (h : History V) → Orderly h → (y a : ℕ) → y ≡ next_action h

@@ -1,10 +1,10 @@
 -- For whom an action's work counts, as time goes on.
 use Rattle.std.proofs.Common.{Bool, List, None, Option, Some, ap, arith, cond, false, inl, inr, refl, subst, sym, true}
-use Rattle.std.proofs.Common.{ℕ, ⊎_elim, ◌<◌, ◌∙◌, ◌∷◌, ◌≡◌, ◌≢◌}
+use Rattle.std.proofs.Common.{ℕ, ⊎_elim, ◌<◌, ◌∙◌, ◌≡◌, ◌≢◌}
 use Rattle.std.specs.List.{IsDistinct}
-use Rattle.std.specs.Prelude.{not, ◌&&◌, ◌==◌, ◌||◌}
-use Rattle.std.proofs.lemmas.Bool.{and_parts, both_ways, cases_Bool, cases_eq, eq-eqb, eqb-true, false_from_ne_true}
-use Rattle.std.proofs.lemmas.Bool.{false≢true, ne_eqb}
+use Rattle.std.specs.Prelude.{◌&&◌, ◌==◌}
+use Rattle.std.proofs.lemmas.Bool.{and_parts, both_ways, cases_Bool, cases_eq, eqb-true, false_from_ne_true, false≢true}
+use Rattle.std.proofs.lemmas.Bool.{ne_eqb}
 use Rattle.std.proofs.lemmas.Bool.Decides.{nat_tests}
 use Rattle.argus_model.specs.Ancestors.{is_ancestor, is_under, parent}
 use Rattle.argus_model.specs.Event.{Aborted, Accessed, Began, Committed, Event}
@@ -15,7 +15,6 @@ use Rattle.argus_model.specs.OwnerSteps.{as_owner, owner_inherited, owner_by_ste
 use Rattle.argus_model.specs.Status.{has_committed, is_begun, is_doomed, is_live}
 use Rattle.argus_model.specs.Work.{committed_topactions}
 use Rattle.argus_model.proofs.Ancestors.{parent_cases, parent_older}
-use Rattle.argus_model.proofs.Bools.{and_none}
 use Rattle.argus_model.proofs.Live.{is_begun_from, is_begun_parts, live_stands, stands_is_live}
 use Rattle.argus_model.proofs.Numbers.{different}
 use Rattle.argus_model.proofs.Owner.{owner_is, parent_unfolded}
@@ -29,15 +28,9 @@ use Rattle.argus_model.proofs.Topactions.{tops_over}
 -- who answers for an action answers for itself, too
 pub owner_stands : {V : Type 0} (h : History V) → Orderly h → (a x : ℕ) → owner_by_steps h a ≡ Some x
     → stands h x ≡ true
-owner_stands {V} (Opened n) w a x e =
-    some_at (owner_by_steps {V = V} (Opened n) x) x
-    (⊎_elim (λ k. grind (arith, nat_tests)) (λ k. absurd (grind (arith, nat_tests))) (cases_eq a 0))
+owner_stands {V} (Opened n) w a x e = grind (arith, nat_tests, some_at, cases_eq a 0)
 owner_stands (Began from ▹ h) w a x e =
-    ⊎_elim
-    (λ k. let q : a ≡ x = grind arith in stands_new h from x (sym q ∙ k.0))
-    (λ k. let ih = owner_stands h w.1 a x (sym k.1 ∙ e) in let l = stands_begun h x ih in
-    stands_old h from x (λ q. omega arith) ∙ ih)
-    (owner_cases h from a)
+    grind (arith, nat_tests, stands_new, owner_stands h w.1 a x, stands_begun, stands_old, owner_cases)
 owner_stands (Committed s ▹ h) w a x e =
     let f = parents_are_older h w.1 in
     let i = parent_is h f s w.0.not_base w.0.standing in
@@ -51,10 +44,7 @@ owner_stands (Committed s ▹ h) w a x e =
     (λ k. stays x (owner_stands h w.1 a x k.0) k.1)
     (handed_cases s p (owner_by_steps h a) x e)
 owner_stands (Aborted z ▹ h) w a x e =
-    let k = kept_cases (is_under h z) (owner_by_steps h a) x e in
-    let ih = owner_stands h w.1 a x k.0 in
-    some_at (owner_by_steps (Aborted z ▹ h) x) x
-    (kept_stays (is_under h z) (owner_by_steps h x) x (at_some (owner_by_steps h x) x ih) k.1)
+    grind (arith, nat_tests, kept_cases, owner_stands h w.1 a x, some_at, kept_stays, at_some)
 owner_stands (Accessed b o v ▹ h) w a x e = owner_stands h w.1 a x e
 
 abbrev is_gone : Owner → Bool
@@ -76,20 +66,12 @@ none_of (Some x) e =
 -- what is called held by x has the owner x by steps
 pub some_of : (q : Option ℕ) (x : ℕ) → as_owner q ≡ Held x → q ≡ Some x
 some_of None x e = absurd (false≢true (sym (ap is_gone e)))
-some_of (Some y) x e =
-    ⊎_elim
-    (λ k. absurd (false≢true (sym (ap is_base (sym (ap (λ b. cond b Base (Held y)) (eq-eqb y 0 k)) ∙ e)))))
-    (λ k. ap Some (ap held_number (sym (ap (λ b. cond b Base (Held y)) (ne_eqb y 0 k)) ∙ e)))
-    (cases_eq y 0)
+some_of (Some y) x e = grind (arith, nat_tests, held_number, cases_eq y 0)
 
 -- what is called there for good has the base as owner by steps
 pub base_of : (q : Option ℕ) → as_owner q ≡ Base → q ≡ Some 0
 base_of None e = absurd (false≢true (ap is_base e))
-base_of (Some y) e =
-    ⊎_elim
-    (λ k. ap Some k)
-    (λ k. absurd (false≢true (ap is_base (sym (ap (λ b. cond b Base (Held y)) (ne_eqb y 0 k)) ∙ e))))
-    (cases_eq y 0)
+base_of (Some y) e = grind (arith, nat_tests, cases_eq y 0)
 
 -- an owner other than the base is called a holder
 pub as_held : (x : ℕ) → x ≢ 0 → as_owner (Some x) ≡ Held x
@@ -97,8 +79,7 @@ as_held x n = ap (λ b. cond b Base (Held x)) (ne_eqb x 0 n)
 
 -- what is begun stays begun
 pub begun_stays : {V : Type 0} (h : History V) (e : Event V) (a : ℕ) → is_begun h a ≡ true → is_begun (e ▹ h) a ≡ true
-begun_stays h (Began from) a k = let q = is_begun_parts h a k in
-    is_begun_from (Began from ▹ h) a q.0 (omega (arith, q.1))
+begun_stays h (Began from) a k = grind (arith, nat_tests, is_begun_parts h a k, is_begun_from (Began from ▹ h) a)
 begun_stays h (Committed s) a k = k
 begun_stays h (Aborted z) a k = k
 begun_stays h (Accessed b o v) a k = k
@@ -110,8 +91,7 @@ base_spared h z w = (stands_abort h z 0 (base_stands (Aborted z ▹ h) w)).1
 -- a begun action that has no owner never gets one again
 pub none_stays : {V : Type 0} (h : History V) (e : Event V) (a : ℕ) → is_begun h a ≡ true → owner_by_steps h a ≡ None
     → owner_by_steps (e ▹ h) a ≡ None
-none_stays h (Began from) a k n = let q = is_begun_parts h a k in
-    ⊎_elim (λ c. absurd (omega (arith, q.1, c.0))) (λ c. c.1 ∙ n) (owner_cases h from a)
+none_stays h (Began from) a k n = grind (arith, nat_tests, is_begun_parts h a k, owner_cases h from a)
 none_stays h (Committed s) a k n = ap (owner_inherited s (parent h s)) n
 none_stays h (Aborted z) a k n = ap (unless_lost (is_under h z)) n
 none_stays h (Accessed b o v) a k n = n
@@ -119,8 +99,7 @@ none_stays h (Accessed b o v) a k n = n
 -- what the base owns stays with the base
 pub base_stays : {V : Type 0} (h : History V) (e : Event V) → Orderly (e ▹ h) → (a : ℕ) → owner_by_steps h a ≡ Some 0
     → owner_by_steps (e ▹ h) a ≡ Some 0
-base_stays h (Began from) w a b = let l = owned_begun h a 0 b in
-    ⊎_elim (λ c. absurd (omega (arith, c.0))) (λ c. c.1 ∙ b) (owner_cases h from a)
+base_stays h (Began from) w a b = grind (arith, nat_tests, owned_begun h a 0 b, owner_cases h from a)
 base_stays h (Committed s) w a b = handed_stays s (parent h s) (owner_by_steps h a) 0 b (λ q. w.0.not_base (sym q))
 base_stays h (Aborted z) w a b = kept_stays (is_under h z) (owner_by_steps h a) 0 b (base_spared h z w)
 base_stays h (Accessed d o v) w a b = b
@@ -153,15 +132,12 @@ over_stays h e w a k n =
 -- what a doomed action did is gone
 pub owner_when_doomed : {V : Type 0} (h : History V) → Orderly h → (a : ℕ) → is_begun h a ≡ true → is_doomed h a ≡ true
     → owner h a ≡ Gone
-owner_when_doomed h w a k d = let q = is_begun_parts h a k in
-    owner_is h w a k ∙ ap as_owner (owner_gone h w a q.0 q.1 d)
+owner_when_doomed h w a k d = grind (arith, nat_tests, is_begun_parts h a k, owner_is h w a k, owner_gone h w a)
 
 -- a live action answers for itself
 pub owner_when_live : {V : Type 0} (h : History V) → Orderly h → (a : ℕ) → is_live h a ≡ true → owner h a ≡ Held a
 owner_when_live h w a l =
-    let k = (and_parts (is_begun h a) (not (has_committed h a) && not (is_doomed h a)) l).0 in
-    let s = live_stands h w a l in
-    owner_is h w a k ∙ ap as_owner (at_some (owner_by_steps h a) a s.1) ∙ as_held a s.0
+    grind (arith, nat_tests, live_stands h w a l, owner_is h w a, at_some (owner_by_steps h a) a, as_held a)
 
 -- for a committed subaction answers who answers for its parent
 pub owner_when_committed : {V : Type 0} (h : History V) → Orderly h → (a : ℕ) → is_begun h a ≡ true
@@ -194,37 +170,10 @@ held_by_live h w a x k e =
 pub tops_are : {V : Type 0} (h : History V) → Orderly h → (t : ℕ)
     → contains (committed_topactions h) t ≡ (has_committed h t && parent h t == 0)
 tops_are (Opened n) w t = refl
-tops_are (Began from ▹ h) w t =
-    ⊎_elim
-    (λ c. tops_are h w.1 t ∙ ap (λ b. b && parent h t == 0) c ∙ sym (ap (λ b. b && parent (Began from ▹ h) t == 0) c))
-    (λ c. let l = committed_begun h w.1 t c in
-    tops_are h w.1 t
-    ∙ ap (λ p. has_committed h t && p == 0)
-    (⊎_elim (λ k. absurd (omega (arith, k.0, l.1))) (λ k. sym k.1) (parent_cases h from t)))
-    (⊎_elim (λ c. inr c) (λ c. inl c) (cases_Bool (has_committed h t)))
+tops_are (Began from ▹ h) w t = grind (arith, nat_tests, tops_are h w.1 t, committed_begun, parent_cases)
 tops_are (Aborted z ▹ h) w t = tops_are h w.1 t
 tops_are (Accessed a o v ▹ h) w t = tops_are h w.1 t
-tops_are (Committed s ▹ h) w t =
-    let rest = tops_are h w.1 t in
-    ⊎_elim
-    (λ e. ap (λ b. contains (cond b (s ∷ committed_topactions h) (committed_topactions h)) t) e
-    ∙ ap (λ b. (t == s) || b) rest
-    ∙ ⊎_elim
-    (λ k. ap (λ b. b || (has_committed h t && parent h t == 0)) (eq-eqb t s k)
-    ∙ sym (ap (λ b. (b || has_committed h t) && parent h t == 0) (eq-eqb s t (sym k))
-    ∙ subst (λ u. (parent h u == 0) ≡ true) (sym k) e))
-    (λ k. ap (λ b. b || (has_committed h t && parent h t == 0)) (ne_eqb t s k)
-    ∙ sym (ap (λ b. (b || has_committed h t) && parent h t == 0) (ne_eqb s t (λ i. k (sym i)))))
-    (cases_eq t s))
-    (λ e. ap (λ b. contains (cond b (s ∷ committed_topactions h) (committed_topactions h)) t) e
-    ∙ rest
-    ∙ ⊎_elim
-    (λ k. let z : (parent h t == 0) ≡ false = subst (λ u. (parent h u == 0) ≡ false) (sym k) e in
-    ap (λ b. has_committed h t && b) z ∙ and_none (has_committed h t)
-    ∙ sym (ap (λ b. (s == t || has_committed h t) && b) z ∙ and_none (s == t || has_committed h t)))
-    (λ k. sym (ap (λ b. (b || has_committed h t) && parent h t == 0) (ne_eqb s t (λ i. k (sym i)))))
-    (cases_eq t s))
-    (cases_Bool (parent h s == 0))
+tops_are (Committed s ▹ h) w t = grind (arith, nat_tests, tops_are h w.1 t, cases_eq t s, cases_Bool (parent h s == 0))
 
 -- what those on the list of committed topactions did is there for good
 pub tops_stay : {V : Type 0} (h : History V) → Orderly h → (t : ℕ) → contains (committed_topactions h) t ≡ true
@@ -256,13 +205,4 @@ tops-IsDistinct (Began from ▹ h) w = tops-IsDistinct h w.1
 tops-IsDistinct (Aborted z ▹ h) w = tops-IsDistinct h w.1
 tops-IsDistinct (Accessed a o v ▹ h) w = tops-IsDistinct h w.1
 tops-IsDistinct (Committed s ▹ h) w =
-    let tops = committed_topactions h in
-    let rest = tops-IsDistinct h w.1 in
-    ⊎_elim
-    (λ e. subst (λ b. IsDistinct ◌==◌ (cond b (s ∷ tops) tops)) (sym e) (
-      different s tops
-          (false_from_ne_true (contains tops s) (λ m. both_ways (stands h s) (tops_over h w.1 s m) w.0.standing)),
-      rest,
-    ))
-    (λ e. subst (λ b. IsDistinct ◌==◌ (cond b (s ∷ tops) tops)) (sym e) rest)
-    (cases_Bool (parent h s == 0))
+    grind (arith, nat_tests, tops-IsDistinct h w.1, different s, tops_over h w.1 s, cases_Bool (parent h s == 0))

@@ -1,4 +1,5 @@
 -- The depth that is read off the rows is that of the lineage.
+use Rattle.std.proofs.lemmas.Bool.Decides.{nat_tests}
 use Rattle.std.proofs.Common.{Bool, List, [], ap, arith, cond, false, length, refl, suc, sym, true, ℕ, ⊎_elim, inl, inr}
 use Rattle.std.proofs.Common.{◌+◌, ◌-◌, ◌∙◌, ◌∷◌, ◌≡◌, ◌≢◌}
 use Rattle.std.specs.List.{list_any}
@@ -41,38 +42,20 @@ stands_known h a l =
 
 depth_up : {V : Type 0} (h : History V) → Orderly h → (a : ℕ) → IsKnown h a
     → depth_at (folded h) (rows h) a + 1 ≡ length (lineage h a)
-depth_up {V} (Opened n) w a k =
-    ⊎_elim
-    (λ e. ap (λ b. length (to_base b)) (sym e))
-    (λ m. let q = is_begun_parts {V = V} (Opened n) a m in absurd (omega (arith, q.0, q.1)))
-    k
+depth_up {V} (Opened n) w a k = grind (arith, nat_tests, is_begun_parts)
 depth_up (Began from ▹ h) w a k =
-    let top = rows_length h in
-    let up = depth_at (folded h) (rows h) (origin_parent from) in
-    let old = depth_at (folded h) (rows h) a in
-    ⊎_elim
-    (λ e. ap (λ b. cond b (up + 1) old + 1) (eq-eqb a (folded h + length (rows h) + 1) (e ∙ sym top))
-    ∙ more up (length (lineage h (origin_parent from)))
-    (depth_up h w.1 (origin_parent from) (stands_known h (origin_parent from) w.0))
-    ∙ sym (ap (λ b. length (cond b (a ∷ lineage h (origin_parent from)) (lineage h a))) (eq-eqb a (next_action h) e)))
-    (λ n. ap (λ b. cond b (up + 1) old + 1) (ne_eqb a (folded h + length (rows h) + 1) (λ e. n (e ∙ top)))
-    ∙ depth_up h w.1 a (before n k)
-    ∙ sym (ap (λ b. length (cond b (a ∷ lineage h (origin_parent from)) (lineage h a))) (ne_eqb a (next_action h) n)))
-    (cases_eq a (next_action h))
-  where
-    more : (d l : ℕ) → d + 1 ≡ l → d + 1 + 1 ≡ suc l
-    more d l e = omega (arith, e)
-
-    before : a ≢ next_action h → IsKnown (Began from ▹ h) a → IsKnown h a
-    before n (inl e) = inl e
-    before n (inr m) = let q = is_begun_parts (Began from ▹ h) a m in
-        inr (is_begun_from h a q.0 (let u = q.1 in omega arith))
-depth_up (Committed s ▹ h) w a k =
-    ap (λ d. d + 1) (depth_at-mark (folded h) (λ x. x == s) IsCommitted (rows h) a) ∙ depth_up h w.1 a k
-depth_up (Aborted zs ▹ h) w a k =
-    ap (λ d. d + 1)
-    (depth_at-mark (folded h) (λ x. list_any (λ z. is_above (folded h) (rows h) z x) zs) IsAborted (rows h) a)
-    ∙ depth_up h w.1 a k
+    grind (
+      arith,
+      nat_tests,
+      rows_length h,
+      depth_up h w.1 (origin_parent from) (stands_known h (origin_parent from) w.0),
+      stands_known,
+      depth_up h w.1 a,
+      is_begun_parts,
+      is_begun_from,
+    )
+depth_up (Committed s ▹ h) w a k = grind (arith, nat_tests, depth_at-mark, depth_up h w.1 a k)
+depth_up (Aborted zs ▹ h) w a k = grind (arith, nat_tests, depth_at-mark, depth_up h w.1 a k)
 depth_up (Accessed d o v ▹ h) w a k = depth_up h w.1 a k
 
 -- the depth that the rows give an action is the length of its lineage without the base

@@ -1,4 +1,5 @@
 -- The table of what the committed topactions left has the bases, and an event adds at most one effect at the end.
+use Rattle.std.proofs.lemmas.Bool.Decides.{nat_tests}
 use Rattle.std.proofs.Common.{Bool, List, Some, [], ap, append-nil, arith, cond, false, refl, subst, sym, true, ℕ}
 use Rattle.std.proofs.Common.{⊎_elim, ◌++◌, ◌∙◌, ◌∷◌, ◌≡◌, ◌≢◌}
 use Rattle.std.specs.Prelude.{map, reverse, ◌&&◌, ◌==◌, ◌||◌}
@@ -65,21 +66,7 @@ module _ {V C A : Type 0} (meaning : Meaning V C A) where
   pub contains_written : (es : List (Access V)) (o : ℕ)
       → contains (written_objects meaning es) o ≡ touches meaning.writes es o false
   contains_written [] o = refl
-  contains_written (e ∷ es) o =
-      ⊎_elim
-      (λ w. ap (λ b. contains (cond b (insert e.object (written_objects meaning es)) (written_objects meaning es)) o) w
-      ∙ contains_insert e.object (written_objects meaning es) o
-      ∙ ap (λ r. (o == e.object) || r) (contains_written es o)
-      ∙ sym (ap (λ b. b || touches meaning.writes es o false)
-      (ap (λ b. e.object == o && b) w ∙ anded (e.object == o) ∙ eqb_sym e.object o)))
-      (λ w. ap (λ b. contains (cond b (insert e.object (written_objects meaning es)) (written_objects meaning es)) o) w
-      ∙ contains_written es o
-      ∙ sym (ap (λ b. b || touches meaning.writes es o false) (and_right (e.object == o) (meaning.writes e.what) w)))
-      (cases_Bool (meaning.writes e.what))
-    where
-      anded : (b : Bool) → (b && true) ≡ b
-      anded true = refl
-      anded false = refl
+  contains_written (e ∷ es) o = grind (arith, nat_tests, contains_insert, contains_written es o, touches, eqb_sym)
 
   -- the written objects are listed in increasing number
   pub written-IsRising : (es : List (Access V)) → IsRising (written_objects meaning es)
@@ -113,40 +100,22 @@ module _ {V C A : Type 0} (meaning : Meaning V C A) where
       → owner_by_steps h a ≡ Some y → touches meaning.writes (work h y) o all ≡ true
   work_of_user (Opened n) w a y o all u e = absurd (false≢true u)
   work_of_user (Began from ▹ h) w a y o all u e =
-      ⊎_elim (λ k. absurd (let l = has_used_begun meaning.writes h w.1 a o all u in omega (arith, k.0)))
-      (λ k. work_of_user h w.1 a y o all u (sym k.1 ∙ e)) (owner_cases h from a)
+      grind (arith, nat_tests, has_used_begun, work_of_user h w.1 a y o all u, owner_cases)
   work_of_user (Committed s ▹ h) w a y o all u e =
-      let p = parent h s in
-      ⊎_elim
-      (λ k. subst (λ q. touches meaning.writes (work (Committed s ▹ h) q) o all ≡ true) (sym k.1)
-      (subst (λ b. touches meaning.writes (cond b (work h s ++ work h p) (work h p)) o all ≡ true)
-      (sym (eq-eqb p p refl)) (touches_front (work h s) (work h p) o all (work_of_user h w.1 a s o all u k.0))))
-      (λ k. let ih = work_of_user h w.1 a y o all u k.0 in
-      ⊎_elim
-      (λ q. subst (λ b. touches meaning.writes (cond b (work h s ++ work h y) (work h y)) o all ≡ true) (sym q)
-      (touches_back (work h s) (work h y) o all ih))
-      (λ q. subst (λ b. touches meaning.writes (cond b (work h s ++ work h y) (work h y)) o all ≡ true) (sym q) ih)
-      (cases_Bool (p == y)))
-      (handed_cases s p (owner_by_steps h a) y e)
+      grind (
+        arith,
+        nat_tests,
+        touches,
+        touches_front,
+        work_of_user h w.1 a s o all u,
+        work_of_user h w.1 a y o all u,
+        touches_back,
+        handed_cases s,
+      )
   work_of_user (Aborted z ▹ h) w a y o all u e =
       work_of_user h w.1 a y o all u (kept_cases (is_under h z) (owner_by_steps h a) y e).0
   work_of_user (Accessed d o' v ▹ h) w a y o all u e =
-      let x : Access V = record { object = o'; what = v } in
-      let here = o' == o && (all || meaning.writes v) in
-      ⊎_elim
-      (λ k. let od = at_some (owner_by_steps h d) d w.0.standing in
-      let oy : owner_by_steps h d ≡ Some y = ap (owner_by_steps h) k.0 ∙ e in
-      let q : d ≡ y = grind arith in
-      subst (λ b. touches meaning.writes (cond b (x ∷ work h y) (work h y)) o all ≡ true) (sym (eq-eqb d y q))
-      (or_left here (touches meaning.writes (work h y) o all)
-      (and_from (o' == o) (all || meaning.writes v) (eq-eqb o' o k.1) k.2)))
-      (λ k. let ih = work_of_user h w.1 a y o all k e in
-      ⊎_elim
-      (λ q. subst (λ b. touches meaning.writes (cond b (x ∷ work h y) (work h y)) o all ≡ true) (sym q)
-      (or_right here (touches meaning.writes (work h y) o all) ih))
-      (λ q. subst (λ b. touches meaning.writes (cond b (x ∷ work h y) (work h y)) o all ≡ true) (sym q) ih)
-      (cases_Bool (d == y)))
-      (has_used_cases meaning.writes h d o' v a o all u)
+      grind (arith, nat_tests, at_some, touches, work_of_user h w.1 a y o all, cases_Bool (d == y), has_used_cases)
 
   -- what a live action's work has written is what it holds for writing
   pub written_holds : (h : History V) → Orderly h → (y o : ℕ) → stands h y ≡ true

@@ -1,9 +1,7 @@
 -- How the holders change by one more event, and that the lock rules depend only on them.
-use Rattle.std.proofs.Common.{Bool, List, None, Option, Some, ap, arith, false, inl, inr, refl, subst, sym, true, ℕ}
-use Rattle.std.proofs.Common.{⊎_elim, ◌∙◌, ◌≡◌, ◌≢◌}
+use Rattle.std.proofs.Common.{Bool, List, None, Option, Some, arith, false, refl, true, ℕ, ◌∙◌, ◌≡◌, ◌≢◌}
 use Rattle.std.specs.Prelude.{not, ◌&&◌, ◌==◌, ◌||◌}
-use Rattle.std.proofs.lemmas.Bool.{and_from, and_parts, cases_Bool, cases_eq, eq-eqb, false≢true, ne_eqb, or_cases}
-use Rattle.std.proofs.lemmas.Bool.{or_left, or_right}
+use Rattle.std.proofs.lemmas.Bool.{cases_Bool, cases_eq, false≢true}
 use Rattle.std.proofs.lemmas.Bool.Decides.{nat_tests}
 use Rattle.argus_model.specs.Ancestors.{is_ancestor, is_under, parent}
 use Rattle.argus_model.specs.Event.{Aborted, Accessed, Began, Committed, Origin}
@@ -27,30 +25,17 @@ at_handed_parent : (s p : ℕ) (q : Option ℕ) → p ≢ s
     → is_exactly (owner_inherited s p q) p ≡ (is_exactly q s || is_exactly q p)
 at_handed_parent s p None ne = refl
 at_handed_parent s p (Some y) ne =
-    ⊎_elim
-    (λ e. ap (λ o. is_exactly o p) (handed_from s p (Some y) (ap Some e)) ∙ eq-eqb p p refl
-    ∙ sym (ap (λ b. b || (y == p)) (eq-eqb y s e)))
-    (λ n. ap (λ o. is_exactly o p) (handed_stays s p (Some y) y refl n) ∙ sym (ap (λ b. b || (y == p)) (ne_eqb y s n)))
-    (cases_eq y s)
+    grind (arith, nat_tests, handed_from s p (Some y), handed_stays s p (Some y) y refl, cases_eq y s)
 
 at_handed_other : (s p x : ℕ) (q : Option ℕ) → x ≢ s → x ≢ p → is_exactly (owner_inherited s p q) x ≡ is_exactly q x
 at_handed_other s p x None ns np = refl
 at_handed_other s p x (Some y) ns np =
-    ⊎_elim
-    (λ e. ap (λ o. is_exactly o x) (handed_from s p (Some y) (ap Some e)) ∙ ne_eqb p x (λ k. np (sym k))
-    ∙ sym (ne_eqb y x (λ k. ns (sym k ∙ e))))
-    (λ n. ap (λ o. is_exactly o x) (handed_stays s p (Some y) y refl n))
-    (cases_eq y s)
+    grind (arith, nat_tests, handed_from s p (Some y), handed_stays s p (Some y) y refl, cases_eq y s)
 
 at_kept : (lost : ℕ → Bool) (x : ℕ) (q : Option ℕ)
     → is_exactly (unless_lost lost q) x ≡ (is_exactly q x && not (lost x))
 at_kept lost x None = refl
-at_kept lost x (Some y) =
-    ⊎_elim
-    (λ e. let p : is_exactly (unless_lost lost (Some y)) y ≡ ((y == y) && not (lost y)) = grind (arith, nat_tests) in
-    subst (λ u. is_exactly (unless_lost lost (Some y)) u ≡ ((y == u) && not (lost u))) e p)
-    (λ n. let ne = ne_eqb y x n in grind arith)
-    (cases_eq y x)
+at_kept lost x (Some y) = grind (arith, nat_tests, cases_eq y x)
 
 module _ {V : Type 0} (writes : V → Bool) where
   -- tests that agree on all who have an access to the object give the same
@@ -61,15 +46,7 @@ module _ {V : Type 0} (writes : V → Bool) where
   used_by_agree t u o all (Committed a ▹ k) same = used_by_agree t u o all k same
   used_by_agree t u o all (Aborted a ▹ k) same = used_by_agree t u o all k same
   used_by_agree t u o all (Accessed b o' v ▹ k) same =
-      let here = o' == o && (all || writes v) in
-      let rest = used_by_agree t u o all k (λ a m. same a (has_used_more writes k b o' v a o all m)) in
-      ap (λ r. (here && t b) || r) rest
-      ∙ ⊎_elim
-      (λ y. ap (λ q. (here && q) || used_by writes u o all k)
-      (same b (has_used_now writes k b o' v o all y)))
-      (λ n. ap (λ q. (q && t b) || used_by writes u o all k) n
-      ∙ sym (ap (λ q. (q && u b) || used_by writes u o all k) n))
-      (cases_Bool here)
+      grind (arith, nat_tests, used_by_agree t u o all k, has_used_more, has_used_now)
 
   used_by_or : (t u : ℕ → Bool) (o : ℕ) (all : Bool) (k : History V)
       → used_by writes (λ b. t b || u b) o all k ≡ (used_by writes t o all k || used_by writes u o all k)
@@ -77,10 +54,7 @@ module _ {V : Type 0} (writes : V → Bool) where
   used_by_or t u o all (Began from ▹ k) = used_by_or t u o all k
   used_by_or t u o all (Committed a ▹ k) = used_by_or t u o all k
   used_by_or t u o all (Aborted a ▹ k) = used_by_or t u o all k
-  used_by_or t u o all (Accessed b o' v ▹ k) =
-      let here = o' == o && (all || writes v) in
-      ap (λ r. (here && (t b || u b)) || r) (used_by_or t u o all k)
-      ∙ or_apart here (t b) (u b) (used_by writes t o all k) (used_by writes u o all k)
+  used_by_or t u o all (Accessed b o' v ▹ k) = grind (arith, nat_tests, used_by_or t u o all k, or_apart)
 
   used_by_and : (t : ℕ → Bool) (c : Bool) (o : ℕ) (all : Bool) (k : History V)
       → used_by writes (λ b. t b && c) o all k ≡ (used_by writes t o all k && c)
@@ -88,26 +62,18 @@ module _ {V : Type 0} (writes : V → Bool) where
   used_by_and t c o all (Began from ▹ k) = used_by_and t c o all k
   used_by_and t c o all (Committed a ▹ k) = used_by_and t c o all k
   used_by_and t c o all (Aborted a ▹ k) = used_by_and t c o all k
-  used_by_and t c o all (Accessed b o' v ▹ k) =
-      let here = o' == o && (all || writes v) in
-      ap (λ r. (here && (t b && c)) || r) (used_by_and t c o all k) ∙ and_apart here (t b) c (used_by writes t o all k)
+  used_by_and t c o all (Accessed b o' v ▹ k) = grind (arith, nat_tests, used_by_and t c o all k, and_apart)
 
   -- a begin leaves the holders of each object
   pub holds_begin : (h : History V) (from : Origin) (o : ℕ) (all : Bool) (x : ℕ) → Orderly h
       → holds writes (Began from ▹ h) o all x ≡ holds writes h o all x
-  holds_begin h from o all x w =
-      used_by_agree (λ b. is_exactly (owner_by_steps (Began from ▹ h) b) x) (λ b. is_exactly (owner_by_steps h b) x)
-      o all h
-      (λ b u. ⊎_elim (λ k. absurd (let l = has_used_begun writes h w b o all u in omega (arith, k.0)))
-      (λ k. ap (λ q. is_exactly q x) k.1) (owner_cases h from b))
+  holds_begin h from o all x w = grind (arith, nat_tests, used_by_agree, has_used_begun writes h w, owner_cases h from)
 
   -- an access makes its action a holder of its object, and changes no other holder
   pub holds_access : (h : History V) (a o' : ℕ) (v : V) (o : ℕ) (all : Bool) (x : ℕ) → stands h a ≡ true
       → holds writes (Accessed a o' v ▹ h) o all x
       ≡ (((o' == o && (all || writes v)) && (a == x)) || holds writes h o all x)
-  holds_access h a o' v o all x l =
-      ap (λ q. ((o' == o && (all || writes v)) && is_exactly q x) || holds writes h o all x)
-      (at_some (owner_by_steps h a) a l)
+  holds_access h a o' v o all x l = grind (arith, nat_tests, at_some (owner_by_steps h a) a l)
 
   -- after a commit the parent holds what it held or the action held
   pub holds_commit_parent : (h : History V) (s o : ℕ) (all : Bool) → parent h s ≢ s
@@ -123,10 +89,7 @@ module _ {V : Type 0} (writes : V → Bool) where
   -- a commit leaves all holders but the action and its parent
   pub holds_commit_other : (h : History V) (s o : ℕ) (all : Bool) (x : ℕ) → x ≢ s → x ≢ parent h s
       → holds writes (Committed s ▹ h) o all x ≡ holds writes h o all x
-  holds_commit_other h s o all x ns np =
-      used_by_agree (λ b. is_exactly (owner_inherited s (parent h s) (owner_by_steps h b)) x)
-      (λ b. is_exactly (owner_by_steps h b) x) o all h
-      (λ b u. at_handed_other s (parent h s) x (owner_by_steps h b) ns np)
+  holds_commit_other h s o all x ns np = grind (arith, nat_tests, used_by_agree, at_handed_other s (parent h s) x)
 
   -- after an abort hold those who held and don't stand under those aborted
   pub holds_abort : (h : History V) (z : List ℕ) (o : ℕ) (all : Bool) (x : ℕ)
@@ -145,14 +108,13 @@ module _ {V : Type 0} (writes : V → Bool) where
   used_by_found t o all (Committed a ▹ k) m = used_by_found t o all k m
   used_by_found t o all (Aborted a ▹ k) m = used_by_found t o all k m
   used_by_found t o all (Accessed b o' v ▹ k) m =
-      let here = o' == o && (all || writes v) in
-      elim (or_cases (here && t b) (used_by writes t o all k) m) [
-        | inl now ↦
-            let parts = and_parts here (t b) now in (b, has_used_now writes k b o' v o all parts.0, parts.1)
-        | inr before ↦
-            let found = used_by_found t o all k before in
-            (found.0, has_used_more writes k b o' v found.0 o all found.1, found.2)
-      ]
+      grind (
+        arith,
+        nat_tests,
+        has_used_now writes k b o' v o all,
+        used_by_found t o all k,
+        has_used_more writes k b o' v,
+      )
 
   -- one user of the object that passes the test is enough
   pub used_by_from : (t : ℕ → Bool) (o : ℕ) (all : Bool) (k : History V) (b : ℕ) → has_used writes k b o all ≡ true
@@ -162,36 +124,19 @@ module _ {V : Type 0} (writes : V → Bool) where
   used_by_from t o all (Committed a ▹ k) b u m = used_by_from t o all k b u m
   used_by_from t o all (Aborted a ▹ k) b u m = used_by_from t o all k b u m
   used_by_from t o all (Accessed d o' v ▹ k) b u m =
-      let here = o' == o && (all || writes v) in
-      elim (has_used_cases writes k d o' v b o all u) [
-        | inl now ↦
-            let counted = and_from (o' == o) (all || writes v) (eq-eqb o' o now.1) now.2 in
-            let passes = and_from here (t d) counted (ap t now.0 ∙ m) in
-            or_left (here && t d) (used_by writes t o all k) passes
-        | inr before ↦ or_right (here && t d) (used_by writes t o all k) (used_by_from t o all k b before m)
-      ]
+      grind (arith, nat_tests, has_used_cases writes k d o' v b o all u, used_by_from t o all k b)
 
   -- where a lock is free for a, each holder is an ancestor of a
   pub may_asks : (h : History V) (a o : ℕ) (all : Bool) → may_by_steps writes h a o all h ≡ true → (x : ℕ)
       → holds writes h o all x ≡ true → is_ancestor h x a ≡ true
-  may_asks h a o all m x k = let q = used_by_found (λ b. is_exactly (owner_by_steps h b) x) o all h k in
-      may_tells writes h h a o q.0 x all m q.1 (at_some (owner_by_steps h q.0) x q.2)
+  may_asks h a o all m x k = grind (arith, nat_tests, used_by_found, may_tells writes h h a o, at_some)
 
   -- where each holder is an ancestor of a, the lock is free for a
   pub may_if : (h : History V) (a o : ℕ) (all : Bool)
       → ((x : ℕ) → holds writes h o all x ≡ true → is_ancestor h x a ≡ true) → may_by_steps writes h a o all h ≡ true
-  may_if h a o all each =
-      may_from writes h h a o all
-      (λ b x u e. each x
-      (used_by_from (λ d. is_exactly (owner_by_steps h d) x) o all h b u (some_at (owner_by_steps h b) x e)))
+  may_if h a o all each = grind (arith, nat_tests, may_from writes h h a o all, used_by_from, some_at)
 
   -- of a write holder and any other holder, one is an ancestor of the other
   pub exclusive : (h : History V) → Orderly h → Guarded writes h → (o x y : ℕ) → holds writes h o true x ≡ true
       → holds writes h o false y ≡ true → (is_ancestor h x y || is_ancestor h y x) ≡ true
-  exclusive h w g o x y hx hy =
-      let a = used_by_found (λ b. is_exactly (owner_by_steps h b) x) o true h hx in
-      let b = used_by_found (λ b. is_exactly (owner_by_steps h b) y) o false h hy in
-      ⊎_elim (λ k. or_right (is_ancestor h x y) (is_ancestor h y x) k)
-      (λ k. or_left (is_ancestor h x y) (is_ancestor h y x) k)
-      (exclusion writes h w g b.0 a.0 o y x b.1 a.1 (at_some (owner_by_steps h b.0) y b.2)
-      (at_some (owner_by_steps h a.0) x a.2))
+  exclusive h w g o x y hx hy = grind (arith, nat_tests, used_by_found, exclusion writes h w g, at_some)

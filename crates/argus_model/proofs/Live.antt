@@ -1,10 +1,10 @@
 -- What stands is what is live, and the lists of live children and siblings.
-use Rattle.std.proofs.Common.{[], ap, arith, cond, false, refl, sym, true, ℕ, ⊎_elim, ◌<◌, ◌∙◌, ◌∷◌, ◌≡◌, ◌≢◌}
+use Rattle.std.proofs.Common.{[], ap, arith, false, refl, true, ℕ, ⊎_elim, ◌<◌, ◌∙◌, ◌∷◌, ◌≡◌, ◌≢◌}
 use Rattle.std.specs.List.{list_all, list_any}
-use Rattle.std.specs.Prelude.{nat_lt, not, ◌&&◌, ◌==◌, ◌||◌}
+use Rattle.std.specs.Prelude.{not, ◌&&◌, ◌==◌, ◌||◌}
 use Rattle.std.proofs.Math.Bool.{and_comm, or_comm}
-use Rattle.std.proofs.lemmas.Bool.{and_from, and_parts, both_ways, cases_eq, eq-eqb, false≢true, lt-ltb, ltb-true}
-use Rattle.std.proofs.lemmas.Bool.{ne_eqb, not-true, or_left}
+use Rattle.std.proofs.lemmas.Bool.{and_from, and_parts, both_ways, cases_eq, eq-eqb, false≢true, ne_eqb, not-true}
+use Rattle.std.proofs.lemmas.Bool.{or_left}
 use Rattle.std.proofs.lemmas.Bool.Decides.{nat_tests}
 use Rattle.std.proofs.lemmas.List.Folds.{list_any-append}
 use Rattle.argus_model.specs.Ancestors.{begun_by, parent}
@@ -15,7 +15,7 @@ use Rattle.argus_model.specs.OwnerSteps.{owner_by_steps, standing_child, stands}
 use Rattle.argus_model.specs.Status.{has_committed, has_live_child, is_begun, is_doomed, is_live, is_sibling}
 use Rattle.argus_model.specs.Status.{live_siblings}
 use Rattle.argus_model.proofs.Ancestors.{folded_next}
-use Rattle.argus_model.proofs.Bools.{or_none, same_bool}
+use Rattle.argus_model.proofs.Bools.{same_bool}
 use Rattle.argus_model.proofs.Numbers.{IsRising, any_agree, contains_filter, every_from, filter_contains, joined}
 use Rattle.argus_model.proofs.Numbers.{joined_cases, joined_left, rising-more}
 use Rattle.argus_model.proofs.OwnerRules.{owner_self, stands_plain}
@@ -23,13 +23,11 @@ use Rattle.argus_model.proofs.Standing.{Orderly, some_at, stands_unfolded}
 
 -- a begun action's number is past the folded ones and before the next
 pub is_begun_parts : {V : Type 0} (h : History V) (a : ℕ) → is_begun h a ≡ true → (folded h < a) × (a < next_action h)
-is_begun_parts h a k = let q = and_parts (nat_lt (folded h) a) (nat_lt a (next_action h)) k in
-    (ltb-true (folded h) a q.0, ltb-true a (next_action h) q.1)
+is_begun_parts h a k = grind (arith, nat_tests)
 
 -- a number past the folded ones and before the next is begun
 pub is_begun_from : {V : Type 0} (h : History V) (a : ℕ) → folded h < a → a < next_action h → is_begun h a ≡ true
-is_begun_from h a l m =
-    and_from (nat_lt (folded h) a) (nat_lt a (next_action h)) (lt-ltb (folded h) a l) (lt-ltb a (next_action h) m)
+is_begun_from h a l m = grind (arith, nat_tests)
 
 -- an action other than the base stands where it is live, and only there
 pub stands_is_live : {V : Type 0} (h : History V) → Orderly h → (a : ℕ) → a ≢ 0 → stands h a ≡ is_live h a
@@ -104,57 +102,24 @@ children_in : {V : Type 0} (h k : History V) (y : ℕ)
     → standing_child h y k ≡ list_any (λ x. stands h x && (parent k x == y || begun_by k x == y)) (begun_actions k)
 children_in h (Opened n) y = refl
 children_in h (Began from ▹ k) y =
-    let g = Began from ▹ k in
-    let t = λ (x : ℕ). stands h x && (parent k x == y || begun_by k x == y) in
-    let u = λ (x : ℕ). stands h x && (parent g x == y || begun_by g x == y) in
-    let own : u (next_action k) ≡ (((origin_parent from) == y || (origin_begun_by from) == y) && stands h
-    (next_action k)) =
-    ap (λ b. stands h
-    (next_action k)
-    && (cond b (origin_parent from) (parent k (next_action k)) == y || cond b (origin_begun_by from)
-    (begun_by k (next_action k)) == y)) (eq-eqb (next_action k) (next_action k) refl)
-    ∙ and_comm (stands h (next_action k)) ((origin_parent from) == y || (origin_begun_by from) == y) in
-    ap (λ b. (((origin_parent from) == y || (origin_begun_by from) == y) && stands h (next_action k)) || b)
-    (children_in h k y)
-    ∙ or_comm (((origin_parent from) == y || (origin_begun_by from) == y) && stands h (next_action k))
-    (list_any t (begun_actions k))
-    ∙ ap (λ b. list_any t (begun_actions k) || b) (sym own ∙ or_none (u (next_action k)))
-    ∙ ap (λ b. b || list_any u (next_action k ∷ []))
-    (any_agree t u (begun_actions k)
-    (λ x m. let l = begun_below k x m in
-    sym (ap (λ b.
-    stands h x && (cond b (origin_parent from) (parent k x) == y || cond b (origin_begun_by from) (begun_by k x) == y))
-    (ne_eqb x (next_action k) (λ e. omega arith)))))
-    ∙ sym (list_any-append u (begun_actions k) (next_action k ∷ []))
+    grind (arith, nat_tests, and_comm, children_in h k y, or_comm, any_agree, begun_below k, list_any-append)
 children_in h (Committed a ▹ k) y = children_in h k y
 children_in h (Aborted a ▹ k) y = children_in h k y
 children_in h (Accessed a o v ▹ k) y = children_in h k y
 
 -- who has a child that stands has a live child, and the other way round
 pub child_is : {V : Type 0} (h : History V) → Orderly h → (y : ℕ) → standing_child h y h ≡ has_live_child h y
-child_is h w y =
-    children_in h h y
-    ∙ any_agree (λ x. stands h x && (parent h x == y || begun_by h x == y))
-    (λ x. is_live h x && (parent h x == y || begun_by h x == y)) (begun_actions h)
-    (λ x m. let f = contains_unfolded h x m in
-    ap (λ b. b && (parent h x == y || begun_by h x == y)) (stands_is_live h w x (λ e. omega arith)))
+child_is h w y = grind (arith, nat_tests, children_in h h y, any_agree, contains_unfolded h, stands_is_live h w)
 
 -- the list of live siblings has each live sibling, and no other
 pub contains_siblings : {V : Type 0} (h : History V) (a x : ℕ)
     → contains (live_siblings h a) x ≡ (is_live h x && is_sibling h a x)
 contains_siblings h a x =
-    let p = λ (x : ℕ). is_live h x && is_sibling h a x in
-    same_bool (contains (live_siblings h a) x) (p x)
-    (λ m. (contains_filter p (begun_actions h) x m).0)
-    (λ m. let l = (and_parts (is_live h x) (is_sibling h a x) m).0 in
-    let k = is_begun_parts h x (and_parts (is_begun h x) (not (has_committed h x) && not (is_doomed h x)) l).0 in
-    filter_contains p (begun_actions h) x m (begun_contains h x k.0 k.1))
+    grind (arith, nat_tests, contains_filter, is_begun_parts h x, filter_contains, begun_contains h x)
 
 -- all who are listed as live siblings are live
 pub siblings_live : {V : Type 0} (h : History V) (a : ℕ) → list_all (is_live h) (live_siblings h a) ≡ true
-siblings_live h a =
-    every_from (is_live h) (live_siblings h a)
-    (λ x m. (and_parts (is_live h x) (is_sibling h a x) (sym (contains_siblings h a x) ∙ m)).0)
+siblings_live h a = grind (arith, nat_tests, every_from (is_live h) (live_siblings h a), contains_siblings h a)
 
 -- the list of begun actions has each of them, and no other
 pub begun_listed : {V : Type 0} (h : History V) (a : ℕ) → contains (begun_actions h) a ≡ is_begun h a

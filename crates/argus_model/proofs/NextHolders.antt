@@ -1,4 +1,5 @@
 -- The holders of an object after one more event.
+use Rattle.std.proofs.lemmas.Bool.Decides.{nat_tests}
 use Rattle.std.proofs.Common.{Bool, List, ap, arith, cond, false, refl, subst, sym, true, ℕ, ⊎_elim, ◌∙◌, ◌≡◌, ◌≢◌}
 use Rattle.std.specs.Prelude.{filter, not, ◌&&◌, ◌==◌, ◌||◌}
 use Rattle.std.proofs.lemmas.Bool.{and_from, and_parts, cases_Bool, cases_eq, eq-eqb, false_from_ne_true, ne_eqb}
@@ -44,15 +45,7 @@ inherited_by : (P : List ℕ → Type 0) (s p : ℕ) (xs : List ℕ)
     → (contains xs s ≡ true → p ≡ 0 → P (without s xs)) → (contains xs s ≡ true → p ≢ 0 → P (insert p (without s xs)))
     → (contains xs s ≡ false → P xs)
     → P (inherited s p xs)
-inherited_by P s p xs top sub none =
-    ⊎_elim
-    (λ k. subst (λ b. P (cond b (cond (p == 0) (without s xs) (insert p (without s xs))) xs)) (sym k)
-    (⊎_elim
-    (λ e. subst (λ b. P (cond b (without s xs) (insert p (without s xs)))) (sym (eq-eqb p 0 e)) (top k e))
-    (λ e. subst (λ b. P (cond b (without s xs) (insert p (without s xs)))) (sym (ne_eqb p 0 e)) (sub k e))
-    (cases_eq p 0)))
-    (λ k. subst (λ b. P (cond b (cond (p == 0) (without s xs) (insert p (without s xs))) xs)) (sym k) (none k))
-    (cases_Bool (contains xs s))
+inherited_by P s p xs top sub none = grind (arith, nat_tests, cases_eq p 0)
 
 without-IsRising : (s : ℕ) (xs : List ℕ) → IsRising xs → IsRising (without s xs)
 without-IsRising s xs r = rising_filter (λ y. not (y == s)) xs r

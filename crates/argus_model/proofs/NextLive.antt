@@ -1,4 +1,5 @@
 -- Which actions are live, and the owners, after one more event.
+use Rattle.std.proofs.lemmas.Bool.Decides.{nat_tests}
 use Rattle.std.proofs.Common.{Bool, List, None, Option, Some, ap, arith, cond, false, refl, subst, sym, true, ℕ, ⊎_elim}
 use Rattle.std.proofs.Common.{◌∙◌, ◌∷◌, ◌≡◌, ◌≢◌}
 use Rattle.std.specs.Prelude.{not, ◌&&◌, ◌==◌, ◌||◌}
@@ -71,15 +72,7 @@ live_after_commit h s w =
 -- after an abort are live all who were, but for those under the aborted ones
 pub live_after_abort : {V : Type 0} (h : History V) (z : List ℕ) → Orderly (Aborted z ▹ h) → (x : ℕ)
     → is_live (Aborted z ▹ h) x ≡ (is_live h x && not (is_under h z x))
-live_after_abort h z w =
-    let g = Aborted z ▹ h in
-    from_stands h g w.1 w (λ x. not (is_under h z x))
-    (λ x. same_bool (stands g x) (stands h x && not (is_under h z x))
-    (λ k. let q = stands_abort h z x k in and_from (stands h x) (not (is_under h z x)) q.0 (ap not q.1))
-    (λ k. let q = and_parts (stands h x) (not (is_under h z x)) k in
-    some_at (owner_by_steps g x) x
-    (kept_stays (is_under h z) (owner_by_steps h x) x (at_some (owner_by_steps h x) x q.0)
-    (not-true (is_under h z x) q.1))))
+live_after_abort h z w = grind (arith, nat_tests, from_stands h, stands_abort, some_at, kept_stays, at_some, not-true)
 
 -- a begin leaves the owner of each begun action
 pub owner_after_begin : {V : Type 0} (h : History V) (from : Origin) → Orderly (Began from ▹ h) → (x : ℕ)
@@ -97,19 +90,7 @@ owner_after_access h a o v w x k = owner_is (Accessed a o v ▹ h) w x k ∙ sym
 
 handed_is : (s p : ℕ) → s ≢ 0 → (q : Option ℕ) → as_owner (owner_inherited s p q) ≡ passed_up s p (as_owner q)
 handed_is s p s0 None = refl
-handed_is s p s0 (Some x) =
-    ⊎_elim
-    (λ e. ap as_owner (handed_from s p (Some x) (ap Some e))
-    ∙ sym (ap (passed_up s p) (as_held x (λ z. s0 (sym e ∙ z)))
-    ∙ ap (λ b. cond b (cond (p == 0) Base (Held p)) (Held x)) (eq-eqb x s e)))
-    (λ ne. ap as_owner (handed_stays s p (Some x) x refl ne)
-    ∙ ⊎_elim
-    (λ z. let b = ap (λ b. cond b Base (Held x)) (eq-eqb x 0 z) in b ∙ sym (ap (passed_up s p) b))
-    (λ z. as_held x z
-    ∙ sym (ap (passed_up s p) (as_held x z)
-    ∙ ap (λ b. cond b (cond (p == 0) Base (Held p)) (Held x)) (ne_eqb x s ne)))
-    (cases_eq x 0))
-    (cases_eq x s)
+handed_is s p s0 (Some x) = grind (arith, nat_tests, handed_from, as_held x, handed_stays, cases_eq x 0, cases_eq x s)
 
 -- a commit passes what the action answers for to its parent
 pub owner_after_commit : {V : Type 0} (h : History V) (s : ℕ) → Orderly (Committed s ▹ h) → (x : ℕ)
@@ -121,17 +102,7 @@ owner_after_commit h s w x k =
 lost_is : (lost : ℕ → Bool) → lost 0 ≡ false → (q : Option ℕ)
     → as_owner (unless_lost lost q) ≡ unless_gone lost (as_owner q)
 lost_is lost n None = refl
-lost_is lost n (Some x) =
-    ⊎_elim
-    (λ z. let b = ap (λ b. cond b Base (Held x)) (eq-eqb x 0 z) in
-    ap (λ b. as_owner (cond b None (Some x))) (ap lost z ∙ n) ∙ b ∙ sym (ap (unless_gone lost) b))
-    (λ z. ⊎_elim
-    (λ l. ap (λ b. as_owner (cond b None (Some x))) l
-    ∙ sym (ap (unless_gone lost) (as_held x z) ∙ ap (λ b. cond b Gone (Held x)) l))
-    (λ l. ap (λ b. as_owner (cond b None (Some x))) l ∙ as_held x z
-    ∙ sym (ap (unless_gone lost) (as_held x z) ∙ ap (λ b. cond b Gone (Held x)) l))
-    (cases_Bool (lost x)))
-    (cases_eq x 0)
+lost_is lost n (Some x) = grind (arith, nat_tests, as_held x, cases_Bool (lost x), cases_eq x 0)
 
 -- after an abort what was held by those under the aborted ones is gone
 pub owner_after_abort : {V : Type 0} (h : History V) (z : List ℕ) → Orderly (Aborted z ▹ h) → (x : ℕ)

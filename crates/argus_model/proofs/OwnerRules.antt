@@ -1,10 +1,9 @@
 -- Doomed actions have no owner, live ones themselves, and committed ones their parent's.
 use Rattle.std.proofs.Common.{Bool, None, Option, Some, ap, arith, cond, false, refl, subst, sym, true, ℕ, ⊎_elim, ◌<◌}
 use Rattle.std.proofs.Common.{◌∙◌, ◌∷◌, ◌≡◌, ◌≢◌}
-use Rattle.std.specs.List.{list_any}
 use Rattle.std.specs.Prelude.{◌==◌, ◌||◌}
-use Rattle.std.proofs.lemmas.Bool.{cases_Bool, cases_eq, eq-eqb, eqb-false, eqb-true, false_from_ne_true, false≢true}
-use Rattle.std.proofs.lemmas.Bool.{ne_eqb, or_cases, or_parts}
+use Rattle.std.proofs.lemmas.Bool.{cases_Bool, cases_eq, eq-eqb, eqb-true, false_from_ne_true, false≢true, ne_eqb}
+use Rattle.std.proofs.lemmas.Bool.{or_cases}
 use Rattle.std.proofs.lemmas.Bool.Decides.{nat_tests}
 use Rattle.argus_model.specs.Ancestors.{is_ancestor, is_under, lineage, parent}
 use Rattle.argus_model.specs.Event.{Aborted, Accessed, Began, Committed, origin_parent}
@@ -29,8 +28,7 @@ gone (Some x) = false
 -- an owner is an ancestor of what it answers for
 pub owner_ancestor : {V : Type 0} (h : History V) → Orderly h → (a x : ℕ) → owner_by_steps h a ≡ Some x
     → is_ancestor h x a ≡ true
-owner_ancestor (Opened n) w a x e =
-    ⊎_elim (λ k. grind (arith, nat_tests)) (λ k. absurd (grind (arith, nat_tests))) (cases_eq a 0)
+owner_ancestor (Opened n) w a x e = grind (arith, nat_tests, cases_eq a 0)
 owner_ancestor (Began from ▹ h) w a x e =
     ⊎_elim
     (λ k. let q : a ≡ x = grind arith in
@@ -82,24 +80,19 @@ aborted_agree t u (Opened n) w same = refl
 aborted_agree t u (Began from ▹ h) w same = aborted_agree t u h w.1 (λ z l. same z (omega arith))
 aborted_agree t u (Committed s ▹ h) w same = aborted_agree t u h w.1 same
 aborted_agree t u (Aborted zs ▹ h) w same =
-    ap (λ b. b || was_aborted t h) (any_agree t u zs (λ z m. same z (stands_begun h z (w.0 z m).1)))
-    ∙ ap (λ b. list_any u zs || b) (aborted_agree t u h w.1 same)
+    grind (arith, nat_tests, any_agree t u zs, stands_begun h, aborted_agree t u h w.1 same)
 aborted_agree t u (Accessed a o v ▹ h) w same = aborted_agree t u h w.1 same
 
 gone-handed : (s p : ℕ) (o : Option ℕ) → gone (owner_inherited s p o) ≡ gone o
 gone-handed s p None = refl
 gone-handed s p (Some x) =
-    ⊎_elim (λ k. ap gone (handed_from s p (Some x) (ap Some k))) (λ k. ap gone (handed_stays s p (Some x) x refl k))
-    (cases_eq x s)
+    grind (arith, nat_tests, gone, handed_from s p (Some x), handed_stays s p (Some x) x refl, cases_eq x s)
 
 gone-kept : (lost : ℕ → Bool) (o : Option ℕ) (b : Bool) → ((x : ℕ) → o ≡ Some x → b ≡ lost x)
     → (b || gone o) ≡ gone (unless_lost lost o)
 gone-kept lost None true same = refl
 gone-kept lost None false same = refl
-gone-kept lost (Some x) b same =
-    ap (λ q. q || false) (same x refl)
-    ∙ ⊎_elim (λ k. ap (λ q. q || false) k ∙ sym (ap (λ q. gone (cond q None (Some x))) k))
-    (λ k. ap (λ q. q || false) k ∙ sym (ap (λ q. gone (cond q None (Some x))) k)) (cases_Bool (lost x))
+gone-kept lost (Some x) b same = grind (arith, nat_tests, gone, cases_Bool (lost x))
 
 -- what is doomed has no owner, and nothing else
 doomed_gone : {V : Type 0} (h : History V) → Orderly h → (a : ℕ) → (a ≢ 0 → folded h < a) → a < next_action h
@@ -133,14 +126,10 @@ doomed_gone (Accessed b o v ▹ h) w a u l = doomed_gone h w.1 a u l
 -- what has not committed has no owner but itself
 pub moved : {V : Type 0} (h : History V) → Orderly h → (a x : ℕ) → owner_by_steps h a ≡ Some x
     → has_committed h a ≡ false → x ≡ a
-moved (Opened m) w a x e n =
-    ⊎_elim (λ k. grind (arith, nat_tests)) (λ k. absurd (grind (arith, nat_tests))) (cases_eq a 0)
-moved (Began from ▹ h) w a x e n =
-    ⊎_elim (λ k. grind arith) (λ k. moved h w.1 a x (sym k.1 ∙ e) n) (owner_cases h from a)
+moved (Opened m) w a x e n = grind (arith, nat_tests, cases_eq a 0)
+moved (Began from ▹ h) w a x e n = grind (arith, nat_tests, moved h w.1 a x, owner_cases h from a)
 moved (Committed s ▹ h) w a x e n =
-    let q = or_parts (s == a) (has_committed h a) n in
-    ⊎_elim (λ k. absurd (eqb-false s a q.0 (moved h w.1 a s k.0 q.1))) (λ k. moved h w.1 a x k.0 q.1)
-    (handed_cases s (parent h s) (owner_by_steps h a) x e)
+    grind (arith, nat_tests, moved h w.1 a s, moved h w.1 a x, handed_cases s (parent h s) (owner_by_steps h a) x e)
 moved (Aborted z ▹ h) w a x e n = moved h w.1 a x (kept_cases (is_under h z) (owner_by_steps h a) x e).0 n
 moved (Accessed b o v ▹ h) w a x e n = moved h w.1 a x e n
 
@@ -150,10 +139,7 @@ pub committed_begun : {V : Type 0} (h : History V) → Orderly h → (a : ℕ) �
 committed_begun (Opened n) w a m = absurd (false≢true m)
 committed_begun (Began from ▹ h) w a m = let k = committed_begun h w.1 a m in (k.0, omega (arith, k.1))
 committed_begun (Committed s ▹ h) w a m =
-    ⊎_elim
-    (λ k. let e = eqb-true s a k in let l = stands_begun h s w.0.standing in let n = w.0.not_base in
-    (omega arith, omega arith))
-    (λ k. committed_begun h w.1 a k) (or_cases (s == a) (has_committed h a) m)
+    grind (arith, nat_tests, stands_begun h s w.0.standing, committed_begun h w.1 a)
 committed_begun (Aborted z ▹ h) w a m = committed_begun h w.1 a m
 committed_begun (Accessed b o v ▹ h) w a m = committed_begun h w.1 a m
 
@@ -162,10 +148,7 @@ pub committed_unfolded : {V : Type 0} (h : History V) → Orderly h → (a : ℕ
 committed_unfolded (Opened n) w a m = absurd (false≢true m)
 committed_unfolded (Began from ▹ h) w a m = committed_unfolded h w.1 a m
 committed_unfolded (Committed s ▹ h) w a m =
-    ⊎_elim
-    (λ k. subst (λ u. folded h < u) (eqb-true s a k) (stands_unfolded h s w.0.not_base w.0.standing))
-    (λ k. committed_unfolded h w.1 a k)
-    (or_cases (s == a) (has_committed h a) m)
+    grind (arith, nat_tests, stands_unfolded h s w.0.not_base w.0.standing, committed_unfolded h w.1 a)
 committed_unfolded (Aborted z ▹ h) w a m = committed_unfolded h w.1 a m
 committed_unfolded (Accessed b o v ▹ h) w a m = committed_unfolded h w.1 a m
 

@@ -1,4 +1,5 @@
 -- The rows have the origin and the status of each action.
+use Rattle.std.proofs.lemmas.Bool.Decides.{nat_tests}
 use Rattle.std.proofs.Common.{Bool, List, None, Option, Some, [], ap, arith, cond, false, length, refl, subst, suc, sym}
 use Rattle.std.proofs.Common.{true, zero, ℕ, ⊎_elim, ◌++◌, ◌+◌, ◌<◌, ◌∙◌, ◌∷◌, ◌≡◌, ◌≢◌}
 use Rattle.std.specs.List.{list_any}
@@ -73,14 +74,7 @@ status_commit_other h s y n =
 -- an abort makes begun actions under the aborted ones aborted, and leaves every other's status
 pub status_abort : {V : Type 0} (h : History V) (zs : List ℕ) (y : ℕ) → is_begun h y ≡ true
     → status (Aborted zs ▹ h) y ≡ cond (is_under h zs y) IsAborted (status h y)
-status_abort h zs y k =
-    status_known (Aborted zs ▹ h) y k
-    ∙ over_or (is_under h zs y) (is_doomed h y) (has_committed h y)
-    ∙ ap (λ s. cond (is_under h zs y) IsAborted s) (sym (status_known h y k))
-  where
-    over_or : (u d c : Bool) → over (u || d) c ≡ cond u IsAborted (over d c)
-    over_or true d c = refl
-    over_or false d c = refl
+status_abort h zs y k = grind (arith, nat_tests, status_known)
 
 -- marking leaves the number of rows
 pub length-mark : (n : ℕ) (which : ℕ → Bool) (s : Status) (rs : List Row) → length (mark n which s rs) ≡ length rs
@@ -106,84 +100,49 @@ marked b s (Some r) = Some (cond b (with_status s r) r)
 row_at-mark : (n : ℕ) (which : ℕ → Bool) (s : Status) (rs : List Row) (a : ℕ)
     → row_at n (mark n which s rs) a ≡ marked (which a) s (row_at n rs a)
 row_at-mark n which s [] a = refl
-row_at-mark n which s (r ∷ rs) a =
-    let top = n + length rs + 1 in
-    let r' = cond (which top) (with_status s r) r in
-    ap (λ k. cond (a == n + k + 1) (Some r') (row_at n (mark n which s rs) a)) (length-mark n which s rs)
-    ∙ ⊎_elim
-    (λ e. ap (λ b. cond b (Some r') (row_at n (mark n which s rs) a)) (eq-eqb a top e)
-    ∙ ap (λ q. Some (cond (which q) (with_status s r) r)) (sym e)
-    ∙ sym (ap (λ b. marked (which a) s (cond b (Some r) (row_at n rs a))) (eq-eqb a top e)))
-    (λ ne. ap (λ b. cond b (Some r') (row_at n (mark n which s rs) a)) (ne_eqb a top ne)
-    ∙ row_at-mark n which s rs a
-    ∙ sym (ap (λ b. marked (which a) s (cond b (Some r) (row_at n rs a))) (ne_eqb a top ne)))
-    (cases_eq a top)
+row_at-mark n which s (r ∷ rs) a = grind (arith, nat_tests, length-mark, marked, row_at-mark n which s rs a, cases_eq a)
 
 is_above-mark : (n : ℕ) (which : ℕ → Bool) (s : Status) (rs : List Row) (x y : ℕ)
     → is_above n (mark n which s rs) x y ≡ is_above n rs x y
 is_above-mark n which s [] x y = refl
 is_above-mark n which s (r ∷ rs) x y =
-    let r' = cond (which (n + length rs + 1)) (with_status s r) r in
-    let same : origin_parent r'.origin ≡ origin_parent r.origin = kept (which (n + length rs + 1)) in
-    ap (λ k. cond (y == n + k + 1) (x == y || is_above n (mark n which s rs) x (origin_parent r'.origin))
-    (is_above n (mark n which s rs) x y)) (length-mark n which s rs)
-    ∙ ap (λ q. cond (y == n + length rs + 1) (x == y || is_above n (mark n which s rs) x q)
-    (is_above n (mark n which s rs) x y)) same
-    ∙ ap (λ b. cond (y == n + length rs + 1) (x == y || b) (is_above n (mark n which s rs) x y))
-    (is_above-mark n which s rs x (origin_parent r.origin))
-    ∙ ap (λ b. cond (y == n + length rs + 1) (x == y || is_above n rs x (origin_parent r.origin)) b)
-    (is_above-mark n which s rs x y)
-  where
-    kept : (b : Bool) → origin_parent (cond b (with_status s r) r).origin ≡ origin_parent r.origin
-    kept true = refl
-    kept false = refl
+    grind (
+      arith,
+      nat_tests,
+      length-mark,
+      is_above-mark n which s rs x (origin_parent r.origin),
+      is_above-mark n which s rs x y,
+    )
 
 -- above 0 there is no row
 is_above_low : {V : Type 0} (h : History V) (x y : ℕ) → (folded h < y → ⊥) → is_above (folded h) (rows h) x y ≡ false
 is_above_low (Opened n) x y u = refl
-is_above_low (Began from ▹ h) x y u =
-    let t = rows_length h in
-    ap (λ b. cond b (x == y || is_above (folded h) (rows h) x (origin_parent from)) (is_above (folded h) (rows h) x y))
-    (ne_eqb y (folded h + length (rows h) + 1) (λ e. u (omega arith)))
-    ∙ is_above_low h x y u
-is_above_low (Committed s ▹ h) x y u =
-    is_above-mark (folded h) (λ k. k == s) IsCommitted (rows h) x y ∙ is_above_low h x y u
-is_above_low (Aborted zs ▹ h) x y u =
-    is_above-mark (folded h) (λ k. list_any (λ z. is_above (folded h) (rows h) z k) zs) IsAborted (rows h) x y
-    ∙ is_above_low h x y u
+is_above_low (Began from ▹ h) x y u = grind (arith, nat_tests, rows_length h, is_above_low h x y u)
+is_above_low (Committed s ▹ h) x y u = grind (arith, nat_tests, is_above-mark, is_above_low h x y u)
+is_above_low (Aborted zs ▹ h) x y u = grind (arith, nat_tests, is_above-mark, is_above_low h x y u)
 is_above_low (Accessed a o v ▹ h) x y u = is_above_low h x y u
 
 -- the rows and the history give a begun action the same ancestors, but for the base
 pub is_above_is : {V : Type 0} (h : History V) → Orderly h → (x y : ℕ) → x ≢ 0 → is_begun h y ≡ true
     → is_above (folded h) (rows h) x y ≡ is_ancestor h x y
-is_above_is {V} (Opened n) w x y x0 k = let q = is_begun_parts {V = V} (Opened n) y k in
-    absurd (omega (arith, q.0, q.1))
+is_above_is {V} (Opened n) w x y x0 k = grind (arith, nat_tests, is_begun_parts)
 is_above_is (Began from ▹ h) w x y x0 k =
-    let q = is_begun_parts (Began from ▹ h) y k in
-    let top = rows_length h in
-    let at = λ (b : Bool).
-    cond b (x == y || is_above (folded h) (rows h) x (origin_parent from)) (is_above (folded h) (rows h) x y) in
-    ⊎_elim
-    (λ t. ap at (eq-eqb y (folded h + length (rows h) + 1) (t.0 ∙ sym top))
-    ∙ ap (λ b. x == y || b)
-    (⊎_elim
-    (λ e. is_above_low h x (origin_parent from) (λ l. omega arith)
-    ∙ sym (subst (λ u. is_ancestor h x u ≡ false) (sym e)
-    (ap (λ l. contains l x) (lineage-base h) ∙ ap (λ b. b || false) (ne_eqb x 0 x0))))
-    (λ ne. is_above_is h w.1 x (origin_parent from) x0
-    (is_begun_from h (origin_parent from) (stands_unfolded h (origin_parent from) ne w.0)
-    (stands_begun h (origin_parent from) w.0)))
-    (cases_eq (origin_parent from) 0))
-    ∙ sym (ap (λ l. contains l x) t.1))
-    (λ t. ap at (ne_eqb y (folded h + length (rows h) + 1) (λ e. t.0 (e ∙ top)))
-    ∙ is_above_is h w.1 x y x0 (is_begun_from h y q.0 (let u = q.1 in let v = t.0 in omega arith))
-    ∙ sym (ap (λ l. contains l x) t.1))
-    (lineage_cases h from y)
-is_above_is (Committed s ▹ h) w x y x0 k =
-    is_above-mark (folded h) (λ k. k == s) IsCommitted (rows h) x y ∙ is_above_is h w.1 x y x0 k
-is_above_is (Aborted zs ▹ h) w x y x0 k =
-    is_above-mark (folded h) (λ k. list_any (λ z. is_above (folded h) (rows h) z k) zs) IsAborted (rows h) x y
-    ∙ is_above_is h w.1 x y x0 k
+    grind (
+      arith,
+      nat_tests,
+      is_begun_parts,
+      rows_length h,
+      is_above_low,
+      lineage-base h,
+      is_above_is h w.1 x (origin_parent from) x0,
+      is_begun_from,
+      stands_unfolded,
+      stands_begun,
+      is_above_is h w.1 x y x0,
+      lineage_cases,
+    )
+is_above_is (Committed s ▹ h) w x y x0 k = grind (arith, nat_tests, is_above-mark, is_above_is h w.1 x y x0 k)
+is_above_is (Aborted zs ▹ h) w x y x0 k = grind (arith, nat_tests, is_above-mark, is_above_is h w.1 x y x0 k)
 is_above_is (Accessed a o v ▹ h) w x y x0 k = is_above_is h w.1 x y x0 k
 
 -- the row of a begun action says what the history says of it
@@ -191,52 +150,29 @@ pub row_is : {V : Type 0} (h : History V) → Orderly h → (a : ℕ) → is_beg
     → row_at (folded h) (rows h) a ≡ Some (row_of h a)
 row_is {V} (Opened n) w a k = let q = is_begun_parts {V = V} (Opened n) a k in absurd (omega (arith, q.0, q.1))
 row_is (Began from ▹ h) w a k =
-    let g = Began from ▹ h in
-    let q = is_begun_parts g a k in
-    let top = rows_length h in
-    let row : Row = record { origin = from; status = IsLive } in
-    let made : Origin → Status → Option Row = λ x s. Some (record { origin = x; status = s }) in
-    ⊎_elim
-    (λ e. ap (λ b. cond b (Some row) (row_at (folded h) (rows h) a))
-    (eq-eqb a (folded h + length (rows h) + 1) (e ∙ sym top))
-    ∙ ap (λ s. made from s) (sym (status_began_new h from a w.1 w.0 e))
-    ∙ sym (ap (λ b. made (cond b from (origin h a)) (status g a)) (eq-eqb a (next_action h) e)))
-    (λ ne. let old = is_begun_from h a q.0 (let u = q.1 in omega arith) in
-    ap (λ b. cond b (Some row) (row_at (folded h) (rows h) a))
-    (ne_eqb a (folded h + length (rows h) + 1) (λ e. ne (e ∙ top)))
-    ∙ row_is h w.1 a old
-    ∙ ap (λ s. made (origin h a) s) (sym (status_began_old h from a old))
-    ∙ sym (ap (λ b. made (cond b from (origin h a)) (status g a)) (ne_eqb a (next_action h) ne)))
-    (cases_eq a (next_action h))
+    grind (
+      arith,
+      nat_tests,
+      is_begun_parts,
+      rows_length h,
+      status_began_new,
+      is_begun_from,
+      row_is h w.1 a,
+      status_began_old,
+    )
 row_is (Committed s ▹ h) w a k =
-    let made : Status → Option Row = λ t. Some (record { origin = origin h a; status = t }) in
-    row_at-mark (folded h) (λ k. k == s) IsCommitted (rows h) a
-    ∙ ap (marked (a == s) IsCommitted) (row_is h w.1 a k)
-    ∙ ⊎_elim
-    (λ e. ap (λ b. Some (cond b (with_status IsCommitted (row_of h a)) (row_of h a))) (eq-eqb a s e)
-    ∙ ap made (sym
-    (subst (λ u. status (Committed s ▹ h) u ≡ IsCommitted) (sym e)
-    (status_commit_own h s w.1 w.0.not_base w.0.standing))))
-    (λ ne. ap (λ b. Some (cond b (with_status IsCommitted (row_of h a)) (row_of h a))) (ne_eqb a s ne)
-    ∙ ap made (sym (status_commit_other h s a ne)))
-    (cases_eq a s)
+    grind (
+      arith,
+      nat_tests,
+      row_at-mark,
+      marked,
+      row_is h w.1 a k,
+      status_commit_own,
+      status_commit_other,
+      cases_eq a s,
+    )
 row_is (Aborted zs ▹ h) w a k =
-    let made : Status → Option Row = λ t. Some (record { origin = origin h a; status = t }) in
-    let t = list_any (λ z. is_above (folded h) (rows h) z a) zs in
-    let same : t ≡ is_under h zs a =
-    any_agree (λ z. is_above (folded h) (rows h) z a) (λ z. is_ancestor h z a) zs
-    (λ z m. is_above_is h w.1 z a (w.0 z m).0 k) in
-    row_at-mark (folded h) (λ k. list_any (λ z. is_above (folded h) (rows h) z k) zs) IsAborted (rows h) a
-    ∙ ap (marked t IsAborted) (row_is h w.1 a k)
-    ∙ ap (λ b. Some (cond b (with_status IsAborted (row_of h a)) (row_of h a))) same
-    ∙ pushed (is_under h zs a) made
-    ∙ ap made (sym (status_abort h zs a k))
-  where
-    pushed : (b : Bool) (made : Status → Option Row)
-        → Some (cond b (with_status IsAborted (row_of h a)) (row_of h a))
-        ≡ Some (record { origin = origin h a; status = cond b IsAborted (status h a) })
-    pushed true made = refl
-    pushed false made = refl
+    grind (arith, nat_tests, any_agree, is_above_is, row_at-mark, marked, row_is h w.1 a k, status_abort)
 row_is (Accessed d o v ▹ h) w a k = row_is h w.1 a k
 
 -- the origin says who is the parent
@@ -292,40 +228,11 @@ under_listed : (n : ℕ) (rs : List Row) (f : ℕ → Row) (a : ℕ)
     == a))
     (upto n (length rs))
 under_listed n [] f a each = refl
-under_listed n (r ∷ rs) f a each =
-    let t = λ (x : Row). is_live_status x.status && (origin_parent x.origin == a || origin_begun_by x.origin == a) in
-    let top = n + length rs + 1 in
-    let first : r ≡ f top =
-    unsome r (f top)
-    (sym (ap (λ b. cond b (Some r) (row_at n rs top)) (eq-eqb top top refl))
-    ∙ each top (omega arith) (omega arith)) in
-    let later : (k : ℕ) → n < k → k < top → row_at n rs k ≡ Some (f k) =
-    λ k l m. sym (ap (λ b. cond b (Some r) (row_at n rs k)) (ne_eqb k top (λ e. omega arith)))
-    ∙ each k l (omega arith) in
-    ap (λ b. t r || b) (under_listed n rs f a later)
-    ∙ or_comm (t r) (list_any (λ k. t (f k)) (upto n (length rs)))
-    ∙ ap (λ b. list_any (λ k. t (f k)) (upto n (length rs)) || b) (ap t first ∙ or_none (t (f top)))
-    ∙ sym (list_any-append (λ k. t (f k)) (upto n (length rs)) (top ∷ []))
-  where
-    unsome : (x y : Row) → Some x ≡ Some y → x ≡ y
-    unsome x y e = ap (λ o. unwrap_or o x) e
+under_listed n (r ∷ rs) f a each = grind (arith, nat_tests, under_listed n rs f a, or_comm, upto, list_any-append)
 
 -- an action has the status of a live one where it is live, and only there
 pub live_status_is : {V : Type 0} (h : History V) (k : ℕ) → is_live_status (status h k) ≡ is_live h k
-live_status_is h k =
-    ⊎_elim
-    (λ e. ap (λ b. is_live_status (cond b (over (is_doomed h k) (has_committed h k)) IsFolded)) e
-    ∙ by_tests (is_doomed h k) (has_committed h k)
-    ∙ sym (ap (λ b. b && (not (has_committed h k) && not (is_doomed h k))) e))
-    (λ e. ap (λ b. is_live_status (cond b (over (is_doomed h k) (has_committed h k)) IsFolded)) e
-    ∙ sym (ap (λ b. b && (not (has_committed h k) && not (is_doomed h k))) e))
-    (cases_Bool (is_begun h k))
-  where
-    by_tests : (d c : Bool) → is_live_status (over d c) ≡ (not c && not d)
-    by_tests true true = refl
-    by_tests true false = refl
-    by_tests false true = refl
-    by_tests false false = refl
+live_status_is h k = grind (arith, nat_tests)
 
 -- who has a live child by the rows has one by the history, and the other way round
 pub has_live_row_is : {V : Type 0} (h : History V) → Orderly h → (a : ℕ) → has_live_row (rows h) a ≡ has_live_child h a
@@ -348,35 +255,15 @@ is_above_unbegun : {V : Type 0} (h : History V) (x y : ℕ) → is_begun h y ≡
     → is_above (folded h) (rows h) x y ≡ false
 is_above_unbegun (Opened n) x y u = refl
 is_above_unbegun (Began from ▹ h) x y u =
-    let t = rows_length h in
-    let f = folded_next h in
-    let old : is_begun h y ≡ false =
-    false_from_ne_true (is_begun h y)
-    (λ k. let q = is_begun_parts h y k in
-    both_ways (is_begun (Began from ▹ h) y) u (is_begun_from (Began from ▹ h) y q.0 (omega (arith, q.1)))) in
-    let top : y ≢ folded h + length (rows h) + 1 =
-    λ e. both_ways (is_begun (Began from ▹ h) y) u (is_begun_from (Began from ▹ h) y (omega arith) (omega arith)) in
-    ap (λ b. cond b (x == y || is_above (folded h) (rows h) x (origin_parent from)) (is_above (folded h) (rows h) x y))
-    (ne_eqb y (folded h + length (rows h) + 1) top)
-    ∙ is_above_unbegun h x y old
-is_above_unbegun (Committed s ▹ h) x y u =
-    is_above-mark (folded h) (λ k. k == s) IsCommitted (rows h) x y ∙ is_above_unbegun h x y u
-is_above_unbegun (Aborted zs ▹ h) x y u =
-    is_above-mark (folded h) (λ k. list_any (λ z. is_above (folded h) (rows h) z k) zs) IsAborted (rows h) x y
-    ∙ is_above_unbegun h x y u
+    grind (arith, nat_tests, rows_length h, folded_next h, is_begun_parts, is_begun_from, is_above_unbegun h x y)
+is_above_unbegun (Committed s ▹ h) x y u = grind (arith, nat_tests, is_above-mark, is_above_unbegun h x y u)
+is_above_unbegun (Aborted zs ▹ h) x y u = grind (arith, nat_tests, is_above-mark, is_above_unbegun h x y u)
 is_above_unbegun (Accessed a o v ▹ h) x y u = is_above_unbegun h x y u
 
 -- by the rows the base is above none
 pub is_above_zero : (n : ℕ) (rs : List Row) (y : ℕ) → is_above n rs 0 y ≡ false
 is_above_zero n [] y = refl
-is_above_zero n (r ∷ rs) y =
-    let below = is_above n rs 0 (origin_parent r.origin) in
-    ⊎_elim
-    (λ e. ap (λ b. cond b (0 == y || below) (is_above n rs 0 y)) (eq-eqb y (n + length rs + 1) e)
-    ∙ ap (λ b. b || below) (ne_eqb 0 y (λ k. omega arith)) ∙ is_above_zero n rs (origin_parent r.origin))
-    (λ e. ap (λ b. cond b (0 == y || below) (is_above n rs 0 y)) (ne_eqb y (n + length rs + 1) e)
-    ∙ is_above_zero n rs y)
-    (cases_eq y (n + length rs + 1))
+is_above_zero n (r ∷ rs) y = grind (arith, nat_tests, is_above_zero n rs (origin_parent r.origin), is_above_zero n rs y)
 
 -- an ancestor of what has begun has begun, but for the base
 ancestor_unfolded : {V : Type 0} (h : History V) → Orderly h → (n x y : ℕ) → y < n → folded h < y → y < next_action h

@@ -1,7 +1,7 @@
 -- What stands sees what the serial order up to it leaves, and that order gives each answer again.
 use Rattle.std.proofs.Common.{Bool, List, None, Option, Some, [], ap, append-nil, append_assoc, arith, cond, false}
 use Rattle.std.proofs.Common.{refl, subst, sym, true, ℕ, ⊎_elim, ◌++◌, ◌<◌, ◌∙◌, ◌∷◌, ◌≡◌, ◌≢◌}
-use Rattle.std.specs.Prelude.{◌==◌, ◌||◌}
+use Rattle.std.specs.Prelude.{◌==◌}
 use Rattle.std.proofs.lemmas.Bool.{both_ways, cases_Bool, cases_eq, eq-eqb, false_from_ne_true, false≢true, ne_eqb}
 use Rattle.std.proofs.lemmas.Bool.Decides.{nat_tests}
 use Rattle.argus_model.specs.Ancestors.{is_ancestor, is_under, lineage, parent}
@@ -12,8 +12,7 @@ use Rattle.argus_model.specs.Meaning.{Fits, Meaning}
 use Rattle.argus_model.specs.Numbers.{contains}
 use Rattle.argus_model.specs.OwnerSteps.{StandsAlone, owner_inherited, owner_by_steps, stands, unless_lost}
 use Rattle.argus_model.specs.Work.{Access, all_of, content_after, serial_order_to, work}
-use Rattle.argus_model.specs.WorkSteps.{LawfulAccess, LawfulSteps, Replays, accesses_by, owner_passes}
-use Rattle.argus_model.specs.WorkSteps.{visible_accesses}
+use Rattle.argus_model.specs.WorkSteps.{LawfulAccess, LawfulSteps, Replays, owner_passes, visible_accesses}
 use Rattle.argus_model.proofs.Ancestors.{ParentsAreOlder, Split, ancestor_le, ancestor_self, ancestor_trans}
 use Rattle.argus_model.proofs.Ancestors.{lineage_cases, lineage_old, next_pos, parent_older, split_lineage, under_below}
 use Rattle.argus_model.proofs.Bools.{same_bool}
@@ -88,19 +87,12 @@ owner_passes_handed : (t u : ℕ → Bool) (s p : ℕ) (o : Option ℕ) → (o �
     → ((x : ℕ) → o ≡ Some x → x ≢ s → t x ≡ u x) → owner_passes t o ≡ owner_passes u (owner_inherited s p o)
 owner_passes_handed t u s p None a b = refl
 owner_passes_handed t u s p (Some x) a b =
-    ⊎_elim
-    (λ e. ap t e ∙ a (ap Some e) ∙ sym (ap (owner_passes u) (handed_from s p (Some x) (ap Some e))))
-    (λ ne. b x refl ne ∙ sym (ap (owner_passes u) (handed_stays s p (Some x) x refl ne)))
-    (cases_eq x s)
+    grind (arith, nat_tests, handed_from s p (Some x), handed_stays s p (Some x) x refl, cases_eq x s)
 
 owner_passes_kept : (t : ℕ → Bool) (lost : ℕ → Bool) (o : Option ℕ)
     → ((x : ℕ) → o ≡ Some x → lost x ≡ true → t x ≡ false) → owner_passes t o ≡ owner_passes t (unless_lost lost o)
 owner_passes_kept t lost None a = refl
-owner_passes_kept t lost (Some x) a =
-    ⊎_elim
-    (λ e. a x refl e ∙ sym (ap (λ b. owner_passes t (cond b None (Some x))) e))
-    (λ e. sym (ap (λ b. owner_passes t (cond b None (Some x))) e))
-    (cases_Bool (lost x))
+owner_passes_kept t lost (Some x) a = grind (arith, nat_tests, cases_Bool (lost x))
 
 module _ {V C A : Type 0} (meaning : Meaning V C A) (contents : ℕ → C) where
   -- what is lawful by steps is orderly
@@ -159,26 +151,23 @@ module _ {V C A : Type 0} (meaning : Meaning V C A) (contents : ℕ → C) where
   has_used_owner : (h : History V) (from : Origin) (a o : ℕ) → Orderly h → has_used meaning.writes h a o false ≡ true
       → owner_by_steps h a ≡ owner_by_steps (Began from ▹ h) a
   has_used_owner h from a o w u =
-      ⊎_elim (λ k. absurd (let l = has_used_begun meaning.writes h w a o false u in omega (arith, k.0))) (λ k. sym k.1)
-      (owner_cases h from a)
+      grind (arith, nat_tests, has_used_begun meaning.writes h w a o false u, owner_cases h from a)
 
   -- a new action sees what its parent sees
   pub seen_begin_new : (h : History V) (from : Origin) (y o : ℕ) → Orderly h → y ≡ next_action h
       → content_after meaning contents o (visible_accesses h (origin_parent from))
       ≡ content_after meaning contents o (visible_accesses (Began from ▹ h) y)
   seen_begin_new h from y o w k =
-      let g = Began from ▹ h in
-      let t : lineage g y ≡ y ∷ lineage h (origin_parent from) =
-      ⊎_elim (λ q. q.1) (λ q. absurd (q.0 k)) (lineage_cases h from y) in
-      accesses_by_agree meaning contents o
-      (λ a. owner_passes (λ x. is_ancestor h x (origin_parent from)) (owner_by_steps h a))
-      (λ a. owner_passes (λ x. is_ancestor g x y) (owner_by_steps g a)) h
-      (λ a u. owner_passes_agree (λ x. is_ancestor h x (origin_parent from)) (λ x. is_ancestor g x y)
-      (owner_by_steps h a)
-      (λ x e. let xl = owner_begun h a x (parents_are_older h w) e in
-      let ne : x == y ≡ false = ne_eqb x y (λ q. omega arith) in
-      sym (ap (λ t. contains t x) t ∙ ap (λ b. b || contains (lineage h (origin_parent from)) x) ne))
-      ∙ ap (owner_passes (λ x. is_ancestor g x y)) (has_used_owner h from a o w u))
+      grind (
+        arith,
+        nat_tests,
+        lineage_cases h from y,
+        accesses_by_agree meaning contents o,
+        owner_passes_agree,
+        owner_begun h,
+        parents_are_older h w,
+        has_used_owner h from,
+      )
 
   -- a begin leaves what every other sees
   pub seen_begin_old : (h : History V) (from : Origin) (y o : ℕ) → Orderly h → y ≢ next_action h
@@ -195,39 +184,21 @@ module _ {V C A : Type 0} (meaning : Meaning V C A) (contents : ℕ → C) where
   after_begin : (h : History V) (from : Origin) → Orderly h → stands h (origin_parent from) ≡ true → Serials h
       → Serials (Began from ▹ h)
   after_begin h from w lp ih y l =
-      let g = Began from ▹ h in
-      ⊎_elim
-      (λ k. carried h g (origin_parent from) y
-      (ap (all_of (work h)) k.1
-      ∙ ap (λ es. es ++ serial_order_to h (origin_parent from)) (no_work h w y (omega (arith, k.0))))
-      (λ o. seen_begin_new h from y o w k.0) (ih (origin_parent from) lp))
-      (λ k. carried h g y y (ap (all_of (work h)) k.1) (λ o. seen_begin_old h from y o w k.0)
-      (ih y (sym (stands_old h from y k.0) ∙ l)))
-      (lineage_cases h from y)
+      grind (arith, nat_tests, carried h, no_work h w y, seen_begin_new, seen_begin_old, stands_old, lineage_cases)
 
   -- who accesses an object sees there what the access leaves, and in others what it saw
   pub seen_access_own : (h : History V) (a o : ℕ) (v : V) (i : ℕ) → stands h a ≡ true
       → content_after meaning contents i (visible_accesses (Accessed a o v ▹ h) a)
       ≡ cond (o == i) (meaning.after v (content_after meaning contents i (visible_accesses h a)))
       (content_after meaning contents i (visible_accesses h a))
-  seen_access_own h a o v i la =
-      let t = λ (b : ℕ). owner_passes (λ x. is_ancestor h x a) (owner_by_steps h b) in
-      ap (λ b. content_after meaning contents i
-      (cond b (record { object = o; what = v } ∷ accesses_by t h) (accesses_by t h)))
-      (ap (owner_passes (λ x. is_ancestor h x a)) (at_some (owner_by_steps h a) a la) ∙ ancestor_self h a)
+  seen_access_own h a o v i la = grind (arith, nat_tests, at_some (owner_by_steps h a) a la, ancestor_self h a)
 
   -- an access leaves what those see that are not under its action
   pub seen_access_other : (h : History V) (a o : ℕ) (v : V) (y i : ℕ) → stands h a ≡ true
       → (is_ancestor h a y ≡ true → ⊥)
       → content_after meaning contents i (visible_accesses h y)
       ≡ content_after meaning contents i (visible_accesses (Accessed a o v ▹ h) y)
-  seen_access_other h a o v y i la n =
-      let t = λ (b : ℕ). owner_passes (λ x. is_ancestor h x y) (owner_by_steps h b) in
-      sym (ap (λ b.
-      content_after meaning contents i
-      (cond b (record { object = o; what = v } ∷ accesses_by t h) (accesses_by t h)))
-      (ap (owner_passes (λ x. is_ancestor h x y)) (at_some (owner_by_steps h a) a la)
-      ∙ false_from_ne_true (is_ancestor h a y) n))
+  seen_access_other h a o v y i la n = grind (arith, nat_tests, at_some (owner_by_steps h a) a la)
 
   access_here : (h : History V) (a o : ℕ) (v : V) → Orderly h → stands h a ≡ true
       → Fits meaning v (content_after meaning contents o (visible_accesses h a)) → Serials h
@@ -255,21 +226,18 @@ module _ {V C A : Type 0} (meaning : Meaning V C A) (contents : ℕ → C) where
   after_access : (h : History V) (a o : ℕ) (v : V) → Orderly h → LawfulAccess meaning contents h a o v → Serials h
       → Serials (Accessed a o v ▹ h)
   after_access h a o v w now ih y l =
-      let la = now.alone.standing in
-      let g = Accessed a o v ▹ h in
-      let e : Access V = record { object = o; what = v } in
-      ⊎_elim
-      (λ k. subst (λ u. Serial g u) k (access_here h a o v w la now.answer ih))
-      (λ k.
-      let not_above : is_ancestor h a y ≡ true → ⊥ =
-      λ m. k (alone h (parents_are_older h w) (stands_upward h w) a y l m now.alone.childless) in
-      carried h g y y
-      (all_of_agree (work g) (work h) (lineage h y)
-      (λ z m. ap (λ b. cond b (e ∷ work h z) (work h z))
-      (ne_eqb a z (λ i. not_above (subst (λ u. is_ancestor h u y ≡ true) (sym i) m)))))
-      (λ i. seen_access_other h a o v y i la not_above)
-      (ih y l))
-      (cases_eq a y)
+      grind (
+        arith,
+        nat_tests,
+        access_here h a o v w,
+        alone h (parents_are_older h w) (stands_upward h w) a y l,
+        parents_are_older h w,
+        stands_upward h w,
+        carried h,
+        all_of_agree,
+        seen_access_other h a o v y,
+        cases_eq a y,
+      )
 
   module _ (h : History V) (s y : ℕ) (w : Orderly h) (gd : Guarded meaning.writes h) (now : StandsAlone h s)
       (ly : stands h y ≡ true) (ne : y ≢ s) where
@@ -324,14 +292,7 @@ module _ {V C A : Type 0} (meaning : Meaning V C A) (contents : ℕ → C) where
 
       serial_after : serial_order_to (Committed s ▹ h) y ≡ between ++ serial_order_to h s
       unfolding between
-      serial_after =
-          let p = parent h s in let g = Committed s ▹ h in
-          ap (all_of (work g)) cut.is
-          ∙ all_of-append (work g) cut.front (lineage h p)
-          ∙ ap (λ es. es ++ all_of (work g) (lineage h p))
-          (all_of_agree (work g) (work h) cut.front
-          (λ z m. work_stays z (λ k. let lz = cut.above z m in omega arith)))
-          ∙ ap (λ es. all_of (work h) cut.front ++ es) serial_p
+      serial_after = grind (arith, nat_tests, all_of-append, all_of_agree, work_stays, serial_p)
 
       -- what a writer that s owns wrote, no one between has touched
       apart : (o a : ℕ) → has_used meaning.writes h a o false ≡ true → owner_by_steps h a ≡ Some s
@@ -358,11 +319,7 @@ module _ {V C A : Type 0} (meaning : Meaning V C A) (contents : ℕ → C) where
       pub seen_same : (o : ℕ) → ((a : ℕ) → has_used meaning.writes h a o false ≡ true → owner_by_steps h a ≢ Some s)
           → content_after meaning contents o (visible_accesses h y)
           ≡ content_after meaning contents o (visible_accesses (Committed s ▹ h) y)
-      seen_same o none =
-          accesses_by_agree meaning contents o (λ a. owner_passes (λ x. is_ancestor h x y) (owner_by_steps h a))
-          (λ a. owner_passes (λ x. is_ancestor h x y) (owner_inherited s (parent h s) (owner_by_steps h a))) h
-          (λ a u. owner_passes_handed (λ x. is_ancestor h x y) (λ x. is_ancestor h x y) s (parent h s)
-          (owner_by_steps h a) (λ e. absurd (none a u e)) (λ x e k. refl))
+      seen_same o none = grind (arith, nat_tests, accesses_by_agree meaning contents o, owner_passes_handed)
 
       -- after the commit of s, who is under its parent sees as s saw what s had written
       pub seen_as_s : (o a : ℕ) → has_used meaning.writes h a o false ≡ true → owner_by_steps h a ≡ Some s
@@ -401,21 +358,10 @@ module _ {V C A : Type 0} (meaning : Meaning V C A) (contents : ℕ → C) where
     pub seen_aside : is_ancestor h (parent h s) y ≡ false → (o : ℕ)
         → content_after meaning contents o (visible_accesses h y)
         ≡ content_after meaning contents o (visible_accesses (Committed s ▹ h) y)
-    seen_aside off o =
-        accesses_by_agree meaning contents o (λ a. owner_passes (λ x. is_ancestor h x y) (owner_by_steps h a))
-        (λ a. owner_passes (λ x. is_ancestor h x y) (owner_inherited s (parent h s) (owner_by_steps h a))) h
-        (λ a u. owner_passes_handed (λ x. is_ancestor h x y) (λ x. is_ancestor h x y) s (parent h s)
-        (owner_by_steps h a) (λ e. false_from_ne_true (is_ancestor h s y) not_below ∙ sym off) (λ x e k. refl))
+    seen_aside off o = grind (arith, nat_tests, accesses_by_agree meaning contents o, owner_passes_handed, not_below)
 
     commit_aside : is_ancestor h (parent h s) y ≡ false → Serials h → Serial (Committed s ▹ h) y
-    commit_aside off ih =
-        let p = parent h s in
-        carried h (Committed s ▹ h) y y
-        (all_of_agree (work (Committed s ▹ h)) (work h) (lineage h y)
-        (λ z m. work_stays z
-        (λ e. both_ways (is_ancestor h p y) off (subst (λ u. is_ancestor h u y ≡ true) (sym e) m))))
-        (seen_aside off)
-        (ih y ly)
+    commit_aside off ih = grind (arith, nat_tests, carried, all_of_agree, work_stays, seen_aside off)
 
   after_commit : (h : History V) (s : ℕ) → Orderly h → Guarded meaning.writes h → StandsAlone h s → Serials h
       → Serials (Committed s ▹ h)

@@ -1,4 +1,5 @@
 -- Creators are older, and which actions are under the live siblings of an action.
+use Rattle.std.proofs.lemmas.Bool.Decides.{nat_tests}
 use Rattle.std.proofs.Common.{arith, cond, subst, sym, true, ℕ, ⊎_elim, ◌<◌, ◌∙◌, ◌≡◌, ◌≢◌}
 use Rattle.std.specs.List.{list_any}
 use Rattle.std.specs.List.Sorted.{IsStrictlyIncreasing}
@@ -32,17 +33,7 @@ module _ {V C A : Type 0} (meaning : Meaning V C A) (opening : HistoryOpening C)
   pub creator_older : (h : History V) (a : ℕ) → Lawful meaning opening h → is_begun h a ≡ true → begun_by h a < a
   creator_older (Opened n) a l k = let q = is_begun_parts {V = V} (Opened n) a k in omega (arith, q.0)
   creator_older (Began from ▹ h) a l k =
-      let q = is_begun_parts (Began from ▹ h) a k in
-      ⊎_elim
-      (λ e. let before : origin_begun_by from < next_action h =
-      ⊎_elim (λ z. let c = eqb-true (origin_begun_by from) 0 z in let n = next_pos h in omega arith)
-      (λ z. (is_begun_parts h (origin_begun_by from) (live_begun h (origin_begun_by from) z)).1)
-      (or_cases (origin_begun_by from == 0) (is_live h (origin_begun_by from)) l.0) in
-      subst (λ b. cond b (origin_begun_by from) (begun_by h a) < a) (sym (eq-eqb a (next_action h) e))
-      (omega (arith, before)))
-      (λ n. subst (λ b. cond b (origin_begun_by from) (begun_by h a) < a) (sym (ne_eqb a (next_action h) n))
-      (creator_older h a l.1 (is_begun_from h a q.0 (let u = q.1 in omega arith))))
-      (cases_eq a (next_action h))
+      grind (arith, nat_tests, is_begun_parts, next_pos h, live_begun, creator_older h a l.1, is_begun_from)
   creator_older (Committed s ▹ h) a l k = creator_older h a l.1 k
   creator_older (Aborted zs ▹ h) a l k = creator_older h a l.1 k
   creator_older (Accessed d o v ▹ h) a l k = creator_older h a l.1 k

@@ -1,17 +1,15 @@
 -- Ancestors of what stands stand, and what a commit or an abort leaves standing.
-use Rattle.std.proofs.Common.{Bool, List, None, Option, Some, [], ap, arith, false, inl, inr, refl, subst, sym, true, ℕ}
-use Rattle.std.proofs.Common.{⊎_elim, ◌<◌, ◌∙◌, ◌∷◌, ◌≡◌, ◌≢◌, ◌⊎◌}
-use Rattle.std.specs.Prelude.{◌&&◌, ◌==◌, ◌||◌}
-use Rattle.std.proofs.lemmas.Bool.{and_from, both_ways, cases_Bool, cases_eq, eq-eqb, eqb-true, false≢true, or_left}
-use Rattle.std.proofs.lemmas.Bool.{or_right}
+use Rattle.std.proofs.Common.{Bool, List, None, Option, Some, ap, arith, false, refl, subst, sym, true, ℕ, ⊎_elim, ◌<◌}
+use Rattle.std.proofs.Common.{◌∙◌, ◌≡◌, ◌≢◌, ◌⊎◌}
+use Rattle.std.specs.Prelude.{◌==◌}
+use Rattle.std.proofs.lemmas.Bool.{both_ways, cases_Bool, cases_eq, eq-eqb, eqb-true, false≢true, or_right}
 use Rattle.std.proofs.lemmas.Bool.Decides.{nat_tests}
 use Rattle.argus_model.specs.Ancestors.{is_ancestor, is_under, lineage, parent}
-use Rattle.argus_model.specs.Event.{Aborted, Accessed, Began, Committed, Origin, origin_begun_by, origin_parent}
+use Rattle.argus_model.specs.Event.{Aborted, Accessed, Began, Committed, Origin, origin_parent}
 use Rattle.argus_model.specs.History.{History, Opened, folded, next_action, ◌▹◌}
 use Rattle.argus_model.specs.Numbers.{contains}
 use Rattle.argus_model.specs.OwnerSteps.{AllStand, StandsAlone, owner_inherited, is_exactly, owner_by_steps}
-use Rattle.argus_model.specs.OwnerSteps.{standing_child}
-use Rattle.argus_model.specs.OwnerSteps.{stands, unless_lost}
+use Rattle.argus_model.specs.OwnerSteps.{standing_child, stands, unless_lost}
 use Rattle.argus_model.proofs.Ancestors.{ParentsAreOlder, ancestor_new_is, ancestor_old_is, ancestor_self}
 use Rattle.argus_model.proofs.Ancestors.{child_on_path, folded_next, parent_cases, parent_older, under_below}
 
@@ -36,9 +34,7 @@ some_at o y e = rw e (eq-eqb y y refl)
 pub handed_cases : (s p : ℕ) (o : Option ℕ) (x : ℕ) → owner_inherited s p o ≡ Some x
     → ((o ≡ Some s) × (x ≡ p)) ⊎ ((o ≡ Some x) × (x ≢ s))
 handed_cases s p None x e = grind arith
-handed_cases s p (Some y) x e =
-    ⊎_elim (λ k. inl (ap Some k, grind (arith, nat_tests)))
-    (λ k. inr (grind (arith, nat_tests), grind (arith, nat_tests))) (cases_eq y s)
+handed_cases s p (Some y) x e = grind (arith, nat_tests, cases_eq y s)
 
 -- after s hands up to p, what s answered for is p's
 pub handed_from : (s p : ℕ) (o : Option ℕ) → o ≡ Some s → owner_inherited s p o ≡ Some p
@@ -52,8 +48,7 @@ handed_stays s p o x e ne = grind (arith, nat_tests)
 pub kept_cases : (lost : ℕ → Bool) (o : Option ℕ) (x : ℕ) → unless_lost lost o ≡ Some x
     → (o ≡ Some x) × (lost x ≡ false)
 kept_cases lost None x e = grind arith
-kept_cases lost (Some y) x e =
-    ⊎_elim (λ k. absurd (grind arith)) (λ k. (grind arith, grind arith)) (cases_Bool (lost y))
+kept_cases lost (Some y) x e = grind (arith, nat_tests, cases_Bool (lost y))
 
 -- an owner that is not lost is left
 pub kept_stays : (lost : ℕ → Bool) (o : Option ℕ) (x : ℕ) → o ≡ Some x → lost x ≡ false → unless_lost lost o ≡ Some x
@@ -68,12 +63,9 @@ owner_cases h from y = grind (arith, nat_tests)
 -- what has an owner has begun
 pub owned_begun : {V : Type 0} (h : History V) (y x : ℕ) → owner_by_steps h y ≡ Some x → y < next_action h
 owned_begun (Opened n) y x e = ⊎_elim (λ k. omega arith) (λ k. absurd (grind (arith, nat_tests))) (cases_eq y 0)
-owned_begun (Began from ▹ h) y x e =
-    ⊎_elim (λ k. omega (arith, k.0)) (λ k. let l = owned_begun h y x (sym k.1 ∙ e) in omega arith)
-    (owner_cases h from y)
+owned_begun (Began from ▹ h) y x e = grind (arith, nat_tests, owned_begun h y x, owner_cases h from y)
 owned_begun (Committed s ▹ h) y x e =
-    ⊎_elim (λ k. owned_begun h y s k.0) (λ k. owned_begun h y x k.0)
-    (handed_cases s (parent h s) (owner_by_steps h y) x e)
+    grind (arith, nat_tests, owned_begun h y s, owned_begun h y x, handed_cases s (parent h s) (owner_by_steps h y) x e)
 owned_begun (Aborted z ▹ h) y x e = owned_begun h y x (kept_cases (is_under h z) (owner_by_steps h y) x e).0
 owned_begun (Accessed a o v ▹ h) y x e = owned_begun h y x e
 
@@ -81,8 +73,7 @@ owned_begun (Accessed a o v ▹ h) y x e = owned_begun h y x e
 pub owned_unfolded : {V : Type 0} (h : History V) (y x : ℕ) → y ≢ 0 → owner_by_steps h y ≡ Some x → folded h < y
 owned_unfolded (Opened n) y x ne e = absurd (grind (arith, nat_tests))
 owned_unfolded (Began from ▹ h) y x ne e =
-    ⊎_elim (λ k. let q = folded_next h in omega (arith, k.0)) (λ k. owned_unfolded h y x ne (sym k.1 ∙ e))
-    (owner_cases h from y)
+    grind (arith, nat_tests, folded_next h, owned_unfolded h y x ne, owner_cases h from y)
 owned_unfolded (Committed s ▹ h) y x ne e =
     ⊎_elim (λ k. owned_unfolded h y s ne k.0) (λ k. owned_unfolded h y x ne k.0)
     (handed_cases s (parent h s) (owner_by_steps h y) x e)
@@ -108,9 +99,7 @@ parents_are_older (Accessed a o v ▹ h) w = parents_are_older h w.1
 -- a parent has begun
 pub parent_begun : {V : Type 0} (h : History V) (y : ℕ) → ParentsAreOlder h → parent h y < next_action h
 parent_begun (Opened n) y f = omega arith
-parent_begun (Began from ▹ h) y f = let ih = parent_begun h y f.1 in
-    ⊎_elim (λ k. let q = k.1 in let l = f.0 in rw q (omega arith)) (λ k. let q = k.1 in rw q (omega arith))
-    (parent_cases h from y)
+parent_begun (Began from ▹ h) y f = grind (arith, nat_tests, parent_begun h y f.1, parent_cases h from y)
 parent_begun (Committed s ▹ h) y f = parent_begun h y f
 parent_begun (Aborted z ▹ h) y f = parent_begun h y f
 parent_begun (Accessed a o v ▹ h) y f = parent_begun h y f
@@ -118,11 +107,8 @@ parent_begun (Accessed a o v ▹ h) y f = parent_begun h y f
 -- an owner has begun
 pub owner_begun : {V : Type 0} (h : History V) (y x : ℕ) → ParentsAreOlder h → owner_by_steps h y ≡ Some x
     → x < next_action h
-owner_begun (Opened n) y x f e =
-    ⊎_elim (λ k. grind (arith, nat_tests)) (λ k. absurd (grind (arith, nat_tests))) (cases_eq y 0)
-owner_begun (Began from ▹ h) y x f e =
-    ⊎_elim (λ k. let q : y ≡ x = grind arith in omega (arith, k.0))
-    (λ k. let l = owner_begun h y x f.1 (sym k.1 ∙ e) in omega arith) (owner_cases h from y)
+owner_begun (Opened n) y x f e = grind (arith, nat_tests, cases_eq y 0)
+owner_begun (Began from ▹ h) y x f e = grind (arith, nat_tests, owner_begun h y x f.1, owner_cases h from y)
 owner_begun (Committed s ▹ h) y x f e =
     ⊎_elim (λ k. let l = parent_begun h s f in omega (arith, k.1)) (λ k. owner_begun h y x f k.0)
     (handed_cases s (parent h s) (owner_by_steps h y) x e)
@@ -133,17 +119,7 @@ owner_begun (Accessed a o v ▹ h) y x f e = owner_begun h y x f e
 pub child_found : {V : Type 0} (h k : History V) (x y : ℕ) → folded k < y → y < next_action k → parent k y ≡ x
     → stands h y ≡ true → standing_child h x k ≡ true
 child_found h (Opened m) x y y0 l e n = absurd (omega arith)
-child_found h (Began from ▹ k) x y y0 l e n =
-    ⊎_elim
-    (λ w. let q : (origin_parent from) ≡ x = sym w.1 ∙ e in let m : stands h (next_action k) ≡ true =
-    subst (λ u. stands h u ≡ true) w.0 n in
-    or_left (((origin_parent from) == x || (origin_begun_by from) == x) && stands h (next_action k))
-    (standing_child h x k)
-    (and_from ((origin_parent from) == x || (origin_begun_by from) == x) (stands h (next_action k))
-    (or_left ((origin_parent from) == x) ((origin_begun_by from) == x) (eq-eqb (origin_parent from) x q)) m))
-    (λ w. or_right (((origin_parent from) == x || (origin_begun_by from) == x) && stands h (next_action k))
-    (standing_child h x k) (child_found h k x y y0 (omega (arith, w.0)) (sym w.1 ∙ e) n))
-    (parent_cases k from y)
+child_found h (Began from ▹ k) x y y0 l e n = grind (arith, nat_tests, child_found h k x y y0, parent_cases k from y)
 child_found h (Committed s ▹ k) x y y0 l e n = child_found h k x y y0 l e n
 child_found h (Aborted z ▹ k) x y y0 l e n = child_found h k x y y0 l e n
 child_found h (Accessed a o v ▹ k) x y y0 l e n = child_found h k x y y0 l e n
@@ -177,14 +153,7 @@ parent_is h f s s0 l =
 -- what stands after a commit stood before it, and is not what committed
 pub stands_commit : {V : Type 0} (h : History V) → ParentsAreOlder h → StandsUpward h → (s y : ℕ) → s ≢ 0
     → stands h s ≡ true → stands (Committed s ▹ h) y ≡ true → (stands h y ≡ true) × (y ≢ s)
-stands_commit h f up s y s0 l e =
-    ⊎_elim
-    (λ k. let w = parent_is h f s s0 l in
-    let lp = at_some (owner_by_steps h (parent h s)) (parent h s) (up (parent h s) s l w.1) in
-    let q : owner_by_steps h (parent h s) ≡ Some s = subst (λ u. owner_by_steps h u ≡ Some s) k.1 k.0 in
-    let r : parent h s ≡ s = grind arith in absurd (omega (arith, w.0)))
-    (λ k. (some_at (owner_by_steps h y) y k.0, k.1))
-    (handed_cases s (parent h s) (owner_by_steps h y) y (at_some (owner_by_steps (Committed s ▹ h) y) y e))
+stands_commit h f up s y s0 l e = grind (arith, nat_tests, parent_is, at_some, some_at, handed_cases)
 
 -- what stands after an abort stood before it, and is not under those aborted
 pub stands_abort : {V : Type 0} (h : History V) (z : List ℕ) (y : ℕ) → stands (Aborted z ▹ h) y ≡ true
@@ -206,10 +175,7 @@ stands_new h from y e = grind (arith, nat_tests)
 -- in an orderly history ancestors of what stands stand
 pub stands_upward : {V : Type 0} (h : History V) → Orderly h → StandsUpward h
 stands_upward {V} (Opened n) w x y l a =
-    let b : y ≡ 0 = let o = at_some (owner_by_steps {V = V} (Opened n) y) y l in
-    ⊎_elim (λ e. e) (λ ne. absurd (grind (arith, nat_tests))) (cases_eq y 0) in
-    let m : contains (0 ∷ []) x ≡ true = subst (λ u. is_ancestor {V = V} (Opened n) x u ≡ true) b a in
-    let e : x ≡ y = grind (arith, nat_tests) in subst (λ u. stands {V = V} (Opened n) u ≡ true) (sym e) l
+    grind (arith, nat_tests, at_some (owner_by_steps {V = V} (Opened n) y) y l, cases_eq y 0)
 stands_upward (Began from ▹ h) w x y l a =
     ⊎_elim
     (λ e. stands_new h from x e)

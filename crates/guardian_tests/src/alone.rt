@@ -1,40 +1,26 @@
-//! `Alone`: a guardian of one thread, which answers rows.
+//! A guardian of one thread, which answers rows, and lines that need none.
 
-use crate::answering::{tell_checkpoint, tell_effect, tell_owner, tell_reply};
-use argus_guardian::Guardian;
-use argus_journal::limits::MAX_FIRST_ENTRY;
-use argus_journal::{owner_of, replay_base, replay_for};
-use argus_values::Room;
-use test_rows::{
-    RowFault, Setting, Subject, account_with, action, call_of, first_word, object, pair,
-    tell_content, tell_number, tell_word,
+use crate::call_reading::call_of;
+use crate::lines::tell_line;
+use crate::row_fault::RowFault;
+use crate::setting::Setting;
+use crate::telling::{
+    tell_checkpoint, tell_content, tell_effect, tell_number, tell_owner, tell_reply, tell_word,
 };
+use crate::word_reading::{action, first_word, object};
+use argus_guardian::resume_laws::calls_are_well_formed;
+use argus_guardian::{FailStop, Guardian, replay_base, replay_for, resume};
+use argus_journal::owner_of;
+use argus_values::{OutOfMemory, Room};
 
-/// A guardian of one thread. Its questions may be refused memory, and its calls never are: all else
-/// is tried by the rows over the archive (hosts/rows).
-///
-/// ```text
-/// let mut alone = Alone::new(setting);
-/// let text = alone.answer(setting, "begin_top")?;        // ` a0`
-/// ```
-#[derive(Drop)]
-pub(crate) struct Alone {
-    guardian: Guardian,
-}
+// A guardian with as many entries before it as there can be.
+const LAST: &str = "\
+opening entries 9223372036854775807 actions 3
+opening o0 atomic_record[balance:int] {7}
+";
 
-impl Subject for Alone {
-    fn new(setting: Setting) -> Alone {
-        Alone {
-            guardian: Guardian::new(setting.heap),
-        }
-    }
-
-    fn answer(&mut self, setting: Setting, asked: &str) -> Result<String<Room>, RowFault> {
-        answer_alone(&mut self.guardian, setting, asked)
-    }
-}
-
-/// The answer to the row: that of a question about the journal, or of another row.
+/// The answer to the row. Questions about the journal may be refused memory, and calls never are:
+/// they are tried by the rows over the archive (hosts/rows).
 pub(crate) fn answer_alone(
     guardian: &mut Guardian,
     setting: Setting,
@@ -43,6 +29,7 @@ pub(crate) fn answer_alone(
     let mut out = String::new(setting.texts.room());
     let (word, rest) = first_word(asked);
     match word {
+        "line" => tell_line(setting, rest, &mut out)?,
         "checkpoint" => tell_checkpoint(guardian.checkpoint(), &mut out)?,
         "last" => {
             *guardian = last(setting)?;
@@ -58,17 +45,18 @@ pub(crate) fn answer_alone(
             tell_of_journal(guardian, setting, word, rest, &mut out)?;
         }
         _ => {
-            let reply = guardian.call(call_of(setting.heap, asked)?)?;
+            let call = call_of(setting.heap, asked)?;
+            calls_are_well_formed(&call);
+            let reply = guardian.call(call)?;
             tell_reply(&reply, &mut out)?;
         }
     }
     Ok(out)
 }
 
-// A guardian with as many entries before it as there can be.
-fn last(setting: Setting) -> Result<Guardian, RowFault> {
-    let heap = setting.heap;
-    Ok(Guardian::starting_at(heap, account_with(heap, 7)?, 3, MAX_FIRST_ENTRY)?)
+fn last(setting: Setting) -> Result<Guardian, OutOfMemory> {
+    let mut reader = FailStop::new(LAST.as_bytes());
+    Ok(resume(setting.heap, &mut reader)?.guardian)
 }
 
 fn tell_of_journal(
@@ -79,20 +67,21 @@ fn tell_of_journal(
     out: &mut String<Room>,
 ) -> Result<(), RowFault> {
     let journal = guardian.journal().journal();
+    let (one, other) = first_word(rest);
     match word {
-        "owner" => tell_owner(owner_of(journal, action(rest)?), out)?,
+        "owner" => tell_owner(owner_of(journal, action(one)?), out)?,
         "effect" => {
-            let a = action(rest)?;
+            let a = action(one)?;
             setting.limit();
             tell_effect(guardian.effect(a)?, out)?;
         }
         "replay" => {
-            let (a, o) = pair(rest)?;
+            let (a, o) = (action(one)?, object(other)?);
             setting.limit();
             tell_content(&replay_for(setting.heap, journal, a, o)?, out)?;
         }
         _ => {
-            let o = object(rest)?;
+            let o = object(one)?;
             setting.limit();
             tell_content(&replay_base(setting.heap, journal, o)?, out)?;
         }

@@ -1,8 +1,9 @@
 //! The calls of a list, as a row spells them, and their receipts.
 
+use crate::call_reading::{call_of, reply_of};
+use crate::row_fault::RowFault;
 use argus_guardian::{CallsMade, Demand, DemandedCall, Receipt};
 use argus_values::{Heap, OutOfMemory, Room};
-use test_rows::{RowFault, call_of, reply_of};
 
 /// The calls between commas, but for the first ones.
 pub(crate) fn calls_of(

@@ -1,44 +1,48 @@
-//! Tests of guardians and scripts that only Rattle can run: the rows in data/ of guardians that threads
-//! share, what a journal says of owners and replays, threads at work, and runs of scripts that no
-//! process can tell. A row that doesn't get the answer that it says is printed, and the status is then
-//! 1, after all parts have run.
+//! Tests that only Rattle can run, by the rows in data/: lines read and written again, what a journal
+//! says of owners and replays, guardians that threads share, and runs of scripts that no process can
+//! tell. A row that doesn't get the answer that it says is printed, and the status is then 1, after all
+//! parts have run.
 #![tactic(auto)]
 
 mod alone;
-mod answering;
-mod crowd;
+mod block;
+mod call_reading;
+mod counting;
 mod each_call;
-mod looking;
-mod making;
+mod heap;
+mod journal_laws;
+mod laws;
+mod lines;
+mod model_laws;
+mod parts;
+mod row_fault;
 mod scripts;
 mod session;
+mod setting;
 mod sharing;
-mod streams;
+mod spelling;
 mod tally;
 mod task;
+mod telling;
 mod testing;
-mod transfers;
 mod waiting;
+mod word_reading;
 
-use alone::Alone;
 use anyhow::{Result, ensure};
-use argus_guardian::resume_laws::{
-    listings_are_resumed, listings_are_taken_back, longest_listing_is_resumed,
-    no_longer_front_is_a_listing,
-};
 use scripts::test_scripts;
+use setting::Setting;
 use std::fs;
 use std::rt::Files;
 use std::sync::Wait;
 use std::thread::Threads;
-use streams::read_at_last;
 use tally::Tally;
-use test_rows::{Setting, Tester};
 use testing::Form;
 
-// The files in data/ whose tests share guardians, and those whose calls are made by one seat of a
+// The files in data/ whose tests run as they stand, and those whose calls are made by one seat of a
 // guardian that is shared for each test, at once and by calls that may wait, without patience.
-const FILES: [(&str, Form); 12] = [
+const FILES: [(&str, Form); 14] = [
+    ("lines.rows", Form::Shared),
+    ("replays.rows", Form::Shared),
     ("lookers.rows", Form::Shared),
     ("lists.rows", Form::Shared),
     ("settling.rows", Form::Shared),
@@ -55,49 +59,32 @@ const FILES: [(&str, Form); 12] = [
 
 fn main(rt: HostRuntime) -> Result<()> {
     let setting = Setting::new(rt.alloc())?;
-    call_laws();
-    let is_alone_right = test_alone(&rt)?;
-    read_at_last(setting.texts)?;
-    rt.println("a_reader_fails_after_each_read")?;
-    let is_shared_right = test_shared(rt, setting)?;
+    laws::call_laws();
+    parts::call_parts(setting.texts)?;
+    heap::use_up(rt.alloc())?;
+    rt.println("used_up_budgets_refuse")?;
+    let are_rows_right = test_rows(rt, setting)?;
     let are_scripts_right = test_scripts(rt, setting)?;
     ensure!(
-        is_alone_right && is_shared_right && are_scripts_right,
+        are_rows_right && are_scripts_right,
         "not all rows are answered as they say"
     );
     Ok(())
 }
 
-// Returns whether all rows get the answers that they say, as the next one does.
-fn test_alone(rt: &(impl Files + Print + AllocGlobal)) -> Result<bool> {
-    rt.println("a guardian by itself:")?;
-    let mut tester = Tester::<Alone>::new(rt.alloc())?;
-    let text = fs::read_to_string(rt, "replays.rows")?;
-    tester.run_text(rt, text.as_str())?;
-    tester.tell_counts(rt)?;
-    Ok(tester.is_content())
-}
-
-fn test_shared<R: Threads + Wait + Files + Print + AllocGlobal + Copy + Drop + Send + Sync>(
+// Returns whether all rows get the answers that they say.
+fn test_rows<R: Threads + Wait + Files + Print + AllocGlobal + Copy + Drop + Send + Sync>(
     rt: R,
     setting: Setting,
 ) -> Result<bool> {
-    rt.println("a guardian that threads share:")?;
     let mut tally = Tally::new();
     for (name, form) in &FILES {
+        let before = tally.tests;
         let text = fs::read_to_string(&rt, *name)?;
         testing::run_text(rt, setting, text.as_str(), *form, &mut tally)?;
+        let tests = tally.tests.saturating_sub(before);
+        println!(rt; "{name}: {tests} tests")?;
     }
-    crowd::work(rt, setting)?;
-    rt.println("eight_seats_and_four_lookers")?;
     tally.tell(&rt)?;
     Ok(tally.is_content())
-}
-
-// They do nothing when they are called.
-fn call_laws() {
-    no_longer_front_is_a_listing();
-    listings_are_taken_back();
-    listings_are_resumed();
-    longest_listing_is_resumed();
 }

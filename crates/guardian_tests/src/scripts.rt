@@ -3,17 +3,15 @@
 //! as its row says is printed.
 
 mod comparing;
-mod parts;
 mod receipts;
 mod row;
 mod showing;
 mod standing;
-mod workers;
+pub(crate) mod workers;
 mod writing;
 
+use crate::setting::Setting;
 use anyhow::{Result, bail};
-use argus_commands::{checked_runs_are_runs, levels_tell_unmatched_lines, lines_spell_one_script};
-use parts::{check_counts, check_inputs};
 use row::Row;
 use showing::check_shown;
 use std::fs;
@@ -21,7 +19,6 @@ use std::io::Print;
 use std::rt::Files;
 use std::sync::Wait;
 use std::thread::Threads;
-use test_rows::Setting;
 use workers::checking::check_worked;
 use writing::check_written;
 
@@ -45,12 +42,7 @@ pub(crate) fn test_scripts<R: Threads + Wait + Files + Print + Alloc + Copy + Dr
     rt: R,
     setting: Setting,
 ) -> Result<bool> {
-    lines_spell_one_script();
-    levels_tell_unmatched_lines();
-    checked_runs_are_runs();
     rt.println("scripts:")?;
-    check_inputs(setting.texts)?;
-    check_counts()?;
     let mut wrong = 0u32;
     for (name, kind) in FILES {
         wrong = wrong.saturating_add(wrong_in_file(rt, setting, name, kind)?);

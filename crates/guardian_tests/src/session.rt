@@ -1,9 +1,13 @@
 //! `Session`: a guardian from its sharing to its settlement, or its drop, which answers rows.
 
-use crate::answering::{tell_checkpoint, tell_reply};
+use crate::call_reading::{call_of, reply_of};
 use crate::each_call::{calls_of, push_receipts};
+use crate::row_fault::RowFault;
+use crate::setting::Setting;
 use crate::sharing::budgets;
+use crate::telling::{tell_checkpoint, tell_content, tell_number, tell_reply, tell_word};
 use crate::waiting::{Others, WAITING, wait_meanwhile};
+use crate::word_reading::{first_word, object};
 use argus_guardian::{
     Answered, CallsEnd, Guardian, LookFault, Looker, Parts, Receipt, Seat, SettleFault, Shared,
     Sharing, Unsettled,
@@ -14,9 +18,6 @@ use std::fmt::Write;
 use std::mem::replace;
 use std::sync::Wait;
 use std::thread::Threads;
-use test_rows::{
-    RowFault, Setting, call_of, first_word, object, reply_of, tell_content, tell_number, tell_word,
-};
 
 /// A guardian that is shared, or was, with its seats and lookers, and the receipts of all calls so
 /// far.
@@ -96,21 +97,26 @@ impl<N: Sharing + Send + Sync, R: Threads + Wait + Copy + Drop + Send + Sync> Se
     ) -> Result<(), RowFault> {
         let (word, rest) = first_word(asked);
         match word {
-            "look" => return self.look(setting, rest, out),
-            "forge" => return self.forge(setting, rest, out),
-            "settle" => return self.settle(setting, false, rest, out),
-            "settle_short" => return self.settle(setting, true, rest, out),
-            "while" => return self.wait(rt, setting, rest, out),
+            "look" => self.look(setting, rest, out),
+            "forge" => self.forge(setting, rest, out),
+            "settle" => self.settle(setting, false, rest, out),
+            "settle_short" => self.settle(setting, true, rest, out),
+            "while" => self.wait(rt, setting, rest, out),
             "drop" => {
                 self.shared = None;
-                return Ok(tell_word("done", out)?);
+                Ok(tell_word("done", out)?)
             }
-            _ => {}
+            "made" => match self.seats.get(rest.parse::<usize>()?) {
+                Some(seat) => Ok(tell_number(seat.made(), out)?),
+                None => Err(RowFault::NotSpelled),
+            },
+            "brief" | "refresh" | "checkpoint" => self.publish(rt, setting, asked, out),
+            _ => self.answer_call(rt, setting, asked, out),
         }
-        self.answer_shared(rt, setting, asked, out)
     }
 
-    fn answer_shared(
+    // What is pending is published, or folded by a checkpoint.
+    fn publish(
         &mut self,
         rt: R,
         setting: Setting,
@@ -121,30 +127,23 @@ impl<N: Sharing + Send + Sync, R: Threads + Wait + Copy + Drop + Send + Sync> Se
             return Err(RowFault::NotSpelled);
         };
         let (word, rest) = first_word(asked);
-        match word {
-            "brief" => {
-                let Some(looker) = self.lookers.get_mut(rest.parse::<usize>()?) else {
-                    return Err(RowFault::NotSpelled);
-                };
-                setting.limit();
-                tell_shown(shared.brief(&rt, looker), out)
-            }
-            "refresh" => {
-                setting.limit();
-                tell_shown(shared.refresh(&rt), out)
-            }
-            "checkpoint" => {
-                setting.limit();
-                Ok(tell_checkpoint(shared.checkpoint(&rt), out)?)
-            }
-            "made" => match self.seats.get(rest.parse::<usize>()?) {
-                Some(seat) => Ok(tell_number(seat.made(), out)?),
-                None => Err(RowFault::NotSpelled),
+        setting.limit();
+        let is_shown = match word {
+            "checkpoint" => return Ok(tell_checkpoint(shared.checkpoint(&rt), out)?),
+            "refresh" => shared.refresh(&rt),
+            _ => match self.lookers.get_mut(rest.parse::<usize>()?) {
+                Some(looker) => shared.brief(&rt, looker),
+                None => return Err(RowFault::NotSpelled),
             },
-            _ => self.answer_call(rt, setting, asked, out),
+        };
+        if is_shown {
+            Ok(tell_word("true", out)?)
+        } else {
+            Err(RowFault::OutOfMemory)
         }
     }
 
+    // `seat 1 CALL`, or by seat 0; behind `each` a list of calls.
     fn answer_call(
         &mut self,
         rt: R,
@@ -261,7 +260,13 @@ impl<N: Sharing + Send + Sync, R: Threads + Wait + Copy + Drop + Send + Sync> Se
         }
         self.shared = Some(shared);
         self.seats = seats;
-        tell_fault(fault, out)
+        match fault {
+            SettleFault::OutOfMemory => Err(RowFault::OutOfMemory),
+            SettleFault::NotThere(_)
+            | SettleFault::Twice(_)
+            | SettleFault::Count { .. }
+            | SettleFault::Folded(_) => Ok(write!(out, " {fault}")?),
+        }
     }
 
     // `commit a3, abort a4: wait 3 CALL`: seat 1 waits, and seat 0 makes the others.
@@ -323,49 +328,25 @@ fn make_call<N: Sharing, R: Wait + Drop>(
         }
         None => (None, text),
     };
+    let copy = call_of(setting.texts, asked)?;
     let call = call_of(setting.heap, asked)?;
-    let receipt = if is_bare {
-        let copy = call.duplicate(setting.texts)?;
-        setting.limit();
-        let Answered { at, reply } = answer(rt, shared, seat, call, patience)?;
-        Receipt {
-            at,
-            call: copy,
-            reply,
+    setting.limit();
+    let receipt = match (is_bare, patience) {
+        (false, None) => shared.call(rt, seat, call)?,
+        (false, Some(patience)) => shared.call_waiting(rt, seat, call, patience)?,
+        (true, None) => received(copy, shared.answer(rt, seat, call)?),
+        (true, Some(patience)) => {
+            received(copy, shared.answer_waiting(rt, seat, call, patience)?)
         }
-    } else {
-        setting.limit();
-        receive(rt, shared, seat, call, patience)?
     };
     tell_reply(&receipt.reply, out)?;
     receipts.push(receipt)?;
     Ok(())
 }
 
-fn answer<N: Sharing, R: Wait + Drop>(
-    rt: &R,
-    shared: &Shared<N, R>,
-    seat: &mut Seat<N>,
-    call: Call,
-    patience: Option<u32>,
-) -> Result<Answered, OutOfMemory> {
-    match patience {
-        None => shared.answer(rt, seat, call),
-        Some(patience) => shared.answer_waiting(rt, seat, call, patience),
-    }
-}
-
-fn receive<N: Sharing, R: Wait + Drop>(
-    rt: &R,
-    shared: &Shared<N, R>,
-    seat: &mut Seat<N>,
-    call: Call,
-    patience: Option<u32>,
-) -> Result<Receipt, OutOfMemory> {
-    match patience {
-        None => shared.call(rt, seat, call),
-        Some(patience) => shared.call_waiting(rt, seat, call, patience),
-    }
+fn received(call: Call, answered: Answered) -> Receipt {
+    let Answered { at, reply } = answered;
+    Receipt { at, call, reply }
 }
 
 // `CALL, CALL`: those that weren't made yet are made together.
@@ -384,17 +365,14 @@ fn call_each<N: Sharing, R: Wait + Drop>(
     let made = shared.call_each(rt, seat, calls.as_slice());
     setting.lift();
     push_receipts(setting.texts, calls.as_slice(), &made, receipts)?;
-    if made.end == CallsEnd::OutOfMemory {
-        return Err(RowFault::OutOfMemory);
-    }
+    let end = match made.end {
+        CallsEnd::OutOfMemory => return Err(RowFault::OutOfMemory),
+        CallsEnd::Unmet => "unmet",
+        CallsEnd::Whole => "whole",
+    };
     for receipt in receipts.iter().skip(before) {
         tell_reply(&receipt.reply, out)?;
     }
-    let end = if made.end == CallsEnd::Unmet {
-        "unmet"
-    } else {
-        "whole"
-    };
     Ok(tell_word(end, out)?)
 }
 
@@ -417,29 +395,7 @@ fn tell_look<N: Sharing>(
     }
 }
 
-// False means that there was no memory.
-fn tell_shown(is_shown: bool, out: &mut String<Room>) -> Result<(), RowFault> {
-    if is_shown {
-        Ok(tell_word("true", out)?)
-    } else {
-        Err(RowFault::OutOfMemory)
-    }
-}
-
-fn tell_fault(fault: SettleFault, out: &mut String<Room>) -> Result<(), RowFault> {
-    match fault {
-        SettleFault::OutOfMemory => Err(RowFault::OutOfMemory),
-        SettleFault::NotThere(_)
-        | SettleFault::Twice(_)
-        | SettleFault::Count { .. }
-        | SettleFault::Folded(_) => {
-            write!(out, " {fault}")?;
-            Ok(())
-        }
-    }
-}
-
-// The receipts of these numbers; none for `all`.
+// Copies of the receipts of these numbers; none for `all`.
 fn named(texts: Heap, receipts: &[Receipt], words: &str) -> Result<Vec<Receipt, Room>, RowFault> {
     let mut named = Vec::new(texts.room());
     for word in words.split(' ') {

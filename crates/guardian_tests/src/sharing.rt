@@ -6,6 +6,7 @@ ghost use Rattle.argus_journal.specs.Opening.{content_in};
 ghost use Rattle.argus_guardian.specs.Following.{journal_bases, journal_effects};
 ghost use Rattle.argus_journal.specs.JournalView.{next_entry};
 
+use crate::setting::Setting;
 use crate::task::{Task, perform};
 use anyhow::{Result, bail};
 use argus_guardian::{Guardian, Keeper, NotShared, Shared, Sharing};
@@ -15,7 +16,6 @@ use std::ops::Range;
 use std::sync::Wait;
 use std::sync::ledger::Blank;
 use std::thread::Threads;
-use test_rows::Setting;
 
 // Nothing here takes this many allocations.
 const MOST: u64 = 10_000;

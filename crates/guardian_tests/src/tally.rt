@@ -1,9 +1,9 @@
 //! `Tally`: how many tests there were, and how many wrong answers.
 
+use crate::row_fault::RowFault;
 use argus_values::Room;
 use std::io;
 use std::io::Print;
-use test_rows::RowFault;
 
 /// How many tests and rows there were, and how many wrong answers came.
 ///

@@ -1,6 +1,6 @@
 //! `Task`: what is done with a shared guardian, from its sharing to its settling, or its drop.
 
-use crate::crowd::{Crowd, have_all_work};
+use crate::scripts::workers::run::Run;
 use crate::testing::{Play, play_rows};
 use anyhow::Result;
 use argus_guardian::{Guardian, Parts, Sharing};
@@ -11,14 +11,14 @@ use std::thread::Threads;
 /// What is done with a shared guardian, from its sharing to its settling, or its drop.
 ///
 /// ```text
-/// let guardian = share(rt, setting, false, guardian, 8, 4, &mut Task::Work(crowd))?;
+/// let guardian = share(rt, setting, false, guardian, 1, 0, &mut Task::Play(play))?;
 /// ```
 #[derive(Drop)]
 pub(crate) enum Task<'a> {
     /// It answers rows.
     Play(Play<'a>),
-    /// All seats and lookers work at once.
-    Work(Crowd),
+    /// Its seats run a script.
+    Run(Run<'a>),
 }
 
 /// Does it, and returns the guardian after the settlement; a new one if it was dropped.
@@ -28,6 +28,6 @@ pub(crate) fn perform<
 >(rt: R, parts: Parts<N, R>, task: &mut Task<'_>) -> Result<Guardian> {
     match task {
         Task::Play(play) => play_rows(rt, parts, play),
-        Task::Work(crowd) => have_all_work(rt, parts, *crowd),
+        Task::Run(run) => run.perform(rt, parts),
     }
 }

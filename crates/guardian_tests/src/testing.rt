@@ -1,8 +1,13 @@
 //! Runs the tests of rows.
 
 use crate::alone::answer_alone;
+use crate::block::{Block, block_of};
+use crate::call_reading::call_of;
+use crate::row_fault::RowFault;
 use crate::session::Session;
-use crate::sharing::share;
+use crate::setting::Setting;
+use crate::sharing::{budgets, share};
+use crate::spelling::spelled_row;
 use crate::tally::Tally;
 use crate::task::Task;
 use anyhow::Result;
@@ -11,13 +16,12 @@ use argus_values::{OutOfMemory, Room};
 use std::io::Print;
 use std::sync::Wait;
 use std::thread::Threads;
-use test_rows::{Block, Setting, block_of, call_of};
 
 /// How the tests of a file are run.
 #[derive(Clone, Copy)]
 pub(crate) enum Form {
-    /// They share guardians: with ample memory, and, except for large tests, once more with each
-    /// allocation refused in turn.
+    /// As they stand, alone or by guardians that they share: with ample memory, and, except for
+    /// large tests, once more with each allocation refused in turn.
     Shared,
     /// Their calls, each with this before it, are made by one seat of a new guardian, which is then
     /// settled with all receipts.
@@ -104,10 +108,10 @@ fn run_test<R: Threads + Wait + Print + Copy + Drop + Send + Sync>(
     tally: &mut Tally,
 ) -> Result<()> {
     let mut guardian = Guardian::new(setting.heap);
-    run_alone(rt, setting, &mut guardian, before, tally)?;
+    run_alone(rt, setting, is_tight, &mut guardian, before, tally)?;
     for (place, section) in lines.split("share ").enumerate() {
         if place == 0 {
-            run_alone(rt, setting, &mut guardian, section, tally)?;
+            run_alone(rt, setting, is_tight, &mut guardian, section, tally)?;
         } else {
             guardian = run_section(rt, setting, is_tight, guardian, section, tally)?;
         }
@@ -138,13 +142,14 @@ fn run_section<R: Threads + Wait + Print + Copy + Drop + Send + Sync>(
     if let Task::Play(play) = &task {
         *tally = play.tally;
     }
-    run_alone(rt, setting, &mut guardian, after, tally)?;
+    run_alone(rt, setting, is_tight, &mut guardian, after, tally)?;
     Ok(guardian)
 }
 
 fn run_alone(
     rt: impl Print + Drop,
     setting: Setting,
+    is_tight: bool,
     guardian: &mut Guardian,
     rows: &str,
     tally: &mut Tally,
@@ -152,11 +157,29 @@ fn run_alone(
     for row in rows.lines() {
         if !row.starts_with('#') {
             let (asked, _) = row.split_once(" -> ").unwrap_or((row, ""));
-            let answer = answer_alone(guardian, setting, asked);
+            let answer = answer_at_last(guardian, setting, is_tight, asked);
             tally.compare(&rt, row, answer)?;
         }
     }
     Ok(())
+}
+
+// The answer to the row, with each allocation refused in turn if that is asked for.
+fn answer_at_last(
+    guardian: &mut Guardian,
+    setting: Setting,
+    is_tight: bool,
+    asked: &str,
+) -> Result<String<Room>, RowFault> {
+    let asked = spelled_row(setting.texts, asked)?;
+    for allowed in budgets(is_tight) {
+        let answer = answer_alone(guardian, setting.allowing(allowed), asked.as_str());
+        setting.lift();
+        if !matches!(answer, Err(RowFault::OutOfMemory)) {
+            return answer;
+        }
+    }
+    Err(RowFault::NeverAnswered)
 }
 
 /// The rows between a sharing and its settlement or its drop, and behind it. Each allocation of each

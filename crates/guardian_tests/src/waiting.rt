@@ -1,6 +1,8 @@
 //! A call that waits in one thread, and what another thread does meanwhile.
 
+use crate::call_reading::call_of;
 use crate::each_call::{calls_of, push_receipts};
+use crate::row_fault::RowFault;
 use argus_actions::ActionId;
 use argus_guardian::{CallsEnd, Receipt, Seat, Shared, Sharing};
 use argus_journal::{Call, Reply};
@@ -8,7 +10,6 @@ use argus_values::{Change, Heap, ObjId, OutOfMemory, Room, Value};
 use std::sync::Wait;
 use std::sync::atomic::{AtomicU64, Ordering};
 use std::thread::{Threads, join, yield_now};
-use test_rows::{RowFault, call_of};
 
 // How often the first thread yields, so that the second one may begin to wait, or wake up.
 const YIELDS: u32 = 1000;
@@ -119,11 +120,6 @@ fn make_others<N: Sharing, R: Wait + Drop>(
     }
     if text == "others end" {
         stir(rt, shared, seat, state, &mut receipts)?;
-        return Ok(receipts);
-    }
-    if let Some(answered) = text.strip_prefix("answer ") {
-        // Its receipt isn't kept: any of the receipts will do for the settlement.
-        shared.answer(rt, seat, call_of(heap, answered)?)?;
         return Ok(receipts);
     }
     for call in text.split(", ") {

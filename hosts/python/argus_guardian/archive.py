@@ -6,9 +6,10 @@ import ctypes
 from collections.abc import Iterator
 from typing import Any, NamedTuple
 
-from .call_reading import ReadCall
+from .call_reading import ReadCall, is_long
 from .errors import ArgusError, OutOfMemory, Refused, Signal
 from .library import Handle, Question, Ready, Status, address, address_of, bare, load, opening, quick
+from .lists import made_alone
 from .shapes import read_shape
 from .telling import Call, by_number, error_of, error_of_call, error_of_question, is_ill_typed
 from .values import read_content, read_value
@@ -79,16 +80,18 @@ class Archive:
         given = self._first, self._second, text, self._text_size, self._number_at
         return self._call(self._handle_at, kind, action, obj, *given), self._number.value
 
-    def read_call(self, call: Call) -> ReadCall:
-        """A call that is read and not made. It touches no guardian, so it takes no mutex."""
-        return ReadCall(self._library, self._open, call)
+    def read(self, call: Call) -> ReadCall | None:
+        """A call with a long text, which is read and not made. It touches no guardian, so it takes no mutex."""
+        return ReadCall(self._library, self._open, call) if is_long(call) else None
 
     def make_read(self, read: ReadCall) -> tuple[int, int]:
         """The status and the number of a call that was read, which is made."""
         return self._call_parsed(self._handle_at, read.handle, self._number_at), self._number.value
 
-    def make_each(self, array: Any) -> tuple[int, int]:
-        """The status of a list of calls, and how many of them were made."""
+    def make_each(self, array: Any, read: ReadCall | None = None) -> tuple[int, int]:
+        """The status of a list of calls, and how many of them were made. If one is given that was read, it is that alone."""
+        if read is not None:
+            return made_alone(array[0], *self.make_read(read))
         status = self._call_each(self._handle_at, array, len(array), self._size_at)
         return status, self._size.value
 
@@ -172,7 +175,7 @@ class Archive:
             return number != 0
         if status in (VALUE, Status.CONTENT):
             text = self._text()
-            return read_reply(status, text) if len(text) < LONG else Unread(status, text)
+            return read_reply(status, text) if len(text) < LONG else LongAnswer(status, text)
         if status in (Status.OBJECT, Status.ACTION):
             return number
         raise self.error(status, number, call)
@@ -239,7 +242,7 @@ class Archive:
             raise OutOfMemory() from None
 
 
-class Unread(NamedTuple):
+class LongAnswer(NamedTuple):
     """A long text of a reply, which is read once the guardian's mutex is free."""
 
     status: int
@@ -248,7 +251,7 @@ class Unread(NamedTuple):
 
 def read_late(result: Any) -> Any:
     """The result of a call, of which a long text is read now."""
-    return read_reply(*result) if type(result) is Unread else result
+    return read_reply(*result) if type(result) is LongAnswer else result
 
 
 def read_reply(status: int, text: bytes) -> Any:

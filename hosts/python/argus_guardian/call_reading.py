@@ -4,7 +4,6 @@ from __future__ import annotations
 
 import ctypes
 from collections.abc import Callable
-from typing import Any
 
 from .library import Answer, Handle, Parsed, Status
 from .telling import Call, error_of, error_of_call
@@ -14,8 +13,13 @@ from .telling import Call, error_of, error_of_call
 LONG_CALL = 1024
 
 
+def is_long(call: Call) -> bool:
+    """Whether a call has a long text."""
+    return len(call) > 5 and len(call[5]) >= LONG_CALL
+
+
 class ReadCall:
-    """A call that the library has read. At the end of a `with` it is dropped, if it wasn't made."""
+    """A call that the library has read, until it is made, or nobody has it any more."""
 
     def __init__(self, library: ctypes.CDLL, open_guardian: Callable[..., Answer], call: Call) -> None:
         """Raises why the call can't be made, if its numbers or its text say so."""
@@ -32,8 +36,5 @@ class ReadCall:
         if status != Status.DONE:
             raise error_of_call(status, number.value, call)
 
-    def __enter__(self) -> ReadCall:
-        return self
-
-    def __exit__(self, *_: Any) -> None:
+    def __del__(self) -> None:
         self._drop(self.handle)

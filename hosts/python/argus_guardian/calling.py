@@ -8,7 +8,6 @@ call.
 from __future__ import annotations
 
 import logging
-import threading
 import time
 from collections.abc import Callable
 from typing import Any, NoReturn
@@ -16,11 +15,11 @@ from weakref import ref
 
 from . import errors
 from .action import Action
-from .archive import Archive, Unread, read_late
+from .archive import Archive, LongAnswer, read_late
 from .asked import Asked
-from .call_reading import LONG_CALL
+from .call_reading import LONG_CALL, ReadCall, is_long
 from .circles import Search, Wait, Waits, holders_of
-from .entering import LOOK_AFTER, Entering, looks
+from .entering import Entering, looks
 from .ids import number_of
 from .library import ActionStatus, Kind, Question, Status
 from .lineage import Lineage
@@ -103,7 +102,7 @@ class Calling(Entering, Asked):
                 above = parent._number
                 if parent._renewals != self._renewals:
                     self._be_since(parent, kind)
-            while self._folds and parent is None and running_loop() is None:
+            if self._folds and parent is None and running_loop() is None:
                 self._wait_for_folds()
             owners = self._owners
             if self._dropped:
@@ -124,10 +123,7 @@ class Calling(Entering, Asked):
                 raise
 
     def _wait_for_folds(self) -> None:
-        """Waits for checkpoints of other threads. One of this thread's log waits for this one, and so for ever."""
-        if threading.get_ident() in list(self._folds.values()):
-            raise errors.Reentered
-        self._wait_until(time.monotonic() + LOOK_AFTER)
+        """Waits until no checkpoint holds topactions back."""
 
     def _abort_from(self, number: int) -> None:
         """Aborts the actions from this number on, which no caller has got."""
@@ -169,19 +165,17 @@ class Calling(Entering, Asked):
             elif self._awaited and action._number in self._within:
                 self._break_circles_within(action._number)
             self._busy = self._awaited
-        return answer if type(answer) is not Unread else read_late(answer)
+        return answer if type(answer) is not LongAnswer else read_late(answer)
 
     def _long_access_of(self, action: Action, call: Call) -> Any:
-        """The same with a long text, which is read before the lock is taken, and once more if it waits."""
+        """The same with a long text, which is read before the lock is taken."""
         if self._busy:
             self._refuse_reentered()
-        with self._archive.read_call(call) as read, self._lock:
+        read = self._archive.read(call)
+        with self._lock:
             self._busy = True
-            if self._dropped:
-                self._abort_dropped()
             self._be_since(action, call[0], call[2])
-            self._left -= 1
-            told = self._archive.make_read(read)
+            told = self._make(call, read)
             answer = self._answered(told, call, action._lineage, action._renewals, action._is_in_loop())
             self._busy = self._awaited
         return read_late(answer)
@@ -260,7 +254,7 @@ class Calling(Entering, Asked):
         with self._lock:
             self._busy = True
             self._be_since(action, kind, call[2])
-            answer = self._make(*call)
+            answer = self._make(call)
             if kind == Kind.ABORT_OTHERS:
                 self._note_end(kind, action._number, answer)
             result = self._result(answer, call)
@@ -328,19 +322,25 @@ class Calling(Entering, Asked):
         `renewals` is how often the guardian had been renewed when the action was begun: if it was renewed
         since, the action is over.
         """
-        action = number_of(action, self._ids, "action")
-        named = u32(kind, "kind"), action, object_number(obj, self._ids)
-        call = *named, i64(first, "number"), i64(second, "number"), text.encode()
-        if self._busy:
-            self._refuse_reentered()
+        call, read = self._read_call(kind, action, obj, first, second, text)
         with self._lock:
             self._busy = True
             if renewals is None:
                 renewals = self._renewals
-            answer = self._make_since(renewals, *call)
-            result = self._answered(answer, call, lambda: self._lineage_of(action, lineage), renewals)
+            answer = self._make_since(renewals, call, read)
+            result = self._answered(answer, call, lambda: self._lineage_of(call[1], lineage), renewals)
             self._busy = self._awaited
         return read_late(result)
+
+    def _read_call(
+        self, kind: int, action: int, obj: AnyObject, first: int, second: int, text: str
+    ) -> tuple[Call, ReadCall | None]:
+        """A call as the library takes it; if its text is long, it is read."""
+        named = u32(kind, "kind"), number_of(action, self._ids, "action"), object_number(obj, self._ids)
+        call = *named, i64(first, "number"), i64(second, "number"), text.encode()
+        if self._busy:
+            self._refuse_reentered()
+        return call, self._archive.read(call)
 
     def _lineage_of(self, number: int, numbers: Callable[[], set[int]] | None) -> Lineage:
         """That of an action that is named by its number, and maybe by the numbers of its ancestors."""
@@ -394,9 +394,10 @@ class Calling(Entering, Asked):
             if self._awaited or wait.lineage.is_inside:
                 self._break_circles(wait)
             while answer == _CONFLICT:
+                read = self._read_apart(self._archive.read, call) if is_long(call) else None
                 while time.monotonic() < limit and not self._may_go_on(call, wait):
                     self._wait_until(limit, next(after))
-                answer = self._make_since(wait.renewals, *call)
+                answer = self._make_since(wait.renewals, call, read)
                 if wait.waits_for or time.monotonic() >= limit:
                     break
             return answer
@@ -441,16 +442,16 @@ class Calling(Entering, Asked):
         conflict.waits_for = wait.waits_for
         return conflict
 
-    def _make(self, *call: Any) -> tuple[int, int]:
-        """The status and the number of a call."""
+    def _make(self, call: Call, read: ReadCall | None = None) -> tuple[int, int]:
+        """The status and the number of a call, which maybe was read before."""
         self._left -= 1
         if self._dropped:
             self._abort_dropped()
-        return self._archive.make(*call)
+        return self._archive.make(*call) if read is None else self._archive.make_read(read)
 
-    def _make_since(self, renewals: int | None, *call: Any) -> tuple[int, int]:
+    def _make_since(self, renewals: int | None, call: Call, read: ReadCall | None = None) -> tuple[int, int]:
         """The same for an action that was begun after so many renewals. If there were more since, it is over."""
-        return self._make(*call) if renewals in (None, self._renewals) else _OVER
+        return self._make(call, read) if renewals in (None, self._renewals) else _OVER
 
     def _ask(self, question: int, action: int, obj: int) -> tuple[int, int]:
         """The status and the number of a question."""

@@ -10,6 +10,7 @@ from typing import TYPE_CHECKING, Any, TypeVar
 
 from .errors import Reentered
 from .quick import Gate
+from .telling import Call
 
 if TYPE_CHECKING:
     # Python 3.9 has none.
@@ -80,6 +81,21 @@ class Entering(Gate):
 
     def _wait_until(self, limit: float, look: float = LOOK_AFTER) -> None:
         """Waits until an action ends, but not for long: one that is dropped notifies nobody."""
+        ended = self._ended
+        self._apart(lambda: ended.wait(min(limit - time.monotonic(), look)))
+
+    def _read_apart(self, read: Callable[[Call], _Result], call: Call) -> _Result:
+        """Reads a call while others may have the lock."""
+        lock = self._lock
+
+        def read_it() -> _Result:
+            lock.release()
+            return read(call)
+
+        return self._apart(read_it)
+
+    def _apart(self, do: Callable[[], _Result]) -> _Result:
+        """Does what gives the lock back. This thread is inside its call all the while, and has the lock again then."""
         this, wait = threading.get_ident(), threading.Lock()
         # After a fork the guardian has others.
         lock, ended, waiting, wakers = self._lock, self._ended, self._waiting, self._wakers
@@ -87,9 +103,9 @@ class Entering(Gate):
             waiting[this] = wait
             self._awaited = True
             try:
-                ended.wait(min(limit - time.monotonic(), look))
+                return do()
             finally:
-                # An interrupt at the begin of the wait may have come just after it gave the lock back.
+                # An interrupt may have come just after it gave the lock back.
                 if not _has_lock_of(ended):
                     lock.acquire()
                 # No function is called, so no interrupt comes in between.

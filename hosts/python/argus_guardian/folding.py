@@ -2,6 +2,7 @@
 
 from __future__ import annotations
 
+import math
 import threading
 import time
 from collections.abc import Callable
@@ -83,19 +84,25 @@ class Folding(Calling):
             self._wake()
 
     def _wait_for_folds(self) -> None:
-        self._end_late_hold()
-        if self._folds:
-            super()._wait_for_folds()
+        """Waits for checkpoints of other threads. One of this thread's log waits for this one, and so for ever."""
+        after = looks()
+        while (limit := self._held_back_until()) is not None:
+            if threading.get_ident() in list(self._folds.values()):
+                raise errors.Reentered
+            self._wait_until(limit, next(after))
 
-    def _end_late_hold(self) -> None:
-        """Lets topactions go on that were held back long enough in vain."""
+    def _held_back_until(self) -> float | None:
+        """Until when topactions are held back at most; None if they aren't. Those of a checkpoint by itself are let go then."""
         if self._by_itself in self._folds and time.monotonic() >= self._held_until:
             self._left = (self._after or MOST) // 10 + 1
             self._let_go()
+        if not self._folds:
+            return None
+        return self._held_until if self._by_itself in self._folds else math.inf
 
     @one_call
-    def _look_at_hold(self) -> None:
-        self._end_late_hold()
+    def _held_back_alone(self) -> float | None:
+        return self._held_back_until()
 
     def _note_read(self, entry: int) -> None:
         """The program has read the journal up to this entry."""

@@ -4,7 +4,6 @@ from __future__ import annotations
 
 import os
 import random
-import threading
 import time
 import warnings
 from collections.abc import Awaitable, Callable, Iterable
@@ -13,16 +12,16 @@ from typing import Any, NoReturn, TypeVar
 from . import errors, forking
 from .action import Action
 from .archive import read_late
+from .call_reading import ReadCall
 from .entering import one_call
-from .ids import number_of
 from .library import Kind, Question, Status
-from .lists import CallsMade, Listed, array_of, calls_of
-from .looping import InThread
+from .lists import CallsMade, Listed, Part, array_of, calls_of, parts_of
+from .looping import ThreadWork
 from .naming import Naming
 from .quick import AT_ONCE
-from .ranges import MOST, U64, i64, u32, within
+from .ranges import MOST, U64, within
 from .telling import Call, error_of
-from .values import AnyObject, object_number
+from .values import AnyObject
 
 _Done = TypeVar("_Done")
 
@@ -146,7 +145,7 @@ class Guardian(Naming):
 
         if iscoroutinefunction(work):
             return await self._arun_in_loop(work, tries)
-        in_thread = InThread(work)
+        in_thread = ThreadWork(work)
         running = asyncio.create_task(asyncio.to_thread(lambda: self.run(in_thread, tries)))
         try:
             return await asyncio.shield(running)
@@ -188,16 +187,12 @@ class Guardian(Naming):
         self, kind: int, action: int = 0, obj: AnyObject = 0, first: int = 0, second: int = 0, text: str = ""
     ) -> Any:
         """Makes one call, of a Kind, and returns its result; raises Refused or Signal if that is the reply."""
-        action = number_of(action, self._ids, "action")
-        named = u32(kind, "kind"), action, object_number(obj, self._ids)
-        call = *named, i64(first, "number"), i64(second, "number"), text.encode()
-        if self._busy:
-            self._refuse_reentered()
+        call, read = self._read_call(kind, action, obj, first, second, text)
         with self._lock:
             self._busy = True
-            answer = self._make(*call)
+            answer = self._make(call, read)
             if kind in _ENDS:
-                self._note_end(kind, action, answer)
+                self._note_end(kind, call[1], answer)
             if kind in _BEGINS and answer[0] == Status.ACTION:
                 self._begun = answer[1] + 1
             result = self._result(answer, call)
@@ -208,29 +203,59 @@ class Guardian(Naming):
         """Makes these calls, each a `Listed`, up to the first whose reply isn't what its demand says.
 
         All of them are one call into the library. Each has its own entry in the journal, and none waits.
-        A call that fails ends the list, too; the calls before it stay. Returns a `CallsMade`.
+        A call that fails ends the list, too; the calls before it stay. Returns a `CallsMade`. A call with a text of
+        1,024 bytes or more is one by itself: other threads may call while its text is read.
 
         If it raises an exception, an action that the list began is aborted if it is still live.
         OutOfMemory: calls were made, but there was no memory for their results. At Closed, and if a
         number isn't one that the library takes (OverflowError, TypeError), no call was made.
         """
-        return self._call_each(array_of(list(calls), self._ids))
+        array, answers = array_of(list(calls), self._ids), []
+        begun: list[int] = []
+        try:
+            for part in parts_of(array):
+                part.name_actions()
+                made = self._call_part(part, begun)
+                answers += made.answers
+                if made.end is not None:
+                    return CallsMade(answers, made.end)
+            return CallsMade(answers, None)
+        except BaseException:
+            if begun:
+                self._abort_each(begun)
+            raise
+
+    def _call_part(self, part: Part, begun: list[int]) -> CallsMade:
+        """Makes these calls of a list, and notes which actions they have begun."""
+        if self._busy:
+            self._refuse_reentered()
+        try:
+            read = self._archive.read(part.call()) if part.is_alone() else None
+        except errors.ArgusError as error:
+            return CallsMade([], error)
+        return self._call_each(part.array, read, begun)
 
     @one_call
-    def _call_each(self, array: Any) -> CallsMade:
+    def _call_each(self, array: Any, read: ReadCall | None, begun: list[int]) -> CallsMade:
         if self._dropped:
             self._abort_dropped()
         before = self._archive.told(Question.ACTIONS)
         try:
-            made = self._make_each(array)
+            made = self._make_each(array, read)
             self._begun = self._archive.told(Question.ACTIONS)
+            begun += range(before, self._begun)
             return made
         except BaseException:
             self._abort_from(before)
             raise
 
-    def _make_each(self, array: Any) -> CallsMade:
-        status, count = self._archive.make_each(array)
+    @one_call
+    def _abort_each(self, numbers: list[int]) -> None:
+        for number in numbers:
+            self._archive.make(Kind.ABORT, number)
+
+    def _make_each(self, array: Any, read: ReadCall | None) -> CallsMade:
+        status, count = self._archive.make_each(array, read)
         self._left -= count
         made = array[:count]
         calls, outcomes = calls_of(made), [(it.status, it.number) for it in made]

@@ -2,11 +2,14 @@
 
 from __future__ import annotations
 
+import ctypes
+from collections.abc import Iterator
 from typing import Any, NamedTuple
 
+from .call_reading import LONG_CALL
 from .errors import ArgusError
 from .ids import Ids, number_of
-from .library import Demand, ListedCall
+from .library import Demand, ListedCall, Status
 from .ranges import U32, i64, u32, within
 from .telling import Call
 from .values import AnyObject, object_number
@@ -64,6 +67,55 @@ def _listed_call(call: Listed, ids: Ids) -> ListedCall:
         text=text,
         text_size=len(text),
     )
+
+
+class Part(NamedTuple):
+    """Calls of a list that are made at once: those between two with long texts, or one of these alone."""
+
+    array: Any
+    # Where it begins in the whole list.
+    begin: int
+    whole: Any
+
+    def call(self) -> Call:
+        """Its only call, whose action has begun."""
+        it = self.array[0]
+        return it.kind, it.action, it.object, it.first, it.second, it.text
+
+    def is_alone(self) -> bool:
+        """Whether it is one call with a long text, of an action that has begun."""
+        it = self.array[0] if len(self.array) == 1 else None
+        return it is not None and it.text_size >= LONG_CALL and it.begun_by == 0 and it.demand <= Demand.NO_SIGNAL
+
+    def name_actions(self) -> None:
+        """Names the actions that earlier parts have begun by their numbers, and those of its own by their new places."""
+        for it in self.array if self.begin else ():
+            if it.begun_by > self.begin:
+                it.begun_by -= self.begin
+            elif it.begun_by:
+                begin = self.whole[it.begun_by - 1]
+                has_begun = begin.status == Status.ACTION
+                # Of a call after it the library says that it hasn't begun the action.
+                it.action, it.begun_by = (begin.number, 0) if has_begun else (0, len(self.array) + 1)
+
+
+def parts_of(array: Any) -> Iterator[Part]:
+    """The list in parts, in their order; at least one."""
+    long = [place for place, it in enumerate(array) if it.text_size >= LONG_CALL]
+    bounds = sorted({0, *long, *(place + 1 for place in long), len(array)})
+    for begin, end in zip(bounds, bounds[1:] or bounds):
+        part = (ListedCall * (end - begin)).from_buffer(array, begin * ctypes.sizeof(ListedCall))
+        yield Part(part, begin, array)
+
+
+def made_alone(listed: ListedCall, status: int, number: int) -> tuple[int, int]:
+    """Notes the outcome of a list's only call. The status of the list, and how many calls of it were made."""
+    listed.status, listed.number = status, number
+    if status > Status.REFUSED:
+        return status, 0
+    is_refused, is_signal = status == Status.REFUSED, status == Status.SIGNAL
+    is_unmet = listed.demand != Demand.NOTHING and is_refused or listed.demand == Demand.NO_SIGNAL and is_signal
+    return Status.UNMET if is_unmet else Status.DONE, 1
 
 
 def calls_of(made: Any) -> list[Call]:

@@ -10,7 +10,7 @@ from typing import TYPE_CHECKING, Any, TypeVar
 from .archive import read_late
 from .calling import _CONFLICT
 from .circles import Wait
-from .entering import LOOK_AFTER, looks, one_call
+from .entering import looks, one_call
 from .errors import Over
 from .folding import Folding
 from .telling import Call
@@ -48,7 +48,7 @@ class Turn:
         self._came = self._loop.create_future()
 
 
-class SoonMade:
+class TaskAccess:
     """An access that waits in a task, and its result."""
 
     def __init__(self, wait: Wait, limit: float, turn: Turn) -> None:
@@ -56,7 +56,7 @@ class SoonMade:
         self.result: Any = None
 
 
-class InThread:
+class ThreadWork:
     """The work of a topaction that runs in another thread than the task that waits for it."""
 
     def __init__(self, work: Callable[[Action], Any]) -> None:
@@ -87,7 +87,7 @@ class Looping(Folding):
         from asyncio import get_running_loop
 
         made = self._tried(action, call, get_running_loop())
-        if not isinstance(made, SoonMade):
+        if not isinstance(made, TaskAccess):
             return read_late(made)
         try:
             while not self._tried_again(made):
@@ -100,13 +100,13 @@ class Looping(Folding):
     def _tried(self, action: Action, call: Call, loop: AbstractEventLoop) -> Any:
         """The result of an access, or what waits for it."""
         self._be_since(action, call[0], call[2])
-        answer = self._make(*call)
+        answer = self._make(call)
         if answer != _CONFLICT:
             return self._result(answer, call)
         wait = Wait(call, action._lineage(), self._renewals)
         if self.patience <= 0:
             raise self._conflict(call, wait)
-        made = SoonMade(wait, time.monotonic() + self.patience, Turn(loop))
+        made = TaskAccess(wait, time.monotonic() + self.patience, Turn(loop))
         wait.lasts.acquire()
         try:
             self._waits.join(wait)
@@ -118,14 +118,14 @@ class Looping(Folding):
         return made
 
     @one_call
-    def _tried_again(self, made: SoonMade) -> bool:
+    def _tried_again(self, made: TaskAccess) -> bool:
         """Whether the access is made now: its lock is free, its action over, or it has waited long enough."""
         wait, is_late = made.wait, time.monotonic() >= made.limit
         if self._dropped:
             self._abort_dropped()
         if not is_late and not self._may_go_on(wait.call, wait):
             return False
-        answer = self._make_since(wait.renewals, *wait.call)
+        answer = self._make_since(wait.renewals, wait.call)
         if answer == _CONFLICT and not is_late and not wait.waits_for:
             return False
         if answer == _CONFLICT:
@@ -133,7 +133,7 @@ class Looping(Folding):
         made.result = self._result(answer, wait.call)
         return True
 
-    def _give_up(self, made: SoonMade) -> None:
+    def _give_up(self, made: TaskAccess) -> None:
         """It doesn't wait any more. A task may end at any moment, within a call of its thread, too."""
         with self._lock:
             self._waits.leave(made.wait)
@@ -156,8 +156,7 @@ class Looping(Folding):
         turn = Turn(get_running_loop())
         try:
             self._be_woken(turn, turn)
-            while self._folds:
-                self._look_at_hold()
-                await turn.wait(time.monotonic() + LOOK_AFTER)
+            while (limit := self._held_back_alone()) is not None:
+                await turn.wait(limit)
         finally:
             self._be_woken(turn, None)

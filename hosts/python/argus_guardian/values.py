@@ -50,7 +50,7 @@ class Choice(NamedTuple):
     """A tag of a oneof or of a variant, and its value. The tag is a number, or a name where the type is known."""
 
     tag: int | str
-    value: Any
+    value: Any = None
 
     def __eq__(self, other: object) -> bool:
         return _is_same(self, other)

@@ -1,16 +1,44 @@
 """What a binding gets of the library beside the proved calls: the functions of its headers, by their names."""
 
+import contextlib
 import ctypes
 import sys
 import unittest
 from pathlib import Path
+from unittest import mock
 
 sys.path.insert(0, str(Path(__file__).resolve().parents[1]))
 
-from argus_guardian.library import Answer, Handle, Kind, Status, _call, load, quick  # noqa: E402
+import argus_guardian as argus  # noqa: E402
+from argus_guardian.library import Answer, Handle, Kind, Status, _call, address_of, load, quick  # noqa: E402
 
 # What argus.h has and no answer of this package can be.
 NULL = 21
+
+
+@contextlib.contextmanager
+def crossing(guardian):
+    """The texts with which calls reach the library."""
+    texts = []
+    archive, (call, reply, at) = guardian._archive, guardian._archive.addresses()
+    made = ctypes.CFUNCTYPE(ctypes.c_uint32, *archive._library.argus_c_call.argtypes)
+
+    @made
+    def noted(*given):
+        texts.append(ctypes.string_at(given[6], given[7]))
+        return made(call)(*given)
+
+    plain = archive.call
+
+    def noted_plain(at, *given):
+        texts.append(given[-1])
+        return plain(at, *given)
+
+    with mock.patch.object(archive, "call", noted_plain):
+        with mock.patch.object(archive, "addresses", lambda: (address_of(noted), reply, at)):
+            guardian._connect_archive()
+        yield texts
+    guardian._connect_archive()
 
 
 class Bindings(unittest.TestCase):
@@ -68,6 +96,34 @@ class Bindings(unittest.TestCase):
                 call(ctypes.addressof(handle), *wrong, number, b"")
         self.assertEqual(converted, [])
         self.assertEqual(call(ctypes.addressof(handle), 0, 0, 0, number, -1, b"")[0], Status.NOT_OPEN)
+
+    def test_numbers_cross_without_a_text(self):
+        with argus.Guardian() as guardian:
+            record = guardian.object("record", "atomic_record[n:int,is:bool]")
+            array = guardian.object("array", "atomic_array[int]")
+            state = guardian.object("state", "atomic_variant[n:int,is:bool]")
+            with guardian.topaction() as top:
+                top.create(record, (5, False))
+                top.create(array, [1])
+                top.create(state, argus.Choice("n", 1))
+                with crossing(guardian) as texts:
+                    top[record].n = -(2**63)
+                    top[record]["is"] = True
+                    top[record].n += 1
+                    top.set(record, n=7)
+                    top.set_field(record, 0, 8)
+                    top[array].append(2)
+                    top[array].appendleft(0)
+                    top[array][1] = 2**63 - 1
+                    top[state].n = 5
+                    top[state]["is"] = True
+                self.assertEqual(set(texts), {b""})
+                self.assertEqual(len(texts), 12)
+                with crossing(guardian) as texts:
+                    top.create(guardian.declare("atomic_array[text]"), ["a"])
+                self.assertEqual(texts, [b'0["a"]'])
+                self.assertEqual(top.whole(record), (8, True))
+                self.assertEqual(top.whole(array).items, [0, 2**63 - 1, 2])
 
     def test_names(self):
         self.assertEqual(self.name("argus_status_name", NULL), b"ARGUS_NULL")

@@ -6,6 +6,7 @@ import threading
 import time
 import unittest
 from pathlib import Path
+from unittest import mock
 
 sys.path.insert(0, str(Path(__file__).resolve().parents[1]))
 
@@ -91,6 +92,27 @@ class ByItself(unittest.TestCase):
         threading.Timer(0.01, holder.commit).start()
         self.add()
         self.assertLess(self.kept(), self.AFTER)
+
+    def test_who_is_held_back_looks_seldom(self):
+        top, looks = self.guardian.topaction(), []
+        wait = self.guardian._ended.wait
+
+        def counted(timeout):
+            looks.append(threading.get_ident())
+            return wait(timeout)
+
+        begin = threading.Thread(target=lambda: self.guardian.topaction().commit())
+        with mock.patch.object(self.guardian._ended, "wait", counted):
+            holding = threading.Thread(target=lambda: self.assertRaises(argus.Busy, self.guardian.checkpoint, 1))
+            holding.start()
+            while holding.ident not in looks:
+                time.sleep(0.001)
+            begin.start()
+            holding.join()
+            begin.join()
+        # After 0.05 seconds, twice as many, and so on, in one second.
+        self.assertIn(looks.count(begin.ident), range(1, 7))
+        top.commit()
 
     def test_threads_without_a_quiet_moment(self):
         stop = threading.Event()

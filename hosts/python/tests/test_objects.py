@@ -384,7 +384,7 @@ class Variants(unittest.TestCase):
         with argus.Guardian(patience=0) as guardian:
             state = guardian.object("state", "atomic_variant[free:null,sold:struct[who:text,price:int],tag:int]")
             with guardian.topaction() as top:
-                top.create(state, Choice("free", None))
+                top.create(state, Choice("free"))
                 view = top[state]
                 self.assertEqual(("free" in view, "sold" in view, top.get(state)), (True, False, Choice("free", None)))
                 view.sold = {"who": "Ann", "price": 30}

@@ -46,6 +46,14 @@ pub enum Call {
 }
 
 impl Call {
+    /// Whether this guardian takes all of its ids.
+    #[inline]
+    pub(crate) fn is_for(&self, guardian: Owner) -> bool {
+        self.action().is_none_or(|it| it.is_for(guardian))
+            && self.object().is_none_or(|it| it.is_for(guardian))
+            && self.change().is_none_or(|it| it.is_for(guardian))
+    }
+
     // Why this guardian doesn't take its ids: `Over` for an action from before a renewal, or that one of them is another
     // guardian's.
     #[cold]
@@ -67,6 +75,23 @@ impl Call {
             | Call::Alter(action, ..)
             | Call::TestRead(action, _)
             | Call::TestWrite(action, _) => Some(action),
+        }
+    }
+
+    fn object(&self) -> Option<ObjId> {
+        match *self {
+            Call::Ask(_, object, _)
+            | Call::Alter(_, object, _)
+            | Call::TestRead(_, object)
+            | Call::TestWrite(_, object) => Some(object),
+            _ => None,
+        }
+    }
+
+    fn change(&self) -> Option<&Change> {
+        match self {
+            Call::Alter(.., change) => Some(change),
+            _ => None,
         }
     }
 }
@@ -172,6 +197,24 @@ pub enum Change {
     ChangeTag(u8, Value),
     /// Changes nothing, but takes the write lock. An action's `lock` makes this change.
     Touch,
+}
+
+impl Change {
+    /// Whether its value refers to no object but this guardian's and nobody's.
+    #[inline]
+    fn is_for(&self, guardian: Owner) -> bool {
+        match self {
+            Change::Create(content) => content.is_for(guardian),
+            Change::SetField(_, value)
+            | Change::Store(_, value)
+            | Change::Addh(value)
+            | Change::Addl(value)
+            | Change::ChangeTag(_, value) => value.is_for(guardian),
+            Change::Remh | Change::Reml | Change::SetLow(_) | Change::Trim(..) | Change::Touch => {
+                true
+            }
+        }
+    }
 }
 
 impl fmt::Display for Change {

@@ -57,11 +57,6 @@ impl ListedCall {
         ListedCall { demand, ..self }
     }
 
-    /// The words of the call, of this guardian, which hold its text.
-    pub(crate) fn words(&self, guardian: Owner) -> Words {
-        Words::of(&self.call, guardian)
-    }
-
     /// Why this guardian doesn't take the ids of the call.
     pub(crate) fn refused_by(&self, guardian: Owner) -> Error {
         self.call.refused_by(guardian)
@@ -188,9 +183,9 @@ impl Guardian {
     /// ```
     pub fn call_each(&self, calls: &[ListedCall]) -> Result<CallsMade, Error> {
         let owner = self.owner.get();
-        let words: Vec<Words> = calls.iter().map(|it| it.words(owner)).collect();
+        let words: Vec<Words> = calls.iter().map(|it| Words::of(&it.call)).collect();
         // The list ends before a call with an id that the guardian doesn't take.
-        let refused = words.iter().position(|it| !it.is_own);
+        let refused = calls.iter().position(|it| !it.call.is_for(owner));
         let own = &calls[..refused.unwrap_or(calls.len())];
         let listed = own.iter().zip(&words).map(|(each, words)| each.with(words));
         let mut listed: Vec<sys::ListedCall> = listed.collect();

@@ -4,10 +4,10 @@ use crate::action::Action;
 use crate::call::Call;
 use crate::error::{CheckpointError, Error};
 use crate::ids::{ObjId, Owner};
-use crate::library::{Words, error_of, read_as};
+use crate::library::{error_of, read_as};
 use crate::names::Names;
 use crate::reply::{Answer, Reply};
-use crate::shape::ShapeFault;
+use crate::request::Request;
 use crate::sys::{Handle, status};
 use crate::written_form::Reader;
 use crate::{library, sys};
@@ -150,31 +150,22 @@ impl Guardian {
     /// # Ok::<(), argus_guardian::Error>(())
     /// ```
     pub fn call(&self, call: &Call) -> Result<Reply, Error> {
+        self.make(&mut Request::of(call))
+    }
+
+    // The same.
+    #[inline]
+    pub(crate) fn make(&self, request: &mut Request<'_>) -> Result<Reply, Error> {
         let owner = self.owner.get();
-        let words = Words::of(call, owner);
-        if !words.is_own {
-            return Err(call.refused_by(owner));
+        if !request.call.is_for(owner) {
+            return Err(request.call.refused_by(owner));
         }
-        let mut number = 0;
-        // SAFETY: no other guardian has the handle, the text is UTF-8 and never null, and the
-        // number is other memory.
-        let status = unsafe {
-            sys::argus_c_call(
-                self.handle(),
-                words.kind,
-                words.action,
-                words.object,
-                words.first,
-                words.second,
-                words.text.as_ptr(),
-                words.text.len(),
-                &raw mut number,
-            )
-        };
+        // SAFETY: no other guardian has the handle.
+        let (status, number) = unsafe { request.make(self.handle()) };
         if status == status::BAD_SHAPE {
-            return Err(ShapeFault::of(&words.text).into());
+            return Err(request.shape_fault());
         }
-        self.reply_of(words.kind, status, number)
+        self.reply_of(request.kind(), status, number)
     }
 
     fn reply_of(&self, kind: u32, status: u32, number: i64) -> Result<Reply, Error> {

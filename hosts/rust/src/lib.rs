@@ -51,6 +51,7 @@ mod questions;
 mod ready_commit;
 mod record;
 mod reply;
+mod request;
 mod resumption;
 mod shape;
 mod shared;
@@ -78,9 +79,6 @@ pub use record::struct_of;
 pub use record::{FieldType, Record};
 pub use reply::{Answer, Refusal, Reply, Signal};
 pub use resumption::{LineFault, RestoredGuardian, Resumption, TakenEnd, TakenLines};
-// Their names until now.
-#[doc(hidden)]
-pub use resumption::{RestoredGuardian as Opened, Resumption as Resuming, TakenLines as Taken};
 pub use shape::ShapeFault;
 pub use shared::Shared;
 pub use shared::action::SharedAction;

@@ -16,15 +16,12 @@ pub(crate) struct Words {
     pub(crate) first: i64,
     pub(crate) second: i64,
     pub(crate) text: String,
-    /// Whether the guardian takes all of its ids.
-    pub(crate) is_own: bool,
 }
 
 impl Words {
-    /// The words of a call of this guardian.
     #[inline]
-    pub(crate) fn of(call: &Call, guardian: Owner) -> Words {
-        let by = |kind, action: &ActionId| Words::of_kind(kind).by(*action, guardian);
+    pub(crate) fn of(call: &Call) -> Words {
+        let by = |kind, action: &ActionId| Words::of_kind(kind).by(*action);
         match call {
             Call::Declare(shape) => Words {
                 text: shape.clone(),
@@ -36,14 +33,10 @@ impl Words {
             Call::Commit(action) => by(kind::COMMIT, action),
             Call::Abort(action) => by(kind::ABORT, action),
             Call::AbortOthers(action) => by(kind::ABORT_OTHERS, action),
-            Call::Ask(action, object, query) => Words::of_query(query)
-                .by(*action, guardian)
-                .on(*object, guardian),
-            Call::Alter(action, object, change) => Words::of_change(change, guardian)
-                .by(*action, guardian)
-                .on(*object, guardian),
-            Call::TestRead(action, object) => by(kind::TEST_READ, action).on(*object, guardian),
-            Call::TestWrite(action, object) => by(kind::TEST_WRITE, action).on(*object, guardian),
+            Call::Ask(action, object, query) => Words::of_query(query).by(*action).on(*object),
+            Call::Alter(action, object, change) => Words::of_change(change).by(*action).on(*object),
+            Call::TestRead(action, object) => by(kind::TEST_READ, action).on(*object),
+            Call::TestWrite(action, object) => by(kind::TEST_WRITE, action).on(*object),
         }
     }
 
@@ -55,22 +48,19 @@ impl Words {
             first: 0,
             second: 0,
             text: String::new(),
-            is_own: true,
         }
     }
 
-    fn by(self, action: ActionId, guardian: Owner) -> Words {
+    fn by(self, action: ActionId) -> Words {
         Words {
             action: action.number(),
-            is_own: self.is_own && action.is_for(guardian),
             ..self
         }
     }
 
-    fn on(self, object: ObjId, guardian: Owner) -> Words {
+    fn on(self, object: ObjId) -> Words {
         Words {
             object: object.number(),
-            is_own: self.is_own && object.is_for(guardian),
             ..self
         }
     }
@@ -94,12 +84,11 @@ impl Words {
         }
     }
 
-    fn of_change(change: &Change, guardian: Owner) -> Words {
+    fn of_change(change: &Change) -> Words {
         let (kind, first, second, value) = match change {
             Change::Create(content) => {
                 return Words {
                     text: content.to_string(),
-                    is_own: content.is_for(guardian),
                     ..Words::of_kind(kind::CREATE)
                 };
             }
@@ -124,7 +113,6 @@ impl Words {
             first,
             second,
             text,
-            is_own: value.is_none_or(|it| it.is_for(guardian)),
             ..Words::of_kind(kind)
         }
     }

@@ -9,36 +9,29 @@
 //! and what is tested.
 
 mod batch_log;
-mod failure;
+mod error;
 mod group;
-mod journal_queue;
-#[cfg(feature = "sqlite")]
-mod log_making;
-#[cfg(feature = "sqlite")]
-mod log_opening;
 #[cfg(feature = "sqlite")]
 mod log_options;
+#[cfg(feature = "sqlite")]
+mod log_reading;
 #[cfg(feature = "sqlite")]
 mod log_rows;
 #[cfg(feature = "sqlite")]
 mod log_wal;
 mod logged;
 mod logged_action;
-mod logged_error;
-mod open_error;
 mod recovery;
 #[cfg(feature = "sqlite")]
 mod sqlite_log;
 
 pub use batch_log::{BatchLog, EntryLines, ObjectName, Opening, log_sum};
-pub use failure::Failure;
+pub use error::{Failure, LogFault, LoggedError};
 pub use group::LogCounts;
 #[cfg(feature = "sqlite")]
 pub use log_options::{LogFound, LogOptions};
 pub use logged::Logged;
 pub use logged_action::LoggedAction;
-pub use logged_error::LoggedError;
-pub use open_error::{LogFault, OpenError};
 pub use recovery::{LineError, Recovery};
 #[cfg(feature = "sqlite")]
 pub use sqlite_log::SqliteLog;

@@ -13,15 +13,14 @@ use crate::error::Error;
 use crate::guardian::Guardian;
 use crate::ids::ActionId;
 use crate::object::{AsObject, Object};
-use crate::reply::{Answer, Refusal, Reply};
+use crate::reply::{Answer, Reply};
+use crate::request::Request;
 use crate::shared::action::SharedAction;
 use crate::shared::circles::Deadlock;
 use crate::shared::state::{Borrower, DroppedAction, SharedState};
-use crate::shared::waits::{Lineage, WaitGoal, WaitingAccess};
+use crate::shared::waits::{AccessAgain, Attempt, CONFLICT, Lineage, WaitGoal, WaitingAccess};
 use std::sync::{Mutex, MutexGuard, PoisonError};
 use std::time::{Duration, Instant};
-
-const CONFLICT: Reply = Reply::Refused(Refusal::Conflict);
 
 /// A guardian that threads share: std's `Mutex` around each call, and for each thread that waits for
 /// a lock on an object a `Condvar`, which wakes it when the lock is free.
@@ -116,24 +115,33 @@ impl Shared {
         self.state.lock().unwrap_or_else(PoisonError::into_inner)
     }
 
-    // Waits for that. Each time that it is woken, and when the patience is over, it asks whether to wait on. Also returns
-    // the circle for which it waits no longer.
-    pub(crate) fn wait_while(
-        mut state: MutexGuard<'_, SharedState>,
+    // Waits for that. Each time that it is woken, and when the patience is over, it makes an attempt, and waits on if that
+    // fails. Also returns the circle for which it waits no longer.
+    pub(crate) fn wait_while<'s>(
+        &'s self,
+        mut state: MutexGuard<'s, SharedState>,
         goal: WaitGoal,
         patience: Duration,
-        mut still: impl FnMut(&mut SharedState) -> bool,
-    ) -> (MutexGuard<'_, SharedState>, Option<Deadlock>) {
+        attempt: &mut impl Attempt,
+    ) -> (MutexGuard<'s, SharedState>, Option<Deadlock>) {
         let start = Instant::now();
         let (number, condition) = state.join(goal);
         state.break_circles(number);
         while !state.is_refused(number) {
+            if !attempt.is_ready() {
+                drop(state);
+                let is_ready = attempt.get_ready();
+                state = self.lock();
+                if !is_ready {
+                    break;
+                }
+            }
             let left = patience.saturating_sub(start.elapsed());
             let sleeps = |state: &mut SharedState| !state.is_woken(number);
             let result = condition.wait_timeout_while(state, left, sleeps);
             state = result.unwrap_or_else(PoisonError::into_inner).0;
             state.look(number);
-            if !still(&mut state) || start.elapsed() >= patience {
+            if !attempt.fails(&mut state) || start.elapsed() >= patience {
                 break;
             }
             state.pass_on();
@@ -158,7 +166,8 @@ impl Shared {
     /// # Ok::<(), argus_guardian::Error>(())
     /// ```
     pub fn call(&self, call: &Call) -> Result<Reply, Error> {
-        self.lock().call(call)
+        let mut request = Request::read(call)?;
+        self.lock().make(&mut request)
     }
 
     // Ends an action. If that is a subaction, its topaction is named. After an outermost one the journal is folded, if
@@ -241,19 +250,20 @@ impl Shared {
         patience: Duration,
         lineage_of: impl FnOnce(ActionId) -> Lineage,
     ) -> Result<(MutexGuard<'_, SharedState>, Reply, Option<Deadlock>), Error> {
+        let mut request = Request::read(call)?;
         let mut state = self.lock();
-        let mut reply = state.call(call);
+        let reply = state.make(&mut request);
         if reply != Ok(CONFLICT) || patience.is_zero() {
             return Ok((state, reply?, None));
         }
         let Some(access) = WaitingAccess::by(call, lineage_of) else {
             return Ok((state, reply?, None));
         };
+        let request = &mut request;
+        let mut again = AccessAgain { request, reply };
         let goal = WaitGoal::Access(access);
-        let (state, deadlock) = Shared::wait_while(state, goal, patience, |state| {
-            reply = state.call(call);
-            reply == Ok(CONFLICT)
-        });
+        let (state, deadlock) = self.wait_while(state, goal, patience, &mut again);
+        let reply = again.reply;
         let deadlock = deadlock.filter(|_| reply == Ok(CONFLICT));
         Ok((state, reply?, deadlock))
     }
@@ -274,8 +284,8 @@ impl Shared {
     pub fn topaction(&self) -> Result<SharedAction<'_>, Error> {
         let mut state = self.lock();
         if state.folding > 0 {
-            let still = |state: &mut SharedState| state.folding > 0;
-            (state, _) = Shared::wait_while(state, WaitGoal::NoFolding, Duration::MAX, still);
+            let mut still = |state: &mut SharedState| state.folding > 0;
+            (state, _) = self.wait_while(state, WaitGoal::NoFolding, Duration::MAX, &mut still);
         }
         let id = state.call(&Call::BeginTop)?.action()?;
         state.growth.begin();

@@ -1,6 +1,6 @@
 //! Objects by their names, which are in objects of the guardian.
 
-use argus_guardian::{Access, Error, Guardian, Listing, Resuming, Shared, TakenEnd};
+use argus_guardian::{Access, Error, Guardian, Listing, Resumption, Shared, TakenEnd};
 use std::thread;
 
 const ACCOUNT: &str = "atomic_record[balance:int]";
@@ -8,7 +8,7 @@ const ACCOUNT: &str = "atomic_record[balance:int]";
 /// The same guardian, made again of its journal.
 fn made_again(guardian: &Guardian) -> Result<Guardian, Error> {
     let text = guardian.list(Listing::Journal)?;
-    let mut resuming = Resuming::new()?;
+    let mut resuming = Resumption::new()?;
     let taken = resuming.take(text.as_bytes());
     assert_eq!((taken.bytes, taken.end), (text.len(), TakenEnd::Whole));
     let Ok(opened) = resuming.into_guardian() else {

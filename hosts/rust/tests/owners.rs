@@ -2,7 +2,7 @@
 
 use argus_guardian::{
     Access, Action, ActionId, Answer, Call, Change, Content, Error, Guardian, ListEnd, ListedCall,
-    Listing, ObjId, Query, Refusal, Reply, Resuming, Shared, Status, Value,
+    Listing, ObjId, Query, Refusal, Reply, Resumption, Shared, Status, Value,
 };
 use std::mem;
 use std::time::Duration;
@@ -238,15 +238,15 @@ fn ids_from_texts_are_nobodys() -> Result<(), Error> {
 fn a_guardian_that_is_restored_is_another_one() -> Result<(), Error> {
     let (first, record) = with_record(7)?;
     let action = first.call(&Call::BeginTop)?.action()?;
-    let restored = |mut resuming: Resuming| {
+    let restored = |mut resuming: Resumption| {
         resuming.take(first.list(Listing::Journal)?);
         Ok::<_, Error>(resuming.into_guardian()?.guardian)
     };
-    let second = restored(Resuming::new()?)?;
+    let second = restored(Resumption::new()?)?;
     assert_eq!(second.base(record), Err(OTHER));
     assert_eq!(second.call(&Call::Commit(action)), Err(OTHER));
     // Unless it is made in place of the first one.
-    let third = restored(Resuming::after(&first)?)?;
+    let third = restored(Resumption::after(&first)?)?;
     assert_eq!(third.base(record), first.base(record));
     assert_eq!(third.call(&Call::Commit(action)), Err(OVER));
     assert_eq!(third.status(ActionId::numbered(1)), Some(Status::Live));

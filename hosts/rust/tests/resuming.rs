@@ -1,8 +1,8 @@
 //! Guardians made again from the listings of their journals.
 
 use argus_guardian::{
-    ActionId, Content, Error, Guardian, LineFault, Listing, ObjId, Opened, Resuming, Status,
-    TakenEnd, Value,
+    ActionId, Content, Error, Guardian, LineFault, Listing, ObjId, RestoredGuardian, Resumption,
+    Status, TakenEnd, Value,
 };
 
 // Two topactions, of which the second one is live.
@@ -22,8 +22,8 @@ opening o0 atomic_record[n:int] {5}
 opening o1 atomic_array[atomic] 1[@2]
 ";
 
-fn taken(text: &str) -> Result<Resuming, Error> {
-    let mut resuming = Resuming::new()?;
+fn taken(text: &str) -> Result<Resumption, Error> {
+    let mut resuming = Resumption::new()?;
     let taken = resuming.take(text);
     assert_eq!((taken.bytes, taken.end), (text.len(), TakenEnd::Whole));
     assert_eq!(taken.lines, text.lines().count());
@@ -31,7 +31,7 @@ fn taken(text: &str) -> Result<Resuming, Error> {
 }
 
 fn fault(text: &str) -> Result<(usize, LineFault), Error> {
-    let taken = Resuming::new()?.take(text);
+    let taken = Resumption::new()?.take(text);
     match taken.end {
         TakenEnd::Fault(fault) => Ok((taken.bytes, fault)),
         end => panic!("it ended with {end:?}"),
@@ -40,7 +40,7 @@ fn fault(text: &str) -> Result<(usize, LineFault), Error> {
 
 #[test]
 fn a_guardian_goes_on_where_the_lines_end() -> Result<(), Error> {
-    let Opened {
+    let RestoredGuardian {
         mut guardian,
         dropped,
     } = taken(LINES)?.into_guardian()?;
@@ -62,7 +62,7 @@ fn a_guardian_goes_on_where_the_lines_end() -> Result<(), Error> {
 #[test]
 fn a_listing_comes_in_pieces_of_each_size() -> Result<(), Error> {
     for size in 1..LINES.len() {
-        let mut resuming = Resuming::new()?;
+        let mut resuming = Resumption::new()?;
         let mut left = Vec::new();
         for piece in LINES.as_bytes().chunks(size) {
             left.extend_from_slice(piece);
@@ -96,7 +96,7 @@ fn an_opening_may_come_in_part() -> Result<(), Error> {
 fn each_fault_is_told() -> Result<(), Error> {
     let begun = "0 begin_top -> a0\n";
     let bytes = b"0 begin_top -> a0\n1 \xff\n";
-    let mut resuming = Resuming::new()?;
+    let mut resuming = Resumption::new()?;
     let taken = resuming.take(bytes);
     let end = TakenEnd::Fault(LineFault::NotUtf8 { at: 2 });
     assert_eq!((taken.bytes, taken.lines, taken.end), (18, 1, end));
@@ -116,7 +116,7 @@ fn each_fault_is_told() -> Result<(), Error> {
 
 #[test]
 fn what_came_before_a_fault_is_a_guardian() -> Result<(), Error> {
-    let mut resuming = Resuming::new()?;
+    let mut resuming = Resumption::new()?;
     let taken = resuming.take("0 begin_top -> a0\n1 commit a0 -> refused Over\n");
     assert_eq!(taken.lines, 1);
     let taken = resuming.take("1 abort a0 -> done\n");

@@ -1,8 +1,10 @@
 //! Receipts, as a journal's lines spell them.
 
+use crate::call_reading::{call_of, reply_of};
+use crate::row_fault::RowFault;
+use crate::word_reading::first_word;
 use argus_guardian::Receipt;
 use argus_values::{Heap, Room};
-use test_rows::{RowFault, call_of, first_word, reply_of};
 
 /// The receipts that are spelled, one a line: `6 commit a2 -> done`.
 pub(crate) fn receipts_of(heap: Heap, text: &str) -> Result<Vec<Receipt, Room>, RowFault> {

@@ -1,8 +1,12 @@
 //! `Row`: a test of a script, and what comes of it.
 
+use crate::block::{Block, block_of};
+use crate::counting::counted_of;
+use crate::row_fault::RowFault;
 use crate::scripts::workers::hold::Hold;
+use crate::spelling::{spell_line, spelled_row};
+use crate::word_reading::first_word;
 use argus_values::{Heap, Room};
-use test_rows::{Block, RowFault, block_of, counted_of, first_word, spell_line, spelled_row};
 
 /// A script, how it is run, and what comes of it.
 ///
@@ -17,7 +21,6 @@ pub(crate) struct Row<'a> {
     /// By how many workers it is run, and how many calls each seat makes then: `2: 4 2 2`, a line each.
     pub(crate) teams: String<Room>,
     pub(crate) patience: u32,
-    pub(crate) lookers: u8,
     pub(crate) holds: Vec<Hold, Room>,
     /// The calls that were made before, with their replies, a line each.
     pub(crate) before: String<Room>,
@@ -54,7 +57,6 @@ impl<'a> Row<'a> {
             is_large,
             teams: String::new(texts.room()),
             patience: 0,
-            lookers: 0,
             holds: Vec::new(texts.room()),
             before: String::new(texts.room()),
             script: Vec::new(texts.room()),
@@ -81,7 +83,6 @@ impl<'a> Row<'a> {
             "#" => {}
             "workers" => append_line(rest, &mut self.teams)?,
             "patience" => self.patience = rest.parse::<u32>()?,
-            "lookers" => self.lookers = rest.parse::<u8>()?,
             "before" => append_line(rest, &mut self.before)?,
             "receipt" => append_line(rest, &mut self.receipts)?,
             "=" => append_line(rest, &mut self.wanted)?,

@@ -5,11 +5,11 @@ use crate::scripts::comparing::compare;
 use crate::scripts::receipts::receipts_of;
 use crate::scripts::row::Row;
 use crate::scripts::workers::telling::tell_arm;
+use crate::setting::Setting;
 use anyhow::{Result, bail, ensure};
 use argus_commands::{ArmOutcome, check_run, parse};
 use argus_values::{Heap, OutOfMemory, Room};
 use std::io::Print;
-use test_rows::Setting;
 
 // More allocations than any test here makes.
 const MANY: u64 = 1_000;

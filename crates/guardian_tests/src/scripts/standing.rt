@@ -1,9 +1,10 @@
 //! Guardians that aren't new: what was called before a script is run on them.
 
+use crate::call_reading::{call_of, reply_of};
+use crate::row_fault::RowFault;
 use anyhow::{Result, bail, ensure};
 use argus_guardian::Guardian;
 use argus_values::Heap;
-use test_rows::{RowFault, call_of, reply_of};
 
 /// A guardian on which these calls were made, each of which has to get the reply that its line says:
 /// `CALL -> REPLY`, or `checkpoint -> done`.

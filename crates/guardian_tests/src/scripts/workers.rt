@@ -3,14 +3,10 @@
 //! gate, with each allocation refused in turn.
 
 pub(crate) mod checking;
-mod done;
 pub(crate) mod hold;
-mod performing;
 mod place;
 mod plan;
 mod ran;
-mod sharing;
+pub(crate) mod run;
 pub(crate) mod telling;
 mod turns;
-mod watched;
-mod watching;

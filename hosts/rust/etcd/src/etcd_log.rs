@@ -307,14 +307,14 @@ impl EtcdLog {
     fn put_opening(&mut self, opening: &Opening) -> Result<(), EtcdError> {
         let at = self.head;
         let (mut puts, mut sum) = (Vec::new(), 0);
-        for (number, text) in (at.next..).zip(parts(opening.text(), self.client.options().batch)) {
-            sum = at.summed(opening.next(), sum, summed_lines(text));
-            puts.push(self.batch(number, opening.next(), true, sum, text));
+        for (number, text) in (at.next..).zip(parts(&opening.text, self.client.options().batch)) {
+            sum = at.summed(opening.next, sum, summed_lines(text));
+            puts.push(self.batch(number, opening.next, true, sum, text));
         }
         let head = LogHead {
             begins: at.next,
             next: at.next + puts.len() as u64,
-            entry: opening.next(),
+            entry: opening.next,
             epoch: self.leadership.epoch(),
             sum,
             ..at
@@ -352,15 +352,15 @@ impl EtcdLog {
 
 impl BatchLog for EtcdLog {
     fn append(&mut self, lines: &EntryLines) -> Result<(), Failure> {
-        self.check_next(lines.first())?;
+        self.check_next(lines.first)?;
         let size = self.client.options().batch;
         self.unless_broken(|log| {
-            parts(lines.text(), size).try_for_each(|part| log.append_part(part))
+            parts(&lines.text, size).try_for_each(|part| log.append_part(part))
         })
     }
 
     fn restart(&mut self, opening: &Opening) -> Result<(), Failure> {
-        self.check_next(opening.next())?;
+        self.check_next(opening.next)?;
         self.unless_broken(|log| log.put_opening(opening))
     }
 }

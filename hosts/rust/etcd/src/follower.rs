@@ -3,7 +3,7 @@
 use crate::client::Client;
 use crate::etcd_log::EtcdLog;
 use crate::etcd_options::EtcdOptions;
-use crate::leadership::{Leadership, Led};
+use crate::leadership::{Leadership, Takeover};
 use crate::log_error::LogError;
 use crate::log_reader::LogReader;
 use crate::position::Position;
@@ -206,7 +206,7 @@ impl Follower {
         mut self,
         leadership: Leadership,
         patience: Duration,
-    ) -> Result<(Logged, Led), LogError> {
+    ) -> Result<(Logged, Takeover), LogError> {
         // Earlier leaders append nothing any more: their keys are gone.
         self.catch_up()?;
         // The guardian is made here, so that an opening of which none can be made is named, or one before another
@@ -233,7 +233,7 @@ impl Follower {
         let entry = position.entry;
         Ok((
             logged,
-            Led {
+            Takeover {
                 entry,
                 aborted,
                 epoch,

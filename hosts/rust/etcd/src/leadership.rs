@@ -1,4 +1,4 @@
-//! `Leadership`: the right to append to a log, while a lease lasts; `Led`: what a new leader found.
+//! `Leadership`: the right to append to a log, while a lease lasts; `Takeover`: what a new leader found.
 
 use crate::answers::TransactionAnswer;
 use crate::client::Client;
@@ -11,7 +11,7 @@ use std::time::Duration;
 
 /// What a new leader found in the log.
 #[derive(Debug, Clone, Copy, PartialEq, Eq, Default)]
-pub struct Led {
+pub struct Takeover {
     /// The number of its next entry: all entries before it were in the log.
     pub entry: u64,
     /// How many entries it took to abort the actions that were live at the log's end.

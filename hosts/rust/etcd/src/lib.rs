@@ -78,7 +78,7 @@ pub use etcd_error::EtcdError;
 pub use etcd_log::EtcdLog;
 pub use etcd_options::{EtcdOptions, Login, Tls};
 pub use follower::Follower;
-pub use leadership::{Leadership, Led};
+pub use leadership::{Leadership, Takeover};
 pub use log_error::LogError;
 pub use maintenance::{Maintenance, NodeStatus};
 pub use position::Position;

@@ -2,7 +2,7 @@
 
 use crate::etcd_error::EtcdError;
 use argus_guardian::Error;
-use argus_guardian::log::{Failure, OpenError};
+use argus_guardian::log::{Failure, LoggedError};
 use std::error;
 use std::fmt;
 
@@ -72,11 +72,13 @@ impl From<Error> for LogError {
     }
 }
 
-impl From<OpenError> for LogError {
-    fn from(error: OpenError) -> LogError {
+impl From<LoggedError> for LogError {
+    fn from(error: LoggedError) -> LogError {
         match error {
-            OpenError::Guardian(error) => LogError::Guardian(error),
-            OpenError::Broken(failure) => LogError::Broken(failure),
+            LoggedError::Guardian(error) => LogError::Guardian(error),
+            LoggedError::InDoubt(failure) | LoggedError::Broken(failure) => {
+                LogError::Broken(failure)
+            }
             // Of files alone.
             other => LogError::Etcd(EtcdError::Malformed(other.to_string())),
         }

@@ -1,6 +1,6 @@
 //! `verify`: what stands in a log, by the proved archive.
 
-use argus_guardian::log::{LogFault, LogOptions, OpenError};
+use argus_guardian::log::{LogFault, LogOptions, LoggedError};
 use std::path::Path;
 use std::process::ExitCode;
 
@@ -21,7 +21,7 @@ pub(crate) fn verify(path: &Path) -> ExitCode {
         Err(error) => error,
     };
     let is_damage = match &error {
-        OpenError::Database(fault, _) => !matches!(
+        LoggedError::Database(fault, _) => !matches!(
             fault,
             LogFault::NoLog
                 | LogFault::NotALog

@@ -1,10 +1,9 @@
 //! `BatchLog`: what keeps a guardian's entries; `EntryLines`, `ObjectName`, `Opening`: what it is given; `log_sum`.
 
-use crate::log::failure::Failure;
+use crate::log::error::Failure;
 
-/// What keeps a guardian's entries permanently: a database, or etcd.
-///
-/// After a failure each call returns that failure again, and appends nothing more.
+/// What keeps a guardian's entries permanently: a database, or etcd. After a failure each call returns that failure
+/// again, and appends nothing more.
 ///
 /// A [`Logged`](crate::log::Logged) calls it while commits wait. What it calls of that `Logged` must not wait for the
 /// log: such a call panics, and the log is broken.
@@ -24,20 +23,25 @@ pub trait BatchLog: Send {
     fn restart(&mut self, opening: &Opening) -> Result<(), Failure>;
 }
 
-/// A piece of a journal's listing: whole lines of entries that follow one another, from a number on.
+/// A piece of a journal's listing: whole lines of entries that follow one another.
 ///
 /// ```
 /// use argus_guardian::log::EntryLines;
 /// let lines = EntryLines::new(7, "7 begin_top -> a3\n8 commit a3 -> done\n".into()).expect("whole lines");
-/// assert_eq!((lines.first(), lines.next()), (7, 9));
+/// assert_eq!((lines.first, lines.next), (7, 9));
 /// assert_eq!(EntryLines::new(7, "7 begin_top -> a3".into()), None);
 /// ```
 #[derive(Debug, Clone, PartialEq, Eq, Default)]
+#[non_exhaustive]
 pub struct EntryLines {
-    pub(crate) first: u64,
-    pub(crate) next: u64,
-    pub(crate) text: String,
-    pub(crate) names: Vec<ObjectName>,
+    /// The number of the first line's entry.
+    pub first: u64,
+    /// The number of the entry after these.
+    pub next: u64,
+    /// The lines, each with its line feed.
+    pub text: String,
+    /// Names of objects that these entries declare. Only a log in a database gets some.
+    pub names: Vec<ObjectName>,
 }
 
 /// The name of an object, which a log keeps together with the entry that declares it.
@@ -55,60 +59,31 @@ impl EntryLines {
     /// Lines of which the first one belongs to this entry. `None` if the text doesn't end with a line feed.
     #[must_use]
     pub fn new(first: u64, text: String) -> Option<EntryLines> {
-        let is_whole = text.is_empty() || text.ends_with('\n');
-        is_whole.then(|| EntryLines {
+        let next = first.saturating_add(line_feeds(text.as_bytes()));
+        (text.is_empty() || text.ends_with('\n')).then_some(EntryLines {
             first,
-            next: first.saturating_add(line_feeds(text.as_bytes())),
+            next,
             text,
             names: Vec::new(),
         })
     }
-
-    /// The number of the first line's entry.
-    #[must_use]
-    pub fn first(&self) -> u64 {
-        self.first
-    }
-
-    /// The number of the entry after these.
-    #[must_use]
-    pub fn next(&self) -> u64 {
-        self.next
-    }
-
-    /// Whether there are no lines.
-    #[must_use]
-    pub fn is_empty(&self) -> bool {
-        self.text.is_empty()
-    }
-
-    /// The lines, each with its line feed.
-    #[must_use]
-    pub fn text(&self) -> &str {
-        &self.text
-    }
-
-    /// Names of objects that are declared by these entries. Only a log in a database gets some.
-    #[must_use]
-    pub fn names(&self) -> &[ObjectName] {
-        &self.names
-    }
 }
 
-/// What a journal begins with after a checkpoint: the opening lines of its listing, and the number of the first entry
-/// after them.
+/// What a journal begins with after a checkpoint: the opening lines of its listing.
 ///
 /// ```
 /// use argus_guardian::log::Opening;
 /// let text = "opening entries 4 actions 1\nopening o0 atomic_record[n:int] {5}\n";
 /// let opening = Opening::new(4, text.into()).expect("whole lines");
-/// assert_eq!((opening.next(), opening.text()), (4, text));
-/// assert_eq!(Opening::new(4, "opening entries 4 actions 1".into()), None);
+/// assert_eq!((opening.next, opening.text), (4, text.into()));
 /// ```
 #[derive(Debug, Clone, PartialEq, Eq)]
+#[non_exhaustive]
 pub struct Opening {
-    next: u64,
-    text: String,
+    /// The number of the first entry after it.
+    pub next: u64,
+    /// Its lines, each with its line feed.
+    pub text: String,
 }
 
 impl Opening {
@@ -116,18 +91,6 @@ impl Opening {
     #[must_use]
     pub fn new(next: u64, text: String) -> Option<Opening> {
         text.ends_with('\n').then_some(Opening { next, text })
-    }
-
-    /// The number of the first entry after it.
-    #[must_use]
-    pub fn next(&self) -> u64 {
-        self.next
-    }
-
-    /// Its lines, each with its line feed.
-    #[must_use]
-    pub fn text(&self) -> &str {
-        &self.text
     }
 }
 

@@ -1,15 +1,22 @@
 //! `Group`: commits that wait for the log together; `LogCounts`: what the log has done.
 
-use crate::log::batch_log::BatchLog;
-use crate::log::failure::Failure;
-use crate::log::journal_queue::{Goal, JournalQueue, Piece};
+use crate::Listing;
+use crate::error::{CheckpointError, Error};
+use crate::guardian::Guardian;
+use crate::log::batch_log::{BatchLog, EntryLines, ObjectName, Opening};
+use crate::log::error::Failure;
 use crate::shared::Shared;
-use std::fmt;
-use std::io;
-use std::mem;
+use std::collections::VecDeque;
 use std::sync::{Condvar, Mutex, MutexGuard, OnceLock, PoisonError};
 use std::thread::{self, ThreadId};
 use std::time::{Duration, Instant};
+use std::{fmt, io, mem};
+
+// The most bytes that a piece has, except with a line that is longer.
+const PIECE: usize = 256 * 1024;
+
+// How long a write waits for other commits at most: less than a disk takes to sync.
+const GATHER: Duration = Duration::from_micros(200);
 
 /// What a log has done since it was opened.
 #[derive(Debug, Clone, Copy, PartialEq, Eq, Default)]
@@ -28,26 +35,63 @@ pub struct LogCounts {
     pub in_doubt: u64,
 }
 
-// How long a write waits for other commits at most: less than a disk takes to sync.
-const GATHER: Duration = Duration::from_micros(200);
+/// What a thread waits for: that all entries before this one are in the log, and so many openings.
+#[derive(Debug, Clone, Copy, PartialEq, Eq, Default)]
+pub(crate) struct Goal {
+    pub(crate) entry: u64,
+    openings: u64,
+}
+
+impl Goal {
+    /// All entries before this one.
+    pub(crate) fn entry(entry: u64) -> Goal {
+        Goal { entry, openings: 0 }
+    }
+
+    fn includes(self, other: Goal) -> bool {
+        other.entry <= self.entry && other.openings <= self.openings
+    }
+
+    // What is reached with this piece, too.
+    fn with(self, piece: &Piece) -> Goal {
+        let (entry, openings) = match piece {
+            Piece::Lines(lines) => (lines.next, self.openings),
+            Piece::Opening(_) => (self.entry, self.openings + 1),
+        };
+        Goal { entry, openings }
+    }
+}
+
+// What goes to the log next.
+enum Piece {
+    Lines(EntryLines),
+    Opening(Opening),
+}
 
 /// Commits that wait for the log together. A thread that waits and finds no other one writing takes all lines that the
-/// log hasn't got, and writes them for all; calls go on meanwhile.
+/// log hasn't got, and writes them for all; calls go on meanwhile, and commits that come then wait for the next write.
 pub(crate) struct Group {
     log: Mutex<Box<dyn BatchLog>>,
-    queue: Mutex<JournalQueue>,
-    progress: Mutex<Progress>,
+    queue: Mutex<Queue>,
     has_changed: Condvar,
     have_come: Condvar,
     broken: OnceLock<Failure>,
 }
 
-// How far the log has come.
-struct Progress {
+/// How far the log has come, who waits, and what has been taken out of the journal. Pieces are taken while the
+/// guardian's mutex is held, so they are in the order of the entries.
+#[derive(Default)]
+pub(crate) struct Queue {
+    taken: Goal,
     safe: Goal,
-    // The thread that writes.
+    pieces: VecDeque<Piece>,
+    // Whether the opening of the last fold hasn't been taken yet.
+    owes_opening: bool,
+    // Names, each with the number of entries that there have to be before it counts.
+    names: Vec<(u64, ObjectName)>,
+    room: Vec<u8>,
+    // The thread that writes; how many others wait since the last write ended, and how many waited then.
     writer: Option<ThreadId>,
-    // How many others wait since the last write ended, and how many waited then.
     waiting: usize,
     expected: usize,
     counts: LogCounts,
@@ -61,15 +105,14 @@ fn locked<T: ?Sized>(mutex: &Mutex<T>) -> MutexGuard<'_, T> {
 impl Group {
     /// For a log that has all entries before this one.
     pub(crate) fn new(log: Box<dyn BatchLog>, next: u64) -> Group {
+        let next = Goal::entry(next);
         Group {
             log: Mutex::new(log),
-            queue: Mutex::new(JournalQueue::from(next)),
-            progress: Mutex::new(Progress {
-                safe: Goal::entry(next),
-                writer: None,
-                waiting: 0,
-                expected: 0,
-                counts: LogCounts::default(),
+            queue: Mutex::new(Queue {
+                taken: next,
+                safe: next,
+                room: vec![0; PIECE],
+                ..Queue::default()
             }),
             has_changed: Condvar::new(),
             have_come: Condvar::new(),
@@ -77,14 +120,13 @@ impl Group {
         }
     }
 
-    /// What has to be taken. The guardian's mutex has to be held.
-    pub(crate) fn queue(&self) -> MutexGuard<'_, JournalQueue> {
+    pub(crate) fn queue(&self) -> MutexGuard<'_, Queue> {
         locked(&self.queue)
     }
 
     /// What the log has done.
     pub(crate) fn counts(&self) -> LogCounts {
-        locked(&self.progress).counts
+        self.queue().counts
     }
 
     /// Why the log is broken, if it is.
@@ -95,28 +137,28 @@ impl Group {
     /// Returns when the goal is reached.
     pub(crate) fn wait(&self, shared: &Shared, goal: Goal) -> Result<(), Failure> {
         let this = thread::current().id();
-        let mut progress = locked(&self.progress);
-        while !progress.safe.includes(goal) {
+        let mut queue = self.queue();
+        while !queue.safe.includes(goal) {
             if let Some(failure) = self.broken() {
-                progress.counts.in_doubt += 1;
+                queue.counts.in_doubt += 1;
                 return Err(failure);
             }
-            progress = if let Some(writer) = progress.writer {
+            queue = if let Some(writer) = queue.writer {
                 assert!(
                     writer != this,
                     "a log that is being written waits for its own guardian, and so for itself"
                 );
-                progress.waiting += 1;
-                if progress.waiting == progress.expected {
+                queue.waiting += 1;
+                if queue.waiting == queue.expected {
                     self.have_come.notify_one();
                 }
-                let waited = self.has_changed.wait(progress);
+                let waited = self.has_changed.wait(queue);
                 waited.unwrap_or_else(PoisonError::into_inner)
             } else {
-                progress.writer = Some(this);
-                drop(progress);
+                queue.writer = Some(this);
+                drop(queue);
                 self.write(shared);
-                locked(&self.progress)
+                self.queue()
             };
         }
         Ok(())
@@ -124,9 +166,10 @@ impl Group {
 
     // Writes the next piece, in the turn of this thread.
     fn write(&self, shared: &Shared) {
+        let panicked = io::Error::other("the thread that wrote panicked");
         let mut turn = WriteTurn {
             group: self,
-            written: Err(io::Error::other("the thread that wrote panicked").into()),
+            written: Err(panicked.into()),
         };
         self.gather();
         turn.written = self.write_piece(shared);
@@ -135,19 +178,16 @@ impl Group {
     // Waits a little until as many others wait as at the last write: their commits share this one. Where syncs take no
     // time, as in memory, hardly any would come otherwise. Who is alone doesn't wait.
     fn gather(&self) {
-        let are_missing = |it: &mut Progress| it.waiting < it.expected;
-        let progress = locked(&self.progress);
-        drop(
-            self.have_come
-                .wait_timeout_while(progress, GATHER, are_missing),
-        );
+        let are_missing = |it: &mut Queue| it.waiting < it.expected;
+        let come = &self.have_come;
+        drop(come.wait_timeout_while(self.queue(), GATHER, are_missing));
     }
 
     fn write_piece(&self, shared: &Shared) -> Result<Option<(Piece, Duration)>, Failure> {
         let piece = shared.lend(|guardian| self.queue().next_piece(guardian));
+        let piece = piece.map_err(io::Error::other)?;
         let mut log = locked(&self.log);
         let started = Instant::now();
-        let piece = piece.map_err(io::Error::other)?;
         match &piece {
             Some(Piece::Lines(lines)) => log.append(lines)?,
             Some(Piece::Opening(opening)) => log.restart(opening)?,
@@ -157,21 +197,96 @@ impl Group {
     }
 }
 
-impl Progress {
-    fn advance(&mut self, piece: &Piece, time: Duration) {
+impl Queue {
+    /// An object that was declared just now, as the last one of so many entries, has this name.
+    pub(crate) fn name(&mut self, entries: u64, name: ObjectName) {
+        self.names.push((entries, name));
+    }
+
+    // The next piece. `None`: the log has all.
+    fn next_piece(&mut self, guardian: &Guardian) -> Result<Option<Piece>, Error> {
+        if self.pieces.is_empty() {
+            self.take_opening(guardian)?;
+            self.take(guardian)?;
+        }
+        Ok(self.pieces.pop_front())
+    }
+
+    fn push(&mut self, piece: Piece) {
+        self.taken = self.taken.with(&piece);
+        self.pieces.push_back(piece);
+    }
+
+    // Takes as many lines as fit into a piece; at least one, if there are any.
+    fn take(&mut self, guardian: &Guardian) -> Result<(), Error> {
+        let first = self.taken.entry;
+        let mut lines = guardian.lines(first, &mut self.room)?;
+        if lines.count == 0 && lines.size > 0 {
+            let more = lines.size.saturating_sub(self.room.len());
+            let reserved = self.room.try_reserve(more);
+            reserved.map_err(|_| Error::OutOfMemory)?;
+            self.room.resize(lines.size, 0);
+            lines = guardian.lines(first, &mut self.room)?;
+        }
+        if lines.count == 0 {
+            return Ok(());
+        }
+        let text = String::from_utf8(self.room[..lines.size].to_vec());
+        let (text, next) = (text.map_err(|_| Error::OtherAnswer)?, first + lines.count);
+        let count = self.names.iter().take_while(|it| it.0 <= next).count();
+        let names = self.names.drain(..count).map(|it| it.1).collect();
+        self.push(Piece::Lines(EntryLines {
+            first,
+            next,
+            text,
+            names,
+        }));
+        Ok(())
+    }
+
+    // Takes the opening that hasn't been taken yet: the first lines of the journal's listing.
+    fn take_opening(&mut self, guardian: &Guardian) -> Result<(), Error> {
+        if self.owes_opening {
+            let mut text = guardian.list(Listing::Journal)?;
+            // No entry's line begins like that.
+            let lines = text.split_inclusive('\n');
+            let opening = lines.take_while(|it| it.starts_with("opening "));
+            text.truncate(opening.map(str::len).sum());
+            let opening = Opening::new(self.taken.entry, text).ok_or(Error::OtherAnswer)?;
+            self.push(Piece::Opening(opening));
+            self.owes_opening = false;
+        }
+        Ok(())
+    }
+
+    /// Folds the journal when all of it has been taken, and takes the opening. Returns the goal at which the log has
+    /// it. If there is no memory for the opening, it is taken before the next lines.
+    pub(crate) fn fold(&mut self, guardian: &Guardian) -> Result<Goal, CheckpointError> {
+        let out_of_memory = |_: Error| CheckpointError::OutOfMemory;
+        self.take_opening(guardian).map_err(out_of_memory)?;
+        while self.taken.entry < guardian.entries() {
+            self.take(guardian).map_err(out_of_memory)?;
+        }
+        Shared::fold(guardian)?;
+        // A journal without entries has no opening.
+        self.owes_opening = self.taken.entry > 0;
+        self.take_opening(guardian).map_err(out_of_memory)?;
+        Ok(self.taken)
+    }
+
+    fn count(&mut self, piece: &Piece, time: Duration) {
+        self.safe = self.safe.with(piece);
         let counts = &mut self.counts;
         counts.time += time;
         match piece {
             Piece::Lines(lines) => {
-                self.safe.entry = lines.next();
                 counts.batches += 1;
-                counts.entries += lines.next() - lines.first();
-                counts.bytes += lines.text().len() as u64;
+                counts.entries += lines.next - lines.first;
+                counts.bytes += lines.text.len() as u64;
             }
             Piece::Opening(opening) => {
-                self.safe.openings += 1;
                 counts.checkpoints += 1;
-                counts.bytes += opening.text().len() as u64;
+                counts.bytes += opening.text.len() as u64;
             }
         }
     }
@@ -185,17 +300,18 @@ struct WriteTurn<'g> {
 
 impl Drop for WriteTurn<'_> {
     fn drop(&mut self) {
-        let mut progress = locked(&self.group.progress);
-        progress.writer = None;
-        progress.expected = mem::take(&mut progress.waiting);
+        let mut queue = self.group.queue();
         match &self.written {
-            Ok(written) => written.iter().for_each(|it| progress.advance(&it.0, it.1)),
-            Err(failure) => {
-                self.group.broken.get_or_init(|| failure.clone());
-            }
+            Ok(written) => written.iter().for_each(|it| queue.count(&it.0, it.1)),
+            Err(failure) => drop(self.group.broken.get_or_init(|| failure.clone())),
         }
-        drop(progress);
-        self.group.has_changed.notify_all();
+        queue.writer = None;
+        queue.expected = mem::take(&mut queue.waiting);
+        let others = queue.expected;
+        drop(queue);
+        if others > 0 {
+            self.group.has_changed.notify_all();
+        }
     }
 }
 

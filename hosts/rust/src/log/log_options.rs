@@ -1,11 +1,10 @@
 //! `LogOptions`: how a log in a database is opened or made; `LogFound`: what was there.
 
 use crate::guardian::Guardian;
-use crate::log::log_making::{copy_log, make_log, resolved};
-use crate::log::log_opening::{lock, read_log};
+use crate::log::error::{LogFault, LoggedError, fault};
+use crate::log::log_reading::{lock, read_log};
 use crate::log::logged::Logged;
-use crate::log::open_error::{LogFault, OpenError};
-use crate::log::sqlite_log::SqliteLog;
+use crate::log::sqlite_log::{SqliteLog, copy_log, make_log, resolved};
 use crate::shared::Shared;
 use std::path::{Path, PathBuf};
 use std::sync::Mutex;
@@ -14,16 +13,16 @@ use std::time::Duration;
 /// How a log in a database is opened or made.
 ///
 /// ```
-/// use argus_guardian::log::{LogOptions, OpenError};
+/// use argus_guardian::log::LogOptions;
 /// # let path = std::env::temp_dir().join(format!("argus-options-{}", std::process::id()));
 /// let options = LogOptions { checkpoint_after: None, ..LogOptions::default() };
 /// let bank = options.open_or_create(&path)?;
-/// bank.declare_named("account", "atomic_record[balance:int]").expect("declared");
+/// bank.declare_named("account", "atomic_record[balance:int]")?;
 /// drop(bank);
 /// assert_eq!(options.open(&path)?.found().entries, 1);
 /// # std::fs::remove_file(&path).expect("removed");
 /// # std::fs::remove_file(path.with_file_name(format!("argus-options-{}-owner", std::process::id()))).expect("removed");
-/// # Ok::<(), OpenError>(())
+/// # Ok::<(), argus_guardian::log::LoggedError>(())
 /// ```
 #[derive(Debug, Clone, PartialEq, Eq)]
 pub struct LogOptions {
@@ -76,8 +75,9 @@ impl LogOptions {
     ///
     /// # Errors
     ///
-    /// Any [`OpenError`]. At [`OpenError::Database`] nothing in the log has changed.
-    pub fn open(&self, path: impl AsRef<Path>) -> Result<Logged, OpenError> {
+    /// [`LoggedError::Database`]: nothing in the log has changed. [`LoggedError::InDoubt`]: the log was read, but the
+    /// first append failed. [`LoggedError::Guardian`]: out of memory.
+    pub fn open(&self, path: impl AsRef<Path>) -> Result<Logged, LoggedError> {
         let path = resolved(path.as_ref())?;
         let (log, read) = SqliteLog::open(&path, self)?;
         let resumed = Logged::resumed(read.guardian, Box::new(log), self.patience)?;
@@ -95,26 +95,26 @@ impl LogOptions {
     }
 
     /// Makes a log, and opens it; [`LogFault::Exists`] if a file is there.
-    pub fn create(&self, path: impl AsRef<Path>) -> Result<Logged, OpenError> {
+    pub fn create(&self, path: impl AsRef<Path>) -> Result<Logged, LoggedError> {
         self.open(make_log(path.as_ref())?)
     }
 
     /// Opens the log that is there; if there is none, makes one. Where there has to be one, [`open`](Self::open) is
     /// safer: a disk that isn't mounted looks like a log that isn't there.
-    pub fn open_or_create(&self, path: impl AsRef<Path>) -> Result<Logged, OpenError> {
+    pub fn open_or_create(&self, path: impl AsRef<Path>) -> Result<Logged, LoggedError> {
         match self.open(&path) {
-            Err(OpenError::Database(LogFault::NoLog, _)) => {}
+            Err(LoggedError::Database(LogFault::NoLog, _)) => {}
             opened => return opened,
         }
         match make_log(path.as_ref()) {
             // Another process was quicker.
-            Ok(_) | Err(OpenError::Database(LogFault::Exists, _)) => self.open(path),
+            Ok(_) | Err(LoggedError::Database(LogFault::Exists, _)) => self.open(path),
             Err(error) => Err(error),
         }
     }
 
     /// Reads a log that no process has, such as a backup, as [`open`](Self::open) does, and changes nothing.
-    pub fn check(&self, path: impl AsRef<Path>) -> Result<LogFound, OpenError> {
+    pub fn check(&self, path: impl AsRef<Path>) -> Result<LogFound, LoggedError> {
         let path = resolved(path.as_ref())?;
         let _owner = lock(&path)?;
         Ok(read_log(&path, self)?.found)
@@ -124,17 +124,17 @@ impl LogOptions {
 #[allow(clippy::missing_errors_doc, reason = "as those of LogOptions fail")]
 impl Logged {
     /// Opens the log that is there, with default options: [`LogOptions::open`]. It never makes one.
-    pub fn open(path: impl AsRef<Path>) -> Result<Logged, OpenError> {
+    pub fn open(path: impl AsRef<Path>) -> Result<Logged, LoggedError> {
         LogOptions::default().open(path)
     }
 
     /// Makes a log, and opens it: [`LogOptions::create`].
-    pub fn create(path: impl AsRef<Path>) -> Result<Logged, OpenError> {
+    pub fn create(path: impl AsRef<Path>) -> Result<Logged, LoggedError> {
         LogOptions::default().create(path)
     }
 
     /// Opens the log that is there; if there is none, makes one: [`LogOptions::open_or_create`].
-    pub fn open_or_create(path: impl AsRef<Path>) -> Result<Logged, OpenError> {
+    pub fn open_or_create(path: impl AsRef<Path>) -> Result<Logged, LoggedError> {
         LogOptions::default().open_or_create(path)
     }
 
@@ -145,14 +145,10 @@ impl Logged {
     }
 
     /// Makes a copy of the log as it is at one moment, whole and compared, while others go on. It is a log, too.
-    ///
-    /// # Errors
-    ///
-    /// [`OpenError::Database`]: [`LogFault::Exists`] if a file is there; [`LogFault::NoLog`] if the log isn't in a
-    /// database.
-    pub fn backup(&self, path: impl AsRef<Path>) -> Result<(), OpenError> {
+    /// [`LogFault::Exists`] if a file is there; [`LogFault::NoLog`] if this log isn't in a database.
+    pub fn backup(&self, path: impl AsRef<Path>) -> Result<(), LoggedError> {
         if self.found.path.as_os_str().is_empty() {
-            return Err(LogFault::NoLog.because("the log isn't in a database"));
+            return Err(fault!(NoLog, "the log isn't in a database"));
         }
         copy_log(&self.found.path, &resolved(path.as_ref())?)
     }

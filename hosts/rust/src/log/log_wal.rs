@@ -5,9 +5,7 @@
 //! frames are written, so they can be distinguished: behind the end of a torn commit there are no frames of this WAL.
 //! The format is SQLite's (sqlite.org/fileformat2.html, "The WAL File Format").
 
-use crate::log::open_error::{LogFault, OpenError};
-use std::fs::File;
-use std::io::{self, BufReader, Read};
+use crate::log::error::{LoggedError, fault};
 use std::path::Path;
 
 /// A WAL that is shorter has nothing in it.
@@ -17,80 +15,60 @@ const MAGIC: u32 = 0x377f_0682;
 const VERSION: u32 = 3_007_000;
 
 /// Whether a frame that was on disk has changed. The header of a WAL that is new may be torn: then nothing is in it.
-pub(crate) fn check_wal(path: &Path, may_be_new: bool) -> Result<(), OpenError> {
-    let found = File::open(path).and_then(|file| damaged_frame(&mut BufReader::new(file)));
-    let what = match found.map_err(|error| LogFault::Unreadable.because(error.to_string()))? {
+pub(crate) fn check_wal(path: &Path, may_be_new: bool) -> Result<(), LoggedError> {
+    let content = std::fs::read(path).map_err(|error| fault!(Unreadable, "{error}"))?;
+    let what = match damaged_frame(&content) {
         None => return Ok(()),
         Some(0) if may_be_new => return Ok(()),
         Some(0) => "the header".to_owned(),
         Some(number) => format!("frame {number}"),
     };
     let path = path.display();
-    let words = format!("{path}: {what} has changed, and later work was written behind it");
-    Err(LogFault::WalDamaged.because(words))
+    Err(fault!(
+        WalDamaged,
+        "{path}: {what} has changed, and later work was written behind it"
+    ))
 }
 
 // The number of the first damaged frame, from 1 on; 0 for the header.
-fn damaged_frame(wal: &mut impl Read) -> io::Result<Option<u64>> {
-    let mut header = [0; HEADER];
-    wal.read_exact(&mut header)?;
-    let (magic, size) = (word(&header, 0), word(&header, 8) as usize);
-    let is_big = magic & 1 == 1;
+fn damaged_frame(wal: &[u8]) -> Option<u64> {
+    let (header, frames) = wal.split_at_checked(HEADER)?;
+    let is_big = word(header, 0) & 1 == 1;
     let mut sums = summed(is_big, &header[..24], (0, 0));
-    if magic & !1 != MAGIC
-        || word(&header, 4) != VERSION
-        || sums != (word(&header, 24), word(&header, 28))
-    {
-        return Ok(Some(0));
+    let is_known = word(header, 0) & !1 == MAGIC && word(header, 4) == VERSION;
+    if !is_known || sums != (word(header, 24), word(header, 28)) {
+        return Some(0);
     }
-    let (mut frame, mut number, mut damaged, mut is_ended) =
-        (vec![0; FRAME + size], 0, None, false);
-    while has_next(wal, &mut frame)? {
-        number += 1;
+    let (mut damaged, mut is_ended) = (None, false);
+    for (number, frame) in (1..).zip(frames.chunks_exact(FRAME + word(header, 8) as usize)) {
         let is_own = frame[8..16] == header[16..24];
         if damaged.is_none() {
             sums = summed(is_big, &frame[FRAME..], summed(is_big, &frame[..8], sums));
-            if !is_own || sums != (word(&frame, 16), word(&frame, 20)) {
-                damaged = Some(number);
-            }
+            let is_sound = is_own && sums == (word(frame, 16), word(frame, 20));
+            damaged = (!is_sound).then_some(number);
         }
         if damaged.is_some() && is_own {
             if is_ended {
-                return Ok(damaged);
+                return damaged;
             }
             // Of a commit that was torn, the frame with which it ends may be there.
-            is_ended = word(&frame, 4) != 0;
+            is_ended = word(frame, 4) != 0;
         }
     }
-    Ok(None)
-}
-
-// Reads the next frame; false if no whole one comes.
-fn has_next(wal: &mut impl Read, frame: &mut [u8]) -> io::Result<bool> {
-    match wal.read_exact(frame) {
-        Err(error) if error.kind() == io::ErrorKind::UnexpectedEof => Ok(false),
-        read => read.map(|()| true),
-    }
+    None
 }
 
 fn word(bytes: &[u8], at: usize) -> u32 {
-    bytes[at..at + 4]
-        .iter()
-        .fold(0, |word, byte| word << 8 | u32::from(*byte))
+    let bytes = bytes[at..at + 4].iter();
+    bytes.fold(0, |word, byte| word << 8 | u32::from(*byte))
 }
 
 fn summed(is_big: bool, data: &[u8], sums: (u32, u32)) -> (u32, u32) {
-    let number = |at: usize| {
-        let number = word(data, at);
-        if is_big { number } else { number.swap_bytes() }
-    };
-    (0..data.len())
-        .step_by(8)
-        .fold(sums, |(first, second), at| {
-            let first = first.wrapping_add(number(at)).wrapping_add(second);
-            (
-                first,
-                second.wrapping_add(number(at + 4)).wrapping_add(first),
-            )
-        })
+    let pairs = data.chunks_exact(8).map(|it| (word(it, 0), word(it, 4)));
+    pairs.fold(sums, |(first, second), (one, other)| {
+        let swapped = (one.swap_bytes(), other.swap_bytes());
+        let (one, other) = if is_big { (one, other) } else { swapped };
+        let first = first.wrapping_add(one).wrapping_add(second);
+        (first, second.wrapping_add(other).wrapping_add(first))
+    })
 }

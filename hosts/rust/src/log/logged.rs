@@ -3,12 +3,9 @@
 use crate::error::{CheckpointError, Error};
 use crate::guardian::Guardian;
 use crate::log::batch_log::{BatchLog, EntryLines, ObjectName, Opening};
-use crate::log::failure::Failure;
-use crate::log::group::{Group, LogCounts};
-use crate::log::journal_queue::Goal;
+use crate::log::error::{Failure, LoggedError};
+use crate::log::group::{Goal, Group, LogCounts};
 use crate::log::logged_action::LoggedAction;
-use crate::log::logged_error::LoggedError;
-use crate::log::open_error::OpenError;
 use crate::object::{AsObject, Object};
 use crate::questions::Listing;
 use crate::shared::Shared;
@@ -75,7 +72,7 @@ pub struct Logged {
     again_at: AtomicU64,
     // The database, and what was found there.
     #[cfg(feature = "sqlite")]
-    pub(crate) found: crate::log::log_options::LogFound,
+    pub(crate) found: crate::log::LogFound,
 }
 
 // A log that forgets.
@@ -94,11 +91,6 @@ impl BatchLog for Forgetting {
 #[allow(clippy::missing_errors_doc, reason = "the type says how each fails")]
 impl Logged {
     /// A new guardian whose log forgets: for tests of a program.
-    ///
-    /// ```
-    /// argus_guardian::log::Logged::in_memory()?.topaction()?.commit()?;
-    /// # Ok::<(), argus_guardian::log::LoggedError>(())
-    /// ```
     pub fn in_memory() -> Result<Logged, Error> {
         let (guardian, log) = (Guardian::new()?, Box::new(Forgetting));
         Ok(Logged::over(guardian, log, Shared::PATIENCE))
@@ -114,39 +106,39 @@ impl Logged {
             begins: AtomicU64::new(guardian.first_entry()),
             again_at: AtomicU64::new(0),
             #[cfg(feature = "sqlite")]
-            found: crate::log::log_options::LogFound::default(),
+            found: crate::log::LogFound::default(),
             shared: Shared::new(guardian, patience).fold_after(None),
         }
     }
 
     /// Takes a guardian that a [`Recovery`](crate::log::Recovery) has restored from this log's lines: aborts what is
     /// live, and returns when the log has that, with the number of entries that it took. Check first that the
-    /// guardian's next entry is the log's. It fails with [`OpenError::Guardian`] or [`OpenError::Broken`].
+    /// guardian's next entry is the log's.
     pub fn resumed(
         guardian: Guardian,
         log: Box<dyn BatchLog>,
         patience: Duration,
-    ) -> Result<(Logged, u64), OpenError> {
+    ) -> Result<(Logged, u64), LoggedError> {
         let logged = Logged::over(guardian, log, patience);
         let next = logged.entries();
-        logged.shared.lend(Guardian::abort_live)?;
+        logged.acknowledged(Guardian::abort_live)?;
         let entries = logged.entries();
-        logged.group.wait(&logged.shared, Goal::entry(entries))?;
         Ok((logged, entries - next))
     }
 
     // The guardian, unless the log is broken.
     pub(crate) fn shared(&self) -> Result<&Shared, LoggedError> {
-        match self.group.broken() {
-            None => Ok(&self.shared),
-            Some(failure) => Err(LoggedError::Broken(failure)),
-        }
+        let broken = self.group.broken().map(LoggedError::Broken);
+        broken.map_or(Ok(&self.shared), Err)
     }
 
     /// Begins a topaction. It aborts when it is dropped, unless it has committed.
     pub fn topaction(&self) -> Result<LoggedAction<'_>, LoggedError> {
-        let action = self.shared()?.topaction()?;
-        Ok(LoggedAction::outer(self, action))
+        Ok(LoggedAction {
+            action: self.shared()?.topaction()?,
+            logged: self,
+            is_outer: true,
+        })
     }
 
     /// Carries out the work as a topaction, as [`Shared::run`] does: it may run more than once, and is
@@ -159,10 +151,6 @@ impl Logged {
     }
 
     /// The same, where this function says which errors are conflicts: [`Shared::run_if`].
-    ///
-    /// # Errors
-    ///
-    /// As for [`run`](Self::run).
     pub fn run_if<T, E: From<LoggedError>>(
         &self,
         is_conflict: impl Fn(&E) -> bool,
@@ -197,39 +185,34 @@ impl Logged {
     ///
     /// It may also fail with [`LoggedError::OtherShape`], and [`LoggedError::NoNames`] if the log isn't in a database.
     pub fn declare_named(&self, name: &str, shape: &str) -> Result<ObjId, LoggedError> {
-        let shared = self.shared()?;
+        Ok(self.named(name, shape)?.id())
+    }
+
+    /// The same, with the object's handle: its name, and the names of its fields or tags.
+    pub fn named(&self, name: &str, shape: impl AsRef<str>) -> Result<Object, LoggedError> {
+        let (shared, shape) = (self.shared()?, shape.as_ref());
         let names = self.names.as_ref().ok_or(LoggedError::NoNames)?;
         let mut names = names.lock().unwrap_or_else(PoisonError::into_inner);
-        if let Some(number) = names.get(name) {
-            let id = ObjId::numbered(*number);
-            let found = shared.lend(|it| Ok::<_, Error>((it.object(id)?.id(), it.shape(id)?)));
-            return match found? {
-                (id, has) if has == shape => Ok(id),
-                (_, has) => Err(LoggedError::OtherShape(has)),
-            };
-        }
-        let id = self.acknowledged(|guardian| {
+        let found = names.get(name).copied();
+        let declare = |guardian: &Guardian| {
             let id = guardian.declare(shape)?;
-            let name = ObjectName {
+            let entry = ObjectName {
                 number: id.number(),
                 name: name.to_owned(),
                 shape: shape.to_owned(),
             };
-            self.group.queue().name(guardian.entries(), name);
+            self.group.queue().name(guardian.entries(), entry);
             Ok(id)
-        })?;
+        };
+        let id = match found.map(ObjId::numbered) {
+            Some(id) => id,
+            None => self.acknowledged(declare)?,
+        };
         names.insert(name.to_owned(), id.number());
-        Ok(id)
-    }
-
-    /// The same, with the object's handle: its name, and the names of its fields or tags.
-    ///
-    /// # Errors
-    ///
-    /// As for [`declare_named`](Self::declare_named).
-    pub fn named(&self, name: &str, shape: impl AsRef<str>) -> Result<Object, LoggedError> {
-        let id = self.declare_named(name, shape.as_ref())?;
-        let object = self.shared()?.lend(|guardian| guardian.object(id))?;
+        let object = shared.lend(|guardian| guardian.object(id))?;
+        if found.is_some() && object.shape() != shape {
+            return Err(LoggedError::OtherShape(object.shape().to_owned()));
+        }
         Ok(object.called(name))
     }
 
@@ -272,7 +255,7 @@ impl Logged {
     /// How many actions can begin until a checkpoint renews their numbers.
     #[must_use]
     pub fn actions_left(&self) -> u32 {
-        self.shared.lend(Guardian::actions_left)
+        self.shared.actions_left()
     }
 
     // What the guardian returns, when all of it is in the log.
@@ -296,8 +279,7 @@ impl Logged {
     /// Returns when all earlier calls are in the log. Call it before you pass on what an action has read, if that
     /// action doesn't commit first.
     pub fn barrier(&self) -> Result<(), LoggedError> {
-        self.shared()?;
-        self.wait(Goal::entry(self.entries()))
+        self.acknowledged(|_| Ok(()))
     }
 
     /// Folds the journal when no action is live, and starts the log again with what the objects hold: its old entries
@@ -330,13 +312,6 @@ impl Logged {
     }
 
     /// What the log has done since it was opened.
-    ///
-    /// ```
-    /// # let logged = argus_guardian::log::Logged::in_memory()?;
-    /// logged.topaction()?.commit()?;
-    /// assert_eq!((logged.counts().batches, logged.counts().entries), (1, 2));
-    /// # Ok::<(), argus_guardian::log::LoggedError>(())
-    /// ```
     #[must_use]
     pub fn counts(&self) -> LogCounts {
         self.group.counts()

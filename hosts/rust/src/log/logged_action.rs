@@ -3,8 +3,8 @@
 use crate::access::Caller;
 use crate::call::Call;
 use crate::ids::ActionId;
+use crate::log::error::LoggedError;
 use crate::log::logged::Logged;
-use crate::log::logged_error::LoggedError;
 use crate::object::{AsObject, Object};
 use crate::reply::Answer;
 use crate::shared::action::SharedAction;
@@ -33,25 +33,28 @@ use crate::shared::action::SharedAction;
 #[derive(Debug)]
 #[must_use = "an action that is dropped aborts"]
 pub struct LoggedAction<'l> {
-    logged: &'l Logged,
-    action: SharedAction<'l>,
+    pub(crate) logged: &'l Logged,
+    pub(crate) action: SharedAction<'l>,
     // Whether it is a topaction or a nested one, whose commit counts by itself.
-    is_outer: bool,
+    pub(crate) is_outer: bool,
 }
 
 #[allow(clippy::missing_errors_doc, reason = "the type says how each fails")]
 impl<'l> LoggedAction<'l> {
-    pub(crate) fn outer(logged: &'l Logged, action: SharedAction<'l>) -> LoggedAction<'l> {
-        LoggedAction {
-            logged,
-            action,
-            is_outer: true,
-        }
-    }
-
     // The action, unless the log is broken.
     fn action(&self) -> Result<&SharedAction<'l>, LoggedError> {
         self.logged.shared().map(|_| &self.action)
+    }
+
+    fn begun<'a>(&self, action: SharedAction<'a>, is_outer: bool) -> LoggedAction<'a>
+    where
+        'l: 'a,
+    {
+        LoggedAction {
+            logged: self.logged,
+            action,
+            is_outer,
+        }
     }
 
     /// Its number.
@@ -62,17 +65,12 @@ impl<'l> LoggedAction<'l> {
 
     /// Begins a subaction: what it leaves counts only if its ancestors commit.
     pub fn subaction(&self) -> Result<LoggedAction<'_>, LoggedError> {
-        Ok(LoggedAction {
-            logged: self.logged,
-            action: self.action()?.subaction()?,
-            is_outer: false,
-        })
+        Ok(self.begun(self.action()?.subaction()?, false))
     }
 
     /// Begins a nested topaction: what it leaves stays, and is acknowledged, even if this action aborts.
     pub fn nested(&self) -> Result<LoggedAction<'_>, LoggedError> {
-        let action = self.action()?.nested()?;
-        Ok(LoggedAction::outer(self.logged, action))
+        Ok(self.begun(self.action()?.nested()?, true))
     }
 
     /// Aborts all live siblings: the first that is done ends the others.

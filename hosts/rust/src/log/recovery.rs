@@ -35,40 +35,28 @@ pub enum LineError {
 #[derive(Debug)]
 pub struct Recovery(Resumption);
 
+#[allow(
+    clippy::missing_errors_doc,
+    reason = "they fail as those of Resumption"
+)]
 impl Recovery {
-    /// A new one, which has taken no line.
-    ///
-    /// # Errors
-    ///
-    /// As for [`Resumption::new`].
+    /// A new one, which has taken no line: [`Resumption::new`].
     pub fn new() -> Result<Recovery, Error> {
         Resumption::new().map(Recovery)
     }
 
     /// A new one, for the log of this guardian from an opening on: [`Resumption::after`].
-    ///
-    /// # Errors
-    ///
-    /// As there.
     pub fn after(guardian: &Guardian) -> Result<Recovery, Error> {
         Resumption::after(guardian).map(Recovery)
     }
 
     /// The same, in place of one of which no guardian came.
-    ///
-    /// # Errors
-    ///
-    /// As for [`after`](Self::after).
     pub fn anew(&self) -> Result<Recovery, Error> {
         self.0.anew().map(Recovery)
     }
 
-    /// Takes the next whole lines, of an opening or of entries, as a log has them.
-    ///
-    /// # Errors
-    ///
-    /// [`LineError::Fault`]: the lines before that one were taken, and no more can be.
-    /// [`LineError::OutOfMemory`].
+    /// Takes the next whole lines, of an opening or of entries, as a log has them. At a fault the lines before that
+    /// one were taken, and no more can be.
     pub fn take(&mut self, lines: &str) -> Result<(), LineError> {
         let taken = self.0.take(lines);
         let why = match taken.end {
@@ -78,24 +66,17 @@ impl Recovery {
             TakenEnd::OutOfMemory => return Err(LineError::OutOfMemory),
         };
         let text = lines[taken.bytes..].lines().next().unwrap_or("");
-        Err(LineError::Fault {
-            line: taken.lines as u64,
-            why: format!("`{text}`: {why}"),
-        })
+        let (line, why) = (taken.lines as u64, format!("`{text}`: {why}"));
+        Err(LineError::Fault { line, why })
     }
 
-    /// The guardian of all lines that were taken. Actions that were live in it are live.
-    ///
-    /// # Errors
-    ///
-    /// [`LineError::Fault`] if an opening isn't complete; [`LineError::OutOfMemory`].
+    /// The guardian of all lines that were taken. Actions that were live in it are live. It is a fault if an opening
+    /// isn't complete.
     pub fn into_guardian(self) -> Result<Guardian, LineError> {
         let opened = self.0.into_guardian().map_err(|_| LineError::OutOfMemory)?;
         if opened.dropped > 0 {
-            return Err(LineError::Fault {
-                line: 0,
-                why: LineFault::NotSound.to_string(),
-            });
+            let (line, why) = (0, LineFault::NotSound.to_string());
+            return Err(LineError::Fault { line, why });
         }
         Ok(opened.guardian)
     }
@@ -109,9 +90,6 @@ fn words_of(fault: &LineFault) -> String {
         LineFault::NotNext { next } => format!("entry {next} comes next"),
         LineFault::NotTheReply { reply: Some(reply) } => {
             format!("the journal before it gives the reply `{reply}`")
-        }
-        LineFault::NotTheReply { reply: None } => {
-            "the journal before it gives another reply".to_owned()
         }
         other => other.to_string(),
     }

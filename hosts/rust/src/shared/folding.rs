@@ -244,10 +244,11 @@ impl Shared {
             return result;
         }
         state.folding += 1;
-        (state, _) = Shared::wait_while(state, WaitGoal::NoLiveAction, patience, |state| {
+        let mut fold_again = |state: &mut SharedState| {
             result = fold(&state.guardian);
             is_busy(&result)
-        });
+        };
+        (state, _) = self.wait_while(state, WaitGoal::NoLiveAction, patience, &mut fold_again);
         state.folding -= 1;
         if result.is_ok() {
             state.growth.reset();

@@ -5,6 +5,7 @@ use crate::error::Error;
 use crate::guardian::Guardian;
 use crate::ids::ActionId;
 use crate::reply::{Answer, Reply};
+use crate::request::Request;
 use crate::shared::Shared;
 use crate::shared::circles::{Deadlock, Stuck, circle_with};
 use crate::shared::folding::Growth;
@@ -41,12 +42,21 @@ impl SharedState {
         }
     }
 
+    /// Makes one call without a text.
+    pub(crate) fn call(&mut self, call: &Call) -> Result<Reply, Error> {
+        self.make(&mut Request::of(call))
+    }
+
     /// Makes one call. If it ended actions, those who wait and may go on are woken. If it got a lock for an action that
     /// also waits, in another thread, circles are looked for.
-    pub(crate) fn call(&mut self, call: &Call) -> Result<Reply, Error> {
-        let reply = self.guardian.call(call)?;
+    pub(crate) fn make(&mut self, request: &mut Request<'_>) -> Result<Reply, Error> {
+        debug_assert!(
+            !request.is_unread(),
+            "a long text is read before the mutex is had"
+        );
+        let reply = self.guardian.make(request)?;
         self.growth.entries += 1;
-        match call {
+        match request.call {
             Call::Commit(_) | Call::Abort(_) | Call::AbortOthers(_) => {
                 if reply == Reply::Answered(Answer::Done) {
                     self.wake();

@@ -1,11 +1,18 @@
 //! Threads that wait for something of a shared guardian, and the accesses for which they do.
 
 use crate::call::Call;
+use crate::error::Error;
 use crate::guardian::Guardian;
 use crate::ids::{ActionId, ObjId};
 use crate::questions::Status;
+use crate::reply::{Refusal, Reply};
+use crate::request::Request;
 use crate::shared::circles::{Deadlock, Stuck};
+use crate::shared::state::SharedState;
 use std::sync::{Arc, Condvar};
+
+/// The reply to an access whose lock isn't free.
+pub(crate) const CONFLICT: Reply = Reply::Refused(Refusal::Conflict);
 
 /// A thread that waits for something of a shared guardian.
 #[derive(Debug)]
@@ -59,6 +66,52 @@ pub(crate) enum WaitGoal {
     NoLiveAction,
     /// That no thread waits to fold the journal.
     NoFolding,
+}
+
+/// What a thread that waits tries when it is woken.
+pub(crate) trait Attempt {
+    /// Tries it, with the mutex. Whether the thread waits on.
+    fn fails(&mut self, state: &mut SharedState) -> bool;
+
+    /// Whether it can be tried.
+    fn is_ready(&self) -> bool {
+        true
+    }
+
+    /// Does what comes before it, while others may have the mutex. Whether it can be tried now.
+    fn get_ready(&mut self) -> bool {
+        true
+    }
+}
+
+impl<T: FnMut(&mut SharedState) -> bool> Attempt for T {
+    fn fails(&mut self, state: &mut SharedState) -> bool {
+        self(state)
+    }
+}
+
+/// An access that is made again, and its last reply.
+pub(crate) struct AccessAgain<'r, 'c> {
+    pub(crate) request: &'r mut Request<'c>,
+    pub(crate) reply: Result<Reply, Error>,
+}
+
+impl Attempt for AccessAgain<'_, '_> {
+    fn fails(&mut self, state: &mut SharedState) -> bool {
+        self.reply = state.make(self.request);
+        self.reply == Ok(CONFLICT)
+    }
+
+    fn is_ready(&self) -> bool {
+        !self.request.is_unread()
+    }
+
+    fn get_ready(&mut self) -> bool {
+        if let Err(error) = self.request.read_again() {
+            self.reply = Err(error);
+        }
+        self.reply.is_ok()
+    }
 }
 
 /// An access that waits for its lock.

@@ -75,9 +75,19 @@ pub struct ListedCall {
     pub text_size: usize,
 }
 
-// `hosts/declarations.py` compares these with the archive's source.
+// `hosts/declarations.py` compares those that begin with `argus_c_` with the archive's source.
 unsafe extern "C" {
     pub fn argus_open(handle: *mut Handle) -> Answer;
+    pub fn argus_parse(
+        parsed: *mut Parsed,
+        kind: u32,
+        action: u32,
+        object: u32,
+        first: i64,
+        second: i64,
+        text: *const c_void,
+        text_size: usize,
+    ) -> Answer;
     pub fn argus_c_open(handle: *mut Handle, beside: *mut Handle) -> u32;
     pub fn argus_c_close(handle: *mut Handle) -> u32;
     pub fn argus_c_call(

@@ -12,7 +12,7 @@ use crate::ledger::Ledger;
 use crate::opened_bank::{OPTIONS, open_bank};
 use crate::scratch::Scratch;
 use crate::trace::{Event, SOURCE, trace_of};
-use argus_guardian::log::{LogOptions, Logged, LoggedError, OpenError};
+use argus_guardian::log::{LogOptions, Logged, LoggedError};
 use std::collections::{BTreeMap, HashSet};
 use std::hash::{DefaultHasher, Hash, Hasher};
 use std::path::PathBuf;
@@ -144,7 +144,7 @@ impl Trial {
                 ledger.clone().check(&bank).expect("told");
                 self.counts.opened += 1;
             }
-            Err(OpenError::Database(fault, words)) => {
+            Err(LoggedError::Database(fault, words)) => {
                 assert_eq!(ledger.acknowledged, 0, "{fault:?}: {words}");
                 *self.counts.named.entry(format!("{fault:?}")).or_default() += 1;
             }

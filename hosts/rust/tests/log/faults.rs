@@ -3,7 +3,9 @@
 use crate::bank::{CLIENTS, carry_out, last_of, number};
 use crate::opened_bank::open_bank;
 use crate::scratch::Scratch;
-use argus_guardian::log::{BatchLog, LogFault, LogOptions, Logged, OpenError, Opening, SqliteLog};
+use argus_guardian::log::{
+    BatchLog, LogFault, LogOptions, Logged, LoggedError, Opening, SqliteLog,
+};
 use rusqlite::Connection;
 use std::collections::BTreeMap;
 use std::fs;
@@ -98,7 +100,7 @@ impl Made {
             options.check(&self.path).err(),
         ] {
             let error = opened.expect("it is refused");
-            let OpenError::Database(found, said) = &error else {
+            let LoggedError::Database(found, said) = &error else {
                 panic!("{error}");
             };
             assert_eq!(*found, fault, "{error}");
@@ -130,7 +132,7 @@ fn no_log() {
     fs::create_dir(&made.path).expect("made");
     let error = Logged::open(&made.path).expect_err("a folder");
     assert!(
-        matches!(error, OpenError::Database(LogFault::NotALog, _)),
+        matches!(error, LoggedError::Database(LogFault::NotALog, _)),
         "{error}"
     );
 }
@@ -162,7 +164,7 @@ fn one_that_is_there_isnt_made_again() {
     let made = Made::bank();
     let error = Logged::create(&made.path).expect_err("it is there");
     assert!(
-        matches!(error, OpenError::Database(LogFault::Exists, _)),
+        matches!(error, LoggedError::Database(LogFault::Exists, _)),
         "{error}"
     );
     made.has(ORDERS - 1);
@@ -452,7 +454,7 @@ fn any_byte_is_another_one() {
         // Pages have bytes that count for nothing: then nothing is missing.
         match Logged::open(&made.path) {
             Ok(bank) => assert_eq!(number(&bank, last_of(0)).expect("told"), ORDERS - 1),
-            Err(OpenError::Database(fault, _)) if fault != LogFault::Unreadable => refused += 1,
+            Err(LoggedError::Database(fault, _)) if fault != LogFault::Unreadable => refused += 1,
             Err(error) => panic!("{error}"),
         }
     }

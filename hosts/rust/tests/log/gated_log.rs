@@ -67,11 +67,11 @@ impl GatedLog {
 
 impl BatchLog for GatedLog {
     fn append(&mut self, lines: &EntryLines) -> Result<(), Failure> {
-        self.keep(Piece::Lines(lines.text().to_owned()))
+        self.keep(Piece::Lines(lines.text.clone()))
     }
 
     fn restart(&mut self, opening: &Opening) -> Result<(), Failure> {
-        self.keep(Piece::Opening(opening.text().to_owned()))
+        self.keep(Piece::Opening(opening.text.clone()))
     }
 }
 

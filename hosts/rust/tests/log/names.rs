@@ -1,7 +1,7 @@
 //! Objects that a log knows by their names.
 
 use crate::faults::Made;
-use argus_guardian::log::{LogFault, Logged, LoggedAction, LoggedError, OpenError};
+use argus_guardian::log::{LogFault, Logged, LoggedAction, LoggedError};
 use argus_guardian::{Access, Error, ObjId, Refusal};
 use std::thread;
 use std::time::Duration;
@@ -132,7 +132,7 @@ fn a_log_that_isnt_in_a_database_keeps_none() {
     let made = Made::empty();
     let error = logged.backup(&made.path).expect_err("no database");
     assert!(
-        matches!(error, OpenError::Database(LogFault::NoLog, _)),
+        matches!(error, LoggedError::Database(LogFault::NoLog, _)),
         "{error}"
     );
     assert!(!made.path.exists());

@@ -5,7 +5,7 @@ use crate::faults::{Made, with};
 use crate::opened_bank::{OPTIONS, open_bank};
 use crate::scratch::Scratch;
 use argus_guardian::log::{
-    BatchLog, EntryLines, LogFault, LogOptions, Logged, LoggedError, OpenError, Opening, SqliteLog,
+    BatchLog, EntryLines, LogFault, LogOptions, Logged, LoggedError, Opening, SqliteLog,
 };
 use argus_guardian::{Access, ActionId, Change, Guardian, Listing, ObjId};
 use rusqlite::Connection;
@@ -279,7 +279,7 @@ fn backups_beside_orders() {
         .backup(with(&made.path, ".0"))
         .expect_err("it is there");
     assert!(
-        matches!(error, OpenError::Database(LogFault::Exists, _)),
+        matches!(error, LoggedError::Database(LogFault::Exists, _)),
         "{error}"
     );
     for copy in 0..4 {

@@ -4,7 +4,7 @@ use crate::bank::{carry_out, last_of, number};
 use crate::child::Child;
 use crate::faults::{Made, with};
 use crate::opened_bank::{OPTIONS, open_bank};
-use argus_guardian::log::{LogFault, LogOptions, Logged, LoggedError, OpenError};
+use argus_guardian::log::{LogFault, LogOptions, Logged, LoggedError};
 use rusqlite::Connection;
 use std::os::unix::process::CommandExt;
 use std::process::Command;
@@ -14,7 +14,7 @@ use std::{fs, thread};
 
 fn is_locked(made: &Made) -> bool {
     let opened = Logged::open(&made.path);
-    matches!(opened, Err(OpenError::Database(LogFault::Locked, _)))
+    matches!(opened, Err(LoggedError::Database(LogFault::Locked, _)))
 }
 
 #[test]
@@ -143,7 +143,7 @@ fn of_threads_that_make_it_at_once_one_has_it() {
     for it in opened {
         match it {
             Ok(logged) => names.push(logged.found().name.clone()),
-            Err(OpenError::Database(LogFault::Locked, _)) => {}
+            Err(LoggedError::Database(LogFault::Locked, _)) => {}
             Err(error) => panic!("{error}"),
         }
     }

@@ -3,7 +3,7 @@
 use crate::bank::carry_out;
 use crate::child::Child;
 use crate::faults::{Made, ORDERS, with};
-use argus_guardian::log::{LogFault, Logged, OpenError};
+use argus_guardian::log::{LogFault, Logged, LoggedError};
 use std::fs::{self, Permissions};
 use std::os::unix::fs::PermissionsExt;
 
@@ -20,7 +20,7 @@ fn child_may_not_write() {
     unsafe { seteuid(NOBODY) };
     let error = Logged::open(Child::folder()).expect_err("it may not be written");
     assert!(
-        matches!(error, OpenError::Database(LogFault::Unreadable, _)),
+        matches!(error, LoggedError::Database(LogFault::Unreadable, _)),
         "{error}"
     );
 }

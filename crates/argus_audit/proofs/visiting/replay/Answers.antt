@@ -13,7 +13,7 @@ first-place-requires c =
 pub loop-place-init : goal.loop-place-init
 loop-place-init c =
     let journal = c.args.journal.now in
-    c.in_ok-content.ensures
+    c.in_ok-content.ensures.content
     ∙ sym (skipped_to (opening_of journal) (entries_of journal) c.args.reader c.args.o.0 0 c.first-place.result
     (omega arith) c.first-place.ensures)
 

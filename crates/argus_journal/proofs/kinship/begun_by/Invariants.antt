@@ -1,12 +1,12 @@
--- What is left of the entries decides.
-use Rattle.std.proofs.Common.{length, ◌≡◌}
-use Rattle.argus_journal.specs.Journal.{newest_first}
+-- The entries that are left decide.
+use Rattle.std.proofs.Common.{◌≡◌}
+use Rattle.argus_journal.specs.Journal.{HasEntries, first_entries_of}
 use Rattle.argus_journal.specs.Replaying.{begun_by_entries}
 use Rattle.argus_journal.proofs.kinship.begun_by.Given as goal
 
 abbrev pub invariant-loop-entry : goal.invariant-loop-entry
-invariant-loop-entry l = begun_by_entries (newest_first l.rest) l.a.0 ≡ begun_by_entries
-    (newest_first l.entries) l.a.0
+invariant-loop-entry l = HasEntries l.journal l.left × (begun_by_entries (first_entries_of l.journal l.left) l.a.0 ≡ begun_by_entries
+    (first_entries_of l.journal l.count) l.a.0)
 
 abbrev pub decreases-loop-entry : goal.decreases-loop-entry
-decreases-loop-entry l = length l.rest
+decreases-loop-entry l = l.left

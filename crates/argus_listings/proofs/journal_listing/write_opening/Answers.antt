@@ -2,9 +2,9 @@
 use Rattle.std.proofs.Common.{List, subst, string_bytes, ℕ}
 use Rattle.std.proofs.lemmas.Result.{on_err_weaker, on_ok_weaker}
 use Rattle.argus_journal.specs.Journal.{opening_of}
-use Rattle.argus_listings.proofs.Added.{added_then, cut_then, text_added}
+use Rattle.argus_listings.proofs.Added.{added_then, cut_then, left_starts, left_stops, on_err, text_added}
 use Rattle.argus_listings.proofs.Each.{opening_there}
-use Rattle.argus_listings.specs.Listing.{each_from, folded_line, opened_line}
+use Rattle.argus_listings.specs.Listing.{each_from, folded_line, opened_line, opening_text}
 use Rattle.argus_listings.specs.Flushing.{Added, Cut}
 use Rattle.argus_streams.specs.FailStop.{inner_of}
 use Rattle.argus_listings.proofs.journal_listing.write_opening.Goals as goal
@@ -43,3 +43,10 @@ returns-clause-cut g c =
     c.if-first_entry-eq0.false c.first_entry-2.ensures.first c.first_action.ensures.first)
     (cut_then a t a m d line rest (text_added a t m line c.in_ok-append_folded.ensures) cut))
     c.write_opened.ensures.cut
+
+pub returns-in_err-append_folded-clause-cut : goal.returns-in_err-append_folded-clause-cut
+returns-in_err-append_folded-clause-cut g c =
+    let a = g.W.Write.contents (inner_of c.args.writer.now) in
+    let t = string_bytes c.args.text.now in
+    let whole = opening_text (opening_of c.args.journal.now) in
+    on_err c.from_residual.result (left_stops a t a t whole whole (left_starts a t whole))

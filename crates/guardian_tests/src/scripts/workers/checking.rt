@@ -4,14 +4,14 @@ use crate::scripts::comparing::compare;
 use crate::scripts::row::Row;
 use crate::scripts::workers::plan::Plan;
 use crate::scripts::workers::ran::Ran;
-use crate::scripts::workers::sharing::run;
+use crate::scripts::workers::run::Run;
 use crate::scripts::workers::turns::Turns;
+use crate::setting::Setting;
 use anyhow::{Result, bail, ensure};
-use argus_commands::{NoGate, parse};
+use argus_commands::parse;
 use std::io::Print;
 use std::sync::Wait;
 use std::thread::Threads;
-use test_rows::{Setting, part};
 
 // More allocations than any run here makes.
 const MANY: u64 = 5_000;
@@ -26,7 +26,7 @@ pub(crate) fn check_worked<R: Threads + Wait + Print + Copy + Drop + Send + Sync
     ensure!(!row.teams.is_empty(), "a test that nobody runs");
     for team in row.teams.as_str().lines() {
         let (workers, made) = team.split_once(": ").unwrap_or((team, ""));
-        let Ok(workers) = part(workers) else {
+        let Ok(workers) = workers.parse::<u8>() else {
             bail!("no number of workers: {workers}");
         };
         let plan = Plan {
@@ -35,7 +35,6 @@ pub(crate) fn check_worked<R: Threads + Wait + Print + Copy + Drop + Send + Sync
             before: row.before.as_str(),
             script: &script,
             workers,
-            lookers: row.lookers,
             patience: row.patience,
         };
         check_gated(rt, plan, row, made)?;
@@ -54,7 +53,7 @@ fn check_gated<R: Threads + Wait + Print + Copy + Drop + Send + Sync>(
     made: &str,
 ) -> Result<()> {
     let gate = Turns::new(plan.setting, row.holds.as_slice())?;
-    let ran = run(rt, plan, &gate)?;
+    let ran = Run::made(rt, plan, &gate)?;
     ensure!(!gate.gave_up(), "an arm is held up for ever");
     check_ran(&rt, row, made, &ran)
 }
@@ -67,13 +66,14 @@ fn check_memory<R: Threads + Wait + Print + Copy + Drop + Send + Sync>(
     row: &Row<'_>,
     made: &str,
 ) -> Result<()> {
+    let gate = Turns::new(plan.setting, &[])?;
     for n in 0..MANY {
         let tight = Plan {
             setting: plan.setting.allowing(n),
             is_tight: true,
             ..plan
         };
-        let ran = run(rt, tight, &NoGate)?;
+        let ran = Run::made(rt, tight, &gate)?;
         if ran.is_done {
             check_ran(&rt, row, made, &ran)?;
             if !ran.is_spent {

@@ -1,7 +1,7 @@
 //! `Hold`: what happens when an arm comes to a step.
 
+use crate::row_fault::RowFault;
 use crate::scripts::workers::place::Place;
-use test_rows::RowFault;
 
 /// What happens when an arm comes to a step.
 ///

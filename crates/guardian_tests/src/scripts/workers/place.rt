@@ -1,6 +1,7 @@
 //! `Place`: a step of an arm.
 
-use test_rows::{RowFault, first_word};
+use crate::row_fault::RowFault;
+use crate::word_reading::first_word;
 
 /// A step that is directly in an arm. Both are counted from 0.
 ///

@@ -1,13 +1,13 @@
 //! `Plan`: how a script is run.
 
+use crate::setting::Setting;
 use argus_commands::Script;
-use test_rows::Setting;
 
 /// How a script is run.
 ///
 /// ```text
 /// let tight = Plan { setting: plan.setting.allowing(3), is_tight: true, ..plan };
-/// let ran = run(rt, tight, &NoGate)?;
+/// let ran = Run::made(rt, tight, &gate)?;
 /// ```
 #[derive(Clone, Copy)]
 pub(crate) struct Plan<'a> {
@@ -18,6 +18,5 @@ pub(crate) struct Plan<'a> {
     pub(crate) before: &'a str,
     pub(crate) script: &'a Script,
     pub(crate) workers: u8,
-    pub(crate) lookers: u8,
     pub(crate) patience: u32,
 }

@@ -6,7 +6,7 @@ use argus_values::Room;
 /// whether no allocation was left.
 ///
 /// ```text
-/// let ran = run(rt, plan, &NoGate)?;
+/// let ran = Run::made(rt, plan, &gate)?;
 /// compare(rt, ran.told.as_str(), wanted)?;
 /// ```
 #[derive(Drop)]

@@ -1,11 +1,12 @@
 //! What comes of a run, as a row says it.
 
+use crate::telling::{tell_action, tell_content, tell_number, tell_word};
+use crate::word_reading::first_word;
 use argus_commands::{ArmOutcome, RunFault, RunReport};
 use argus_guardian::{Guardian, Receipt, Seat, Sharing};
 use argus_journal::{Entry, write_entry};
 use argus_values::{Heap, ObjId, OutOfMemory, Room};
 use std::fmt::Write;
-use test_rows::{first_word, tell_action, tell_content, tell_number, tell_word};
 
 /// How many calls each seat made.
 pub(crate) fn told_made<N: Sharing>(

@@ -2,11 +2,11 @@
 
 use crate::scripts::workers::hold::Hold;
 use crate::scripts::workers::place::Place;
+use crate::setting::Setting;
 use argus_commands::Gate;
 use argus_values::{Heap, OutOfMemory, Room};
 use std::sync::atomic::{AtomicU64, Ordering};
 use std::thread::yield_now;
-use test_rows::Setting;
 
 // How often an arm that is held up yields before the gate gives up.
 const MOST: u32 = 20_000_000;
@@ -19,7 +19,7 @@ const ARMS: u32 = 16;
 ///
 /// ```text
 /// let gate = Turns::new(setting, row.holds.as_slice())?;
-/// let ran = run(rt, plan, &gate)?;
+/// let ran = Run::made(rt, plan, &gate)?;
 /// ensure!(!gate.gave_up(), "an arm is held up for ever");
 /// ```
 #[derive(Drop)]

@@ -72,7 +72,7 @@ fn a_log_that_is_damaged() {
     let (status, text) = verify(&folder);
     assert_eq!(status, Some(1), "{text}");
     assert!(
-        text.contains("the log is damaged: the row of `log` has another sum"),
+        text.contains("the log is damaged: `log` has another sum"),
         "{text}"
     );
     // It isn't served, either.

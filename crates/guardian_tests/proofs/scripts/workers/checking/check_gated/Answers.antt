@@ -1,8 +1,0 @@
--- The gate may be looked at from other threads.
-use denote.Param.Send.{sendable}
-use Rattle.argus_values.proofs.MemoryCrossing.{crosses}
-use Rattle.std.proofs.Crossing.{crosses as std_crosses}
-use Rattle.guardian_tests.proofs.scripts.workers.checking.check_gated.Goals as goal
-
-pub run-requires-sync-G : goal.run-requires-sync-G
-run-requires-sync-G g c κs within = search (sendable, std_crosses, crosses) depth 40
