@@ -1,4 +1,4 @@
-"""The page's own work grows as the listing does: four times as many entries take at most six times as long."""
+"""The page's own work grows as the listing does: four times as many entries run at most five times as many blocks."""
 
 from __future__ import annotations
 
@@ -6,14 +6,24 @@ import json
 from collections.abc import Callable, Iterator
 from functools import partial
 
-from opening import taken
-from pages import Pages, Test
+from pages import Pages, Tab, Test
 
 FEW, MANY = 16_000, 64_000
 # Where work grew as the square, this would be sixteen.
-MOST = 6.0
-# What a browser does anyway, in seconds.
-LEAST = 0.02
+MOST = 5
+# The lengths of the arrays that these go through are counted as blocks are.
+WALKS = ["concat", "fill", "filter", "find", "findIndex", "includes", "indexOf", "join", "map", "reverse"]
+WALKS += ["shift", "slice", "sort", "splice", "unshift"]
+COUNT_WALKS = f"""(() => {{
+    window.walked = 0;
+    for (const name of {json.dumps(WALKS)}) {{
+        const plain = Array.prototype[name];
+        Array.prototype[name] = function (...given) {{
+            window.walked += this.length;
+            return plain.apply(this, given);
+        }};
+    }}
+}})()"""
 WORK = """(() => {
     const run = new Run(window.listing, []);
     for (const part of [1, 2, 3]) stateAt(run, Math.floor(run.entries.length * part / 3)).slice(0, 40).map(stackLine);
@@ -84,20 +94,23 @@ def objects(at: int) -> str:
 
 
 def grows(entry: Callable[[int], str], pages: Pages) -> str:
-    """What is wrong with how long a run of this shape takes, of whose first entries this says what the line is."""
+    """What is wrong with how much a run of this shape takes, of whose first entries this says what the line is."""
     tab = pages.browser.open(pages.page(""))
-    times = []
-    for entries in (FEW, MANY):
-        lines = [ARRAY] + [f"{at} {entry(at)}" for at in range(1, entries)]
-        tab.evaluate(f"window.listing = {json_of(lines)}; {WORK}; undefined")
-        tries = []
-        for _ in range(3):
-            before = taken(tab)
-            tab.evaluate(WORK)
-            tries.append(taken(tab) - before)
-        times.append(min(tries))
-    few, many = times
-    return f"{few:.3f} s, and then {many:.3f} s\n" if many > MOST * max(few, LEAST) else ""
+    tab.call("Profiler.enable")
+    tab.call("Profiler.startPreciseCoverage", callCount=True, detailed=True)
+    tab.reopen(pages.page(""))  # What was compiled before isn't counted.
+    tab.evaluate(COUNT_WALKS)
+    few, many = (steps(tab, [ARRAY] + [f"{at} {entry(at)}" for at in range(1, it)]) for it in (FEW, MANY))
+    return f"{few} blocks, and then {many}\n" if many > MOST * few else ""
+
+
+def steps(tab: Tab, lines: list[str]) -> int:
+    """How many blocks of the page's script the work over these lines runs, and how far its walks over arrays go."""
+    tab.call("Profiler.takePreciseCoverage")
+    tab.evaluate(f"window.listing = {json_of(lines)}; window.walked = 0; {WORK}; undefined")
+    scripts = tab.call("Profiler.takePreciseCoverage")["result"]
+    blocks = sum(it["count"] for script in scripts for one in script["functions"] for it in one["ranges"])
+    return blocks + int(tab.evaluate("window.walked"))
 
 
 def json_of(lines: list[str]) -> str:

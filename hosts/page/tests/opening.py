@@ -13,15 +13,15 @@ from lines import lines_of
 from pages import Pages, Tab, Test, rows_of, unlike
 from runs import HOSTILE, as_text, bank, example
 
-# So many entries, and the seconds of a processor that a page's thread may take until it is drawn.
-SIZES = {528: 1.0, 5_000: 1.0, 65_536: 3.0}
+# So many entries have the pages whose time is printed.
+SIZES = [528, 5_000, 65_536]
 # Of a run with no more entries than this the page has the program's picture, too.
 MOST_DRAWN = 64
 
 
 def tests() -> Iterator[Test]:
-    for entries, seconds in SIZES.items():
-        yield f"a page of {entries} entries", partial(opened, entries, seconds)
+    for entries in SIZES:
+        yield f"a page of {entries} entries", partial(opened, entries)
     yield "a page of 14 entries", fourteen
     yield "a page without entries", lambda pages: with_lines(pages, "")
     yield "texts that would be markup", lambda pages: with_lines(pages, as_text(HOSTILE))
@@ -32,8 +32,8 @@ def tests() -> Iterator[Test]:
     yield "a page that Python joins", joined
 
 
-def opened(entries: int, seconds: float, pages: Pages) -> str:
-    """What is wrong with a page of a bank's run."""
+def opened(entries: int, pages: Pages) -> str:
+    """What is wrong with a page of a bank's run. How long it takes until it is drawn is printed."""
     listing = bank(pages.programs, entries)
     path = pages.page(listing)
     tab = pages.browser.open(pages.page(""))
@@ -43,8 +43,7 @@ def opened(entries: int, seconds: float, pages: Pages) -> str:
     took = taken(tab) - before
     whole = time.monotonic() - began
     print(f"page: {entries} entries are drawn after {took:.2f} s of a processor, {whole:.2f} s in all")
-    late = f"{took:.2f} s of a processor, of {seconds}\n" if took > seconds else ""
-    return late + of_tab(pages, tab, listing)
+    return of_tab(pages, tab, listing)
 
 
 def taken(tab: Tab) -> float:
