@@ -149,6 +149,24 @@ def readers(count: int) -> Lines:
     yield from (f"commit a{action} -> done" for action in range(count))
 
 
+@journal
+def old_reader(count: int) -> Lines:
+    """So many topactions read one object, and then the oldest of them reads it as often again."""
+    yield "declare atomic_record[n:int] -> o0"
+    for action in range(count):
+        yield from (f"begin_top -> a{action}", f"ask a{action} o0 whole -> signal absent")
+    yield from ("ask a0 o0 whole -> signal absent" for _ in range(count))
+
+
+@journal
+def aborted_readers(count: int) -> Lines:
+    """So many topactions read one object. When all of them hold it, they abort, in the order in which they began."""
+    yield "declare atomic_record[n:int] -> o0"
+    for action in range(count):
+        yield from (f"begin_top -> a{action}", f"ask a{action} o0 whole -> signal absent")
+    yield from (f"abort a{action} -> done" for action in range(count))
+
+
 def lines(count: int) -> Lines:
     """A script of so many lines (or one or two fewer): one record is set by block after block."""
     yield from ("declare acct atomic_record[balance:int]", "enter topaction", "create acct {0}", "end")
@@ -218,6 +236,24 @@ ROWS = (
         (5_000, 10_000),
         (20_000, 40_000),
         "live readers of one object, which then commit",
+        "It should grow with the readers.",
+    ),
+    Row(
+        "old_reader",
+        "replay",
+        old_reader,
+        (5_000, 10_000),
+        (20_000, 40_000),
+        "live readers of one object, whose oldest then reads it as often",
+        "It should grow with the readers.",
+    ),
+    Row(
+        "aborted_readers",
+        "replay",
+        aborted_readers,
+        (5_000, 10_000),
+        (20_000, 40_000),
+        "live readers of one object, which then abort",
         "It should grow with the readers.",
     ),
     Row(

@@ -1,13 +1,9 @@
 -- A reader put in its place.
-use Rattle.std.proofs.Common.{◌≡◌, ℕ, ◌+◌, ◌<◌, ◌≤◌, Bool, true, false, not, cond, eqb, ltb, ◌||◌, List, [], ◌∷◌, ◌++◌}
-use Rattle.std.proofs.Common.{filter, length, take, drop, get_or, refl, sym, ◌∙◌, ap, arith, inl, inr, zero, suc, subst}
-use Rattle.std.proofs.Common.{◌-◌}
+use Rattle.std.proofs.Common.{◌≡◌, ℕ, ◌<◌, ◌≤◌, Bool, true, false, not, cond, eqb, ltb, List, [], ◌∷◌, ◌++◌, ◌||◌}
+use Rattle.std.proofs.Common.{filter, length, take, get_or, refl, sym, ◌∙◌, ap, arith, inl, inr, zero, suc}
 use Rattle.std.specs.List.{list_all}
 use Rattle.std.proofs.lemmas.Bool.{eq-eqb, ne_eqb, lt-ltb, le-ltb, ltb-true, cases_eq, cases_lt, cases_Bool, cond-true}
 use Rattle.std.proofs.lemmas.Bool.{cond-false, and_parts, and_from, false≢true}
-use Rattle.std.proofs.lemmas.List.{take_more, drop_more, append_assoc, take-append-drop}
-use Rattle.std.proofs.lemmas.List.Folds.{list_any-append}
-use Rattle.std.proofs.Math.Bool.{or-false}
 use Rattle.argus_actions.specs.declared.action_id.ActionId.{ActionId}
 use Rattle.argus_objects.specs.Rules.{is_ascending}
 use Rattle.argus_objects.specs.CellChanges.{is_reader, with_reader, without_reader, readers_inherited}
@@ -15,33 +11,17 @@ use Rattle.argus_objects.proofs.Chains.{all_imp}
 use Rattle.argus_objects.proofs.Ascending.{lower_before, ascending_filter}
 
 -- a goes before a greater number
-before : (a x : ActionId) (xs : List ActionId) → a.0 < x.0 → with_reader a (x ∷ xs) ≡ a ∷ x ∷ xs
+pub before : (a x : ActionId) (xs : List ActionId) → a.0 < x.0 → with_reader a (x ∷ xs) ≡ a ∷ x ∷ xs
 before a x xs lt = cond-true _ _ _ (lt-ltb a.0 x.0 lt)
 
-there : (a x : ActionId) (xs : List ActionId) → x.0 ≡ a.0 → with_reader a (x ∷ xs) ≡ x ∷ xs
+pub there : (a x : ActionId) (xs : List ActionId) → x.0 ≡ a.0 → with_reader a (x ∷ xs) ≡ x ∷ xs
 there a x xs e = cond-false _ _ _ (le-ltb a.0 x.0 (omega arith)) ∙ cond-true _ _ _ (eq-eqb x.0 a.0 e)
 
 past : (a x : ActionId) (xs : List ActionId) → x.0 < a.0 → with_reader a (x ∷ xs) ≡ x ∷ with_reader a xs
 past a x xs lt = cond-false _ _ _ (le-ltb a.0 x.0 (omega arith)) ∙ cond-false _ _ _ (ne_eqb x.0 a.0 (λ e. omega arith))
 
--- a greater number at the end stays at the end
-greater_last : (a y : ActionId) (xs : List ActionId) → a.0 < y.0
-    → with_reader a (xs ++ y ∷ []) ≡ with_reader a xs ++ y ∷ []
-greater_last a y [] lt = before a y [] lt
-greater_last a y (x ∷ xs) lt =
-    elim (cases_lt a.0 x.0) [
-      | inl less ↦ before a x (xs ++ y ∷ []) less ∙ ap (λ zs. zs ++ y ∷ []) (sym (before a x xs less))
-      | inr le ↦ elim (cases_eq x.0 a.0) [
-        | inl e ↦ there a x (xs ++ y ∷ []) e ∙ ap (λ zs. zs ++ y ∷ []) (sym (there a x xs e))
-        | inr ne ↦
-            let lt' : x.0 < a.0 = omega (arith, ne) in
-            past a x (xs ++ y ∷ []) lt' ∙ (ap (λ zs. x ∷ zs) (greater_last a y xs lt)
-            ∙ ap (λ zs. zs ++ y ∷ []) (sym (past a x xs lt')))
-      ]
-    ]
-
 -- past lower numbers the place is at the end
-lower_all : (a : ActionId) (xs ys : List ActionId) → list_all (λ x. ltb x.0 a.0) xs ≡ true
+pub lower_all : (a : ActionId) (xs ys : List ActionId) → list_all (λ x. ltb x.0 a.0) xs ≡ true
     → with_reader a (xs ++ ys) ≡ xs ++ with_reader a ys
 lower_all a [] ys low = refl
 lower_all a (x ∷ xs) ys low =
@@ -49,41 +29,12 @@ lower_all a (x ∷ xs) ys low =
     and_parts (ltb x.0 a.0) (list_all (λ x. ltb x.0 a.0) xs) low in
     past a x (xs ++ ys) (ltb-true x.0 a.0 parts.0) ∙ ap (λ zs. x ∷ zs) (lower_all a xs ys parts.1)
 
--- one place nearer to the front
-pub place_more : (a : ActionId) (xs : List ActionId) (k : ℕ) (d : ActionId) → k < length xs → a.0 < (get_or xs k d).0
-    → with_reader a (take (k + 1) xs) ++ drop (k + 1) xs ≡ with_reader a (take k xs) ++ drop k xs
-place_more a xs k d below lt =
-    ap (λ zs. with_reader a zs ++ drop (k + 1) xs) (take_more xs k d below)
-    ∙ (ap (λ zs. zs ++ drop (k + 1) xs) (greater_last a (get_or xs k d) (take k xs) lt)
-    ∙ (append_assoc (with_reader a (take k xs)) (get_or xs k d ∷ []) (drop (k + 1) xs)
-    ∙ ap (λ zs. with_reader a (take k xs) ++ zs) (sym (drop_more xs k d below))))
-
-lower_than : (a : ActionId) (xs : List ActionId) (k : ℕ) (d : ActionId) → is_ascending xs ≡ true → k < length xs
+pub lower_than : (a : ActionId) (xs : List ActionId) (k : ℕ) (d : ActionId) → is_ascending xs ≡ true → k < length xs
     → (get_or xs k d).0 ≤ a.0 → list_all (λ x. ltb x.0 a.0) (take k xs) ≡ true
 lower_than a xs k d asc below le =
     all_imp (λ x. ltb x.0 (get_or xs k d).0) (λ x. ltb x.0 a.0)
     (λ x h. let lt : x.0 < (get_or xs k d).0 = ltb-true x.0 (get_or xs k d).0 h in lt-ltb x.0 a.0 (omega arith))
     (take k xs) (lower_before xs k d asc below)
-
--- it is there already
-pub place_taken : (a : ActionId) (xs : List ActionId) (k : ℕ) (d : ActionId) → is_ascending xs ≡ true → k < length xs
-    → (get_or xs k d).0 ≡ a.0
-    → with_reader a (take (k + 1) xs) ≡ take (k + 1) xs
-place_taken a xs k d asc below e =
-    ap (with_reader a) (take_more xs k d below)
-    ∙ (lower_all a (take k xs) (get_or xs k d ∷ []) (lower_than a xs k d asc below (omega arith))
-    ∙ (ap (λ zs. take k xs ++ zs) (there a (get_or xs k d) [] e) ∙ sym (take_more xs k d below)))
-
--- it goes here
-pub place_free : (a : ActionId) (xs : List ActionId) (k : ℕ) (d : ActionId) → is_ascending xs ≡ true → k < length xs
-    → (get_or xs k d).0 < a.0
-    → with_reader a (take (k + 1) xs) ≡ take (k + 1) xs ++ a ∷ []
-place_free a xs k d asc below lt =
-    ap (with_reader a) (take_more xs k d below)
-    ∙ (lower_all a (take k xs) (get_or xs k d ∷ []) (lower_than a xs k d asc below (omega arith))
-    ∙ (ap (λ zs. take k xs ++ zs) (past a (get_or xs k d) [] lt)
-    ∙ (sym (append_assoc (take k xs) (get_or xs k d ∷ []) (a ∷ []))
-    ∙ ap (λ zs. zs ++ a ∷ []) (sym (take_more xs k d below)))))
 
 -- what holds of a and of the rest holds of all
 pub all_with : (p : ActionId → Bool) (a : ActionId) (xs : List ActionId) → p a ≡ true → list_all p xs ≡ true
@@ -120,7 +71,7 @@ ascending_with a (x ∷ xs) asc =
       ]
     ]
 
-length_filter_le : {X : Type 0} (p : X → Bool) (xs : List X) → length (filter p xs) ≤ length xs
+pub length_filter_le : {X : Type 0} (p : X → Bool) (xs : List X) → length (filter p xs) ≤ length xs
 length_filter_le p [] = omega arith
 length_filter_le p (x ∷ xs) =
     let h : length (filter p xs) ≤ length xs = length_filter_le p xs in
@@ -146,22 +97,6 @@ any_default [] k d e below = absurd (omega arith)
 any_default (x ∷ xs) zero d e below = refl
 any_default (x ∷ xs) (suc k) d e below = any_default xs k d e (omega arith)
 
--- put in where no greater number follows and none that is not less comes before
-pub placed : (a : ActionId) (xs : List ActionId) (i : ℕ) (d : ActionId) → is_ascending xs ≡ true → i ≤ length xs
-    → with_reader a (take i xs) ++ drop i xs ≡ with_reader a xs → (0 < i → (get_or xs (i - 1) d).0 < a.0)
-    → take i xs ++ a ∷ drop i xs ≡ with_reader a xs
-placed a xs zero d asc le place lower = place
-placed a xs (suc k) d asc le place lower =
-    let k_is : suc k - 1 ≡ k = omega arith in
-    let less : (get_or xs (suc k - 1) d).0 < a.0 = lower (omega arith) in
-    let free : with_reader a (take (k + 1) xs) ≡ take (k + 1) xs ++ a ∷ [] =
-    place_free a xs k d asc (omega arith) (subst (λ (n : ℕ). (get_or xs n d).0 < a.0) k_is less) in
-    let one_more : k + 1 ≡ suc k = omega arith in
-    let free' : with_reader a (take (suc k) xs) ≡ take (suc k) xs ++ a ∷ [] =
-    subst (λ (n : ℕ). with_reader a (take n xs) ≡ take n xs ++ a ∷ []) one_more free in
-    sym (append_assoc (take (suc k) xs) (a ∷ []) (drop (suc k) xs))
-    ∙ (ap (λ zs. zs ++ drop (suc k) xs) (sym free') ∙ place)
-
 pub ascending_inherited : (s p : ActionId) (xs : List ActionId) → is_ascending xs ≡ true
     → is_ascending (readers_inherited s p xs) ≡ true
 ascending_inherited s p xs asc = cases (is_reader s xs)
@@ -169,30 +104,3 @@ ascending_inherited s p xs asc = cases (is_reader s xs)
     cases : (b : Bool) → is_ascending (cond b (with_reader p (without_reader s xs)) xs) ≡ true
     cases true = ascending_with p (without_reader s xs) (ascending_filter (λ x. not (eqb x.0 s.0)) xs asc)
     cases false = asc
-
--- one reader more that is past the action
-pub past_reader : (a : ActionId) (xs : List ActionId) (k : ℕ) (d : ActionId) → k < length xs → a.0 < (get_or xs k d).0
-    → is_reader a (drop (k + 1) xs) ≡ false → is_reader a (drop k xs) ≡ false
-past_reader a xs k d below lt none =
-    ap (is_reader a) (drop_more xs k d below)
-    ∙ (ap (λ b. b || is_reader a (drop (k + 1) xs)) (ne_eqb (get_or xs k d).0 a.0 (λ e. omega arith)) ∙ none)
-
--- where none past a place is the action, and the one in it is not past the action, it decides
-pub reader_here : (a : ActionId) (xs : List ActionId) (k : ℕ) (d : ActionId) → is_ascending xs ≡ true → k < length xs
-    → (get_or xs k d).0 ≤ a.0 → is_reader a (drop (k + 1) xs) ≡ false → is_reader a xs ≡ eqb (get_or xs k d).0 a.0
-reader_here a xs k d asc below le none =
-    ap (is_reader a) (sym (take-append-drop (k + 1) xs) ∙ ap (λ ys. ys ++ drop (k + 1) xs) (take_more xs k d below))
-    ∙ (list_any-append (λ (x : ActionId). eqb x.0 a.0) (take k xs ++ get_or xs k d ∷ []) (drop (k + 1) xs)
-    ∙ (ap (λ b. is_reader a (take k xs ++ get_or xs k d ∷ []) || b) none
-    ∙ (or-false (is_reader a (take k xs ++ get_or xs k d ∷ []))
-    ∙ (list_any-append (λ (x : ActionId). eqb x.0 a.0) (take k xs) (get_or xs k d ∷ [])
-    ∙ (ap (λ b. b || (eqb (get_or xs k d).0 a.0 || false)) (no_reader a (take k xs) (lower_than a xs k d asc below le))
-    ∙ or-false (eqb (get_or xs k d).0 a.0))))))
-  where
-    no_reader : (a : ActionId) (ys : List ActionId) → list_all (λ y. ltb y.0 a.0) ys ≡ true → is_reader a ys ≡ false
-    no_reader a [] low = refl
-    no_reader a (y ∷ ys) low =
-        let parts : (ltb y.0 a.0 ≡ true) × (list_all (λ y. ltb y.0 a.0) ys ≡ true) =
-        and_parts (ltb y.0 a.0) (list_all (λ y. ltb y.0 a.0) ys) low in
-        let lt : y.0 < a.0 = ltb-true y.0 a.0 parts.0 in
-        ap (λ b. b || is_reader a ys) (ne_eqb y.0 a.0 (λ e. omega arith)) ∙ no_reader a ys parts.1

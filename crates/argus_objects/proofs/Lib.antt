@@ -4,6 +4,8 @@ pub mod Chains
 pub mod Lawful
 pub mod Ascending
 pub mod InOrder
+pub mod Parted
+pub mod Moved
 pub mod Stacks
 pub mod Changes
 pub mod Later

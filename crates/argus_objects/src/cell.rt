@@ -19,9 +19,7 @@ ghost use Rattle.argus_objects.specs.CellChanges.{with_version};
 ghost use Rattle.argus_objects.specs.CellChanges.{without_version};
 
 use crate::changing::{change_version, change_version_by_reference, content_on_top};
-use crate::readers::{
-    add_reader, all_readers_above, discard_readers, drop_reader, inherit_reader, is_among,
-};
+use crate::readers::{Readers, all_readers_above};
 use crate::version::Version;
 use crate::versions::{
     all_writers_above, are_all_related, are_chained, discard_versions, has_version,
@@ -49,7 +47,7 @@ use std::marker::Model;
 #[derive(Drop)]
 pub struct Cell {
     base: Option<Content>,
-    readers: Vec<ActionId, Room>,
+    readers: Readers,
     versions: Vec<Version, Room>,
 }
 
@@ -70,7 +68,7 @@ impl Model for Cell {
       readers = c.readers.items;
       versions =
           versions_newest_first c.versions.items;
-      reader_room = vec_capacity c.readers - vec_len c.readers;
+      reader_room = c.readers.room;
       version_room = vec_capacity c.versions - vec_len c.versions;
     } };
 
@@ -86,7 +84,7 @@ impl Cell {
     {
         Cell {
             base,
-            readers: Vec::new(heap.room()),
+            readers: Readers::new(heap),
             versions: Vec::new(heap.room()),
         }
     }
@@ -163,8 +161,8 @@ impl Cell {
         self.is_readable(tree, a) && all_readers_above(self.readers.as_slice(), tree, a)
     }
 
-    /// Whether `a` is a reader or has a version. It looks only at the newest version, and at the
-    /// readers past `a` and the next one.
+    /// Whether `a` is a reader or has a version. Of the versions it looks only at the
+    /// newest.
     ///
     /// Condition: the read lock is granted, so that a version of `a` is the newest.
     #[inline(always)]
@@ -172,7 +170,7 @@ impl Cell {
         requires { may_read tree.now self.now a ≡ true }
         ensures { result ≡ (is_reader a self.now.readers || has_version a self.now.versions) }
     {
-        is_newest(self.versions.as_slice(), a) || is_among(self.readers.as_slice(), a)
+        is_newest(self.versions.as_slice(), a) || self.readers.has(a)
     }
 
     /// Whether `a` is a reader or has a version, which need not be the newest.
@@ -180,7 +178,7 @@ impl Cell {
     pub fn has_holder(&self, a: ActionId) -> bool
         ensures { result ≡ (is_reader a self.now.readers || has_version a self.now.versions) }
     {
-        is_among(self.readers.as_slice(), a) || has_version(self.versions.as_slice(), a)
+        self.readers.has(a) || has_version(self.versions.as_slice(), a)
     }
 
     /// Makes room for one more reader and one more version. Either way the lists stay, and no room
@@ -207,8 +205,7 @@ impl Cell {
         ensures reader_room { self.old.reader_room ≤ self.new.reader_room }
         ensures version_room { self.new.version_room ≡ self.old.version_room }
     {
-        self.readers.reserve(1)?;
-        Ok(())
+        self.readers.reserve()
     }
 
     /// Makes `a` a reader, if it isn't one.
@@ -228,7 +225,7 @@ impl Cell {
         ensures reader_room { self.old.reader_room ≤ self.new.reader_room + 1 }
         ensures version_room { self.new.version_room ≡ self.old.version_room }
     {
-        add_reader(&mut self.readers, a);
+        self.readers.add(a);
     }
 
     /// Makes this the content of `a`'s version, which is pushed if `a` had none.
@@ -357,7 +354,7 @@ impl Cell {
         ensures version_room { self.old.version_room ≤ self.new.version_room }
     {
         tree.parent_is_ancestor(parent, s);
-        inherit_reader(&mut self.readers, s, parent);
+        self.readers.inherit(s, parent);
         inherit_version(&mut self.versions, s, parent);
     }
 
@@ -376,7 +373,7 @@ impl Cell {
         ensures reader_room { self.old.reader_room ≤ self.new.reader_room }
         ensures version_room { self.old.version_room ≤ self.new.version_room }
     {
-        drop_reader(&mut self.readers, t);
+        self.readers.remove(t);
         settle_version(&mut self.base, &mut self.versions, t);
     }
 
@@ -392,7 +389,7 @@ impl Cell {
         ensures reader_room { self.old.reader_room ≤ self.new.reader_room }
         ensures version_room { self.old.version_room ≤ self.new.version_room }
     {
-        discard_readers(&mut self.readers, tree, a);
+        self.readers.discard(tree, a);
         discard_versions(&mut self.versions, tree, a);
     }
 }

@@ -7,12 +7,12 @@ use Rattle.argus_objects.specs.CellChanges.{has_version, is_reader}
 use Rattle.argus_objects.proofs.Stacks.{has_newest}
 use Rattle.argus_objects.proofs.cell.Cell.has_holder.Goals as goal
 
-pub returns-else-is_among : goal.returns-else-is_among
-returns-else-is_among c =
+pub returns-else-has : goal.returns-else-has
+returns-else-has c =
     let a = c.args.a in
     let vs = c.self.inside.versions.items in
     subst (λ (o : Object). c.has_version.result ≡ (is_reader a o.readers || has_version a o.versions)) c.self.view_is
     (c.has_version.ensures
-    ∙ (ap (list_any (λ (v : Version). eqb v.holder.0 a.0)) c.as_slice-else-is_among.ensures.value
+    ∙ (ap (list_any (λ (v : Version). eqb v.holder.0 a.0)) c.as_slice.ensures.value
     ∙ (sym (has_newest a vs) ∙ ap (λ b. b || has_version a (versions_newest_first vs))
-    (sym (sym (ap (is_reader a) c.as_slice.ensures.value) ∙ (sym c.is_among.ensures ∙ c.if-is_among.false))))))
+    (sym (sym c.has.ensures ∙ c.if-has.false)))))

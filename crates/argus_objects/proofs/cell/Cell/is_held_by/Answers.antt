@@ -37,8 +37,8 @@ pub returns-else-is_newest : goal.returns-else-is_newest
 returns-else-is_newest c =
     let a = c.args.a in
     let rs = c.self.inside.readers.items in
-    subst (λ (o : Object). c.is_among.result ≡ (is_reader a o.readers || has_version a o.versions)) c.self.view_is
-    (c.is_among.ensures ∙ (ap (is_reader a) c.as_slice-else-is_newest.ensures.value
+    subst (λ (o : Object). c.has.result ≡ (is_reader a o.readers || has_version a o.versions)) c.self.view_is
+    (c.has.ensures
     ∙ sym (ap (λ b. is_reader a rs || b) (answered a c.is_newest.result c.self.inside.versions.items
     c.as_slice.result.now c.as_slice.ensures.value c.is_newest.ensures
-    ∙ c.if-is_newest.false) ∙ or-false (is_reader a rs))))
+    ∙ c.if-is_newest.false) ∙ or-false (is_reader a rs)))

@@ -22,6 +22,6 @@ returns-then-are_chained c =
     ∙ (ap (λ (ws : List Version). list_all (λ (x : ActionId). list_all (λ (v : Version). are_related t x v.holder) ws)
     c.as_slice.result.now) same
     ∙ (ap (λ (xs : List ActionId). list_all (λ (x : ActionId). list_all (λ (v : Version). are_related t x v.holder) vs)
-    xs) c.as_slice.ensures.value
+    xs) c.as_slice.ensures
     ∙ (sym (related_versions t vs rs)
     ∙ sym (ap (λ b. b && list_all (is_related t (holders (versions_newest_first vs))) rs) chained)))))
