@@ -67,8 +67,3 @@ module _ {A B T : Type 0} where
   pub on_err : (P : A → Type 0) (Q : B → Type 0) (r : Result A B) → MatchResult r P Q → ((b : B) → Q b → T) → OnErr r T
   on_err P Q (Ok a) p g = tt
   on_err P Q (Err b) q g = g b q
-
-pub both_cases : {A B : Type 0} {P P' T : A → Type 0} {Q Q' U : B → Type 0} (r : Result A B) → MatchResult r P Q
-    → MatchResult r P' Q' → ((a : A) → P a → P' a → T a) → ((b : B) → Q b → Q' b → U b) → MatchResult r T U
-both_cases (Ok a) p q f g = f a p q
-both_cases (Err b) p q f g = g b p q

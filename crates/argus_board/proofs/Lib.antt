@@ -4,5 +4,4 @@ pub mod Crossing
 pub mod History
 pub mod Prefixes
 pub mod Rule
-mod Showing
 pub mod Tables

@@ -8,11 +8,11 @@ use Rattle.atomic_table.proofs.Lists.{at_set, at_snoc}
 use Rattle.crossbeam_utils.specs.Register.{Admits, Forks, Merges, TurnsAt}
 use Rattle.logbook.specs.Pages.{Book}
 use Rattle.argus_contents.specs.Content.{PlainContent}
-use Rattle.argus_board.specs.Effects.{contents_after, plain_contents}
+use Rattle.argus_board.specs.Effects.{contents_after}
 use Rattle.argus_contents.specs.Effect.{Effect}
-use Rattle.argus_board.specs.History.{line}
-use Rattle.argus_board.specs.Published.{AllBegin, HasContentsOf, IsConsistentTable, SeesPublished}
-use Rattle.argus_board.specs.Published.{joined_view}
+use Rattle.argus_board.specs.HistoryPrefix.{book_of, line_of}
+use Rattle.argus_board.specs.Published.{AllBegin, FitsTable, IsConsistentTable, SeesPublished}
+use Rattle.argus_board.specs.Published.{contents_of, joined_view}
 use Rattle.argus_board.specs.declared.table.Table.{Table}
 use Rattle.argus_board.proofs.Prefixes.{begins_itself, begins_later, nothing_begins}
 
@@ -37,13 +37,10 @@ module _ (first : List (Option PlainContent)) (own : Book) (root : ℕ) where
   Holds = IsConsistentTable first own root
 
   abbrev upto : Table → List Effect
-  upto t = line root t.front.seen.log
-
-  abbrev FitsTable : Table → Type 0
-  FitsTable t = HasContentsOf first own (plain_contents t.contents.items) t.front.seen.book (upto t)
+  upto t = line_of root t.front
 
   -- the first contents, which the writer alone has seen
-  pub starts : (x : Table) → plain_contents x.contents.items ≡ first → x.front.seen.book ≡ own → upto x ≡ []
+  pub starts : (x : Table) → contents_of x ≡ first → book_of x.front ≡ own → upto x ≡ []
       → Holds x ([] ∷ [])
   starts x is book none = ((is ∙ sym (ap (contents_after first) none), book), one)
     where
@@ -55,7 +52,7 @@ module _ (first : List (Option PlainContent)) (own : Book) (root : ℕ) where
   admits x views h = (h.0, all_more (upto x) views [] h.1 (nothing_begins (upto x)))
 
   -- the table grows, and this place sees all of it
-  pub rises : (by : ℕ) (v : List Effect) (x y : Table) → IsPrefix (upto x) (upto y) → FitsTable y
+  pub rises : (by : ℕ) (v : List Effect) (x y : Table) → IsPrefix (upto x) (upto y) → FitsTable first own root y
       → TurnsAt Holds by v x y (SeesPublished first own root)
   rises by v x y up fits views h at =
       let l = upto y in

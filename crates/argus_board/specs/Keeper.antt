@@ -1,15 +1,21 @@
 -- What contracts say of a keeper.
 use Rattle.std.specs.Prelude.{[], ℕ, ◌≡◌}
 use Rattle.logbook.specs.Pages.{Book}
+use Rattle.argus_board.specs.History.{next_right}
+use Rattle.argus_board.specs.HistoryPrefix.{book_of}
 use Rattle.argus_board.specs.declared.keeper.Keeper.{Keeper}
 
 -- the book that has its history
 abbrev pub history_of : Keeper → Book
-history_of keeper = keeper.front.seen.book
+history_of keeper = book_of keeper.front
 
 -- the right that comes next in its line
 abbrev pub next_right_of : Keeper → ℕ
 next_right_of keeper = keeper.pen.nib.key
+
+-- its right is the one that comes next in the line that begins with this right
+abbrev pub HoldsNext : ℕ → Keeper → Type 0
+HoldsNext root keeper = next_right_of keeper ≡ next_right root keeper.front.seen.log
 
 -- its history has no effect yet
 abbrev pub IsNew : Keeper → Type 0

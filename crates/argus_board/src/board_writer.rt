@@ -3,10 +3,9 @@
 ghost use Rattle.std.specs.Prelude.{IfOk, MatchOption, OnErr, OnOk, [], false, true, ◌+◌, ◌++◌, ◌<◌};
 ghost use Rattle.std.specs.Prelude.{◌∷◌, ◌≡◌, ◌≢◌};
 ghost use mathlib.Core.List.{IsPrefix};
-ghost use Rattle.left_right.specs.Sides.{view};
 ghost use Rattle.argus_board.specs.Effects.{IsTableOf, plain_contents};
-ghost use Rattle.argus_board.specs.History.{line};
-ghost use Rattle.argus_board.specs.Published.{AreTables, pending_changes};
+ghost use Rattle.argus_board.specs.HistoryPrefix.{line_of};
+ghost use Rattle.argus_board.specs.Published.{AreTables, shown_effects};
 ghost use Rattle.argus_contents.specs.Effect.{plain_effect};
 ghost use Rattle.argus_board.specs.Keeper.{StartsHistory};
 
@@ -62,33 +61,31 @@ impl<N: Board, R: Wait + Drop> Drop for BoardWriter<N, R> {
 impl<N: Board, R: Wait + Drop> Model for BoardWriter<N, R> {
     ghost use Rattle.std.specs.Prelude.{MatchOption, [], drop, length, ◌++◌, ◌<◌, ◌≡◌};
     ghost use mathlib.Core.List.{IsPrefix};
-    ghost use Rattle.left_right.specs.Sides.{view as seen_at};
     ghost use Rattle.argus_board.specs.BoardView.{BoardView, board_view_coded};
-    ghost use Rattle.argus_board.specs.Effects.{IsTableOf, plain_contents};
-    ghost use Rattle.argus_board.specs.History.{line, next_right};
-    ghost use Rattle.argus_board.specs.Published.{AreTables, pending_changes};
+    ghost use Rattle.argus_board.specs.Effects.{IsTableOf};
+    ghost use Rattle.argus_board.specs.HistoryPrefix.{book_of, line_of};
+    ghost use Rattle.argus_board.specs.Keeper.{HoldsNext, history_of};
+    ghost use Rattle.argus_board.specs.Published.{AreTables, shown_effects};
 
     ghost Value = { BoardView };
 
     ghost coded = { board_view_coded };
 
     ghost view = { λ b. record {
-      published = N.before ++ line N.root b.shown.seen.log;
-      pending = drop (length (line N.root b.shown.seen.log)) (line N.root b.keeper.front.seen.log);
+      published = N.before ++ line_of N.root b.shown;
+      pending = drop (length (line_of N.root b.shown)) (line_of N.root b.keeper.front);
       places_left = b.unused;
     } };
 
     ghost invariant = { λ b. IsTableOf N.opening_contents N.before N.first
-        × (b.keeper.front.seen.book ≡ N.history)
-        × (b.start.seen.book ≡ N.history)
-        × (line N.root b.start.seen.log ≡ [])
-        × (b.keeper.pen.nib.key ≡ next_right N.root b.keeper.front.seen.log)
-        × IsPrefix (line N.root b.shown.seen.log) (line N.root b.keeper.front.seen.log)
+        × (history_of b.keeper ≡ N.history)
+        × (book_of b.start ≡ N.history)
+        × (line_of N.root b.start ≡ [])
+        × HoldsNext N.root b.keeper
+        × IsPrefix (line_of N.root b.shown) (line_of N.root b.keeper.front)
         × MatchOption b.tables (N.places ≡ 0) (λ w. (0 < N.places)
-        × AreTables N.first (line N.root b.shown.seen.log) (line N.root b.keeper.front.seen.log)
-        (seen_at w.desk.place) (plain_contents w.desk.shown.value.contents.items)
-        (line N.root w.desk.shown.value.front.seen.log)
-        (pending_changes w.behind w.log.items)) };
+        × (shown_effects N.root w ≡ line_of N.root b.shown)
+        × AreTables N.first N.root (line_of N.root b.keeper.front) w) };
 }
 
 impl<N: Board, R: Wait + Drop> BoardWriter<N, R> {
@@ -140,10 +137,8 @@ impl<N: Board, R: Wait + Drop> BoardWriter<N, R> {
         requires first { IsTableOf N.opening_contents N.before N.first }
         requires keeper { StartsHistory N.history N.root keeper }
         requires tables { MatchOption tables (N.places ≡ 0) (λ w. (0 < N.places)
-            × AreTables N.first [] [] (view w.desk.place)
-            (plain_contents w.desk.shown.value.contents.items)
-            (line N.root w.desk.shown.value.front.seen.log)
-            (pending_changes w.behind w.log.items)) }
+            × (shown_effects N.root w ≡ line_of N.root keeper.front)
+            × AreTables N.first N.root (line_of N.root keeper.front) w) }
         ensures published { result.published ≡ N.before }
         ensures pending { result.pending ≡ [] }
         ensures places_left { result.places_left ≡ unused }

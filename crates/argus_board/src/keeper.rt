@@ -1,9 +1,10 @@
 //! `Keeper`: what alone adds to the history of a board.
 
-ghost use Rattle.std.specs.Prelude.{[], ℕ, ◌++◌, ◌≡◌};
+ghost use Rattle.std.specs.Prelude.{ℕ, ◌++◌, ◌≡◌};
 ghost use mathlib.Core.List.{IsPrefix};
 ghost use Rattle.logbook.specs.Pages.{may_write};
-ghost use Rattle.argus_board.specs.History.{head_of, line, next_right};
+ghost use Rattle.argus_board.specs.History.{head_of};
+ghost use Rattle.argus_board.specs.HistoryPrefix.{book_of, line_of};
 
 use crate::history_prefix::HistoryPrefix;
 use crate::page::Page;
@@ -30,7 +31,7 @@ pub struct Keeper {
 }
 
 impl Keeper {
-    ghost use Rattle.argus_board.specs.Keeper.{IsNew};
+    ghost use Rattle.argus_board.specs.Keeper.{HoldsNext, IsNew, history_of, next_right_of};
 
     /// A history with no effect. It takes no memory.
     pub fn new() -> Keeper
@@ -48,13 +49,10 @@ impl Keeper {
 
     /// Adds the effects that this stands for to the line of its right. It can't fail.
     pub(crate) fn add<X, M: TellsEffects<X>>(&mut self, about: Snapshot<X>)
-        ensures book { self.new.front.seen.book ≡ self.old.front.seen.book }
-        ensures line { (root : ℕ) → self.old.pen.nib.key ≡ next_right root self.old.front.seen.log
-            → line root self.new.front.seen.log ≡ line root self.old.front.seen.log
-            ++ M.effects about.value }
-        ensures next_right { (root : ℕ) → self.old.pen.nib.key
-            ≡ next_right root self.old.front.seen.log
-            → self.new.pen.nib.key ≡ next_right root self.new.front.seen.log }
+        ensures book { history_of self.new ≡ history_of self.old }
+        ensures line { (root : ℕ) → HoldsNext root self.old
+            → line_of root self.new.front ≡ line_of root self.old.front ++ M.effects about.value }
+        ensures next_right { (root : ℕ) → HoldsNext root self.old → HoldsNext root self.new }
     {
         let Keeper { head, pen, front } = self;
         let leaf = Leaf {
@@ -72,11 +70,11 @@ impl Keeper {
 
     /// Whatever was seen of its line is a prefix of it.
     pub(crate) fn covers(&mut self, other: &HistoryPrefix)
-        requires { other.now.seen.book ≡ self.old.front.seen.book }
+        requires { book_of other.now ≡ history_of self.old }
         ensures front { self.new.front ≡ self.old.front }
-        ensures pen { self.new.pen.nib ≡ self.old.pen.nib }
-        ensures begins { (root : ℕ) → self.old.pen.nib.key ≡ next_right root self.old.front.seen.log
-            → IsPrefix (line root other.now.seen.log) (line root self.old.front.seen.log) }
+        ensures next_right { next_right_of self.new ≡ next_right_of self.old }
+        ensures begins { (root : ℕ) → HoldsNext root self.old
+            → IsPrefix (line_of root other.now) (line_of root self.old.front) }
     {
         let Keeper { head, pen, front } = self;
         let mut both = front.seen.again();

@@ -4,7 +4,7 @@ ghost use Rattle.std.specs.Prelude.{IfOk, [], map, ◌++◌, ◌<◌, ◌≡◌}
 ghost use mathlib.Core.List.{IsPrefix};
 ghost use Rattle.argus_model.specs.Effects.{table};
 ghost use Rattle.argus_board.specs.Effects.{IsTableOf, plain_contents};
-ghost use Rattle.argus_board.specs.History.{line};
+ghost use Rattle.argus_board.specs.HistoryPrefix.{book_of, line_of};
 
 use crate::board::Board;
 use crate::history_prefix::HistoryPrefix;
@@ -35,17 +35,17 @@ impl<N: Board> Model for Looker<N> {
     ghost use Rattle.left_right.specs.Sides.{view as seen_at};
     ghost use Rattle.argus_board.specs.Effects.{IsTableOf, effects_coded};
     ghost use Rattle.argus_contents.specs.Effect.{Effect};
-    ghost use Rattle.argus_board.specs.History.{line};
+    ghost use Rattle.argus_board.specs.HistoryPrefix.{book_of, line_of};
 
     ghost Value = { List Effect };
 
     ghost coded = { effects_coded };
 
-    ghost view = { λ k. N.before ++ line N.root k.front.seen.log };
+    ghost view = { λ k. N.before ++ line_of N.root k.front };
 
     ghost invariant = { λ k. IsTableOf N.opening_contents N.before N.first
-        × (seen_at k.reader.place ≡ line N.root k.front.seen.log)
-        × (k.front.seen.book ≡ N.history) × (0 < N.places) };
+        × (seen_at k.reader.place ≡ line_of N.root k.front)
+        × (book_of k.front ≡ N.history) × (0 < N.places) };
 }
 
 impl<N: Board> Looker<N> {
@@ -53,8 +53,8 @@ impl<N: Board> Looker<N> {
     pub(crate) fn at(writer: &Publisher<N>, front: &HistoryPrefix) -> Result<Looker<N>, OutOfMemory>
         requires places { 0 < N.places }
         requires first { IsTableOf N.opening_contents N.before N.first }
-        requires none { line N.root front.now.seen.log ≡ [] }
-        requires book { front.now.seen.book ≡ N.history }
+        requires none { line_of N.root front.now ≡ [] }
+        requires book { book_of front.now ≡ N.history }
         ensures { IfOk result (λ looker. looker ≡ N.before) }
     {
         Ok(Looker {

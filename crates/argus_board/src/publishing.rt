@@ -5,8 +5,10 @@ ghost use Rattle.std.specs.Prelude.{◌<◌, ◌∷◌, ◌≡◌, ◌≢◌};
 ghost use mathlib.Core.List.{IsPrefix};
 ghost use Rattle.left_right.specs.Sides.{view};
 ghost use Rattle.argus_board.specs.Effects.{contents_after, plain_contents};
-ghost use Rattle.argus_board.specs.History.{line};
-ghost use Rattle.argus_board.specs.Published.{absorbed, effects_in, pending_changes, table_state};
+ghost use Rattle.argus_board.specs.HistoryPrefix.{book_of, line_of};
+ghost use Rattle.argus_board.specs.Published.{AreTables, IsSameShow, ShowsAll, absorbed, seen_by};
+ghost use Rattle.argus_board.specs.Published.{shown_effects, shown_table, table_state, unseen};
+ghost use Rattle.argus_board.specs.Published.{unseen_effects};
 
 use crate::board::Board;
 use crate::board_change::BoardChange;
@@ -30,10 +32,9 @@ pub(crate) fn opened<N: Board>(
     requires readers { (0 < readers) × (readers < 4294967296) }
     requires first { plain_contents contents.items ≡ N.first }
     requires alike { plain_contents copy.items ≡ N.first }
-    requires front { (line N.root front.now.seen.log ≡ []) × (front.now.seen.book ≡ N.history) }
-    ensures { IfOk result (λ w. (view w.desk.place ≡ [])
-        × (table_state w.desk.shown.value ≡ (N.first, front.now))
-        × (pending_changes w.behind w.log.items ≡ [])) }
+    requires front { (line_of N.root front.now ≡ []) × (book_of front.now ≡ N.history) }
+    ensures { IfOk result (λ w. (shown_effects N.root w ≡ line_of N.root front.now)
+        × AreTables N.first N.root (line_of N.root front.now) w) }
 {
     let first = Table {
         contents,
@@ -53,31 +54,13 @@ pub(crate) fn publish<N: Board, R: Wait>(
     writer: &mut Publisher<N>,
     front: &HistoryPrefix,
 ) -> Result<(), OutOfMemory>
-    requires book { front.now.seen.book ≡ N.history }
-    requires view { view writer.old.desk.place
-        ≡ line N.root writer.old.desk.shown.value.front.seen.log }
-    requires contents { plain_contents writer.old.desk.shown.value.contents.items
-        ≡ contents_after N.first (line N.root writer.old.desk.shown.value.front.seen.log) }
-    requires whole { line N.root writer.old.desk.shown.value.front.seen.log
-        ++ effects_in (pending_changes writer.old.behind writer.old.log.items)
-        ≡ line N.root front.now.seen.log }
-    requires marks { effects_in (pending_changes writer.old.behind writer.old.log.items) ≡ []
-        → pending_changes writer.old.behind writer.old.log.items ≡ [] }
-    ensures view { view writer.new.desk.place
-        ≡ line N.root writer.new.desk.shown.value.front.seen.log }
-    ensures contents { plain_contents writer.new.desk.shown.value.contents.items
-        ≡ contents_after N.first (line N.root writer.new.desk.shown.value.front.seen.log) }
-    ensures whole { line N.root writer.new.desk.shown.value.front.seen.log
-        ++ effects_in (pending_changes writer.new.behind writer.new.log.items)
-        ≡ line N.root front.now.seen.log }
-    ensures marks { effects_in (pending_changes writer.new.behind writer.new.log.items) ≡ []
-        → pending_changes writer.new.behind writer.new.log.items ≡ [] }
-    ensures ok { OnOk result (effects_in (pending_changes writer.new.behind writer.new.log.items)
-        ≡ []) }
-    ensures err { OnErr result ((writer.new.desk.shown.value ≡ writer.old.desk.shown.value)
-        × (effects_in (pending_changes writer.new.behind writer.new.log.items)
-        ≡ effects_in (pending_changes writer.old.behind writer.old.log.items))
-        × (effects_in (pending_changes writer.old.behind writer.old.log.items) ≢ [])) }
+    requires book { book_of front.now ≡ N.history }
+    requires tables { AreTables N.first N.root (line_of N.root front.now) writer.old }
+    ensures tables { AreTables N.first N.root (line_of N.root front.now) writer.new }
+    ensures ok { OnOk result (unseen_effects writer.new ≡ []) }
+    ensures err { OnErr result ((shown_table writer.new ≡ shown_table writer.old)
+        × (unseen_effects writer.new ≡ unseen_effects writer.old)
+        × (unseen_effects writer.old ≢ [])) }
 {
     if !is_behind::<N>(&*writer) {
         return Ok(());
@@ -87,8 +70,8 @@ pub(crate) fn publish<N: Board, R: Wait>(
 }
 
 fn is_behind<N: Board>(writer: &Publisher<N>) -> bool
-    ensures none { result ≡ false → pending_changes writer.now.behind writer.now.log.items ≡ [] }
-    ensures some { result ≡ true → pending_changes writer.now.behind writer.now.log.items ≢ [] }
+    ensures none { result ≡ false → unseen writer.now ≡ [] }
+    ensures some { result ≡ true → unseen writer.now ≢ [] }
 {
     writer.has_pending_operations()
 }
@@ -99,10 +82,8 @@ pub(crate) fn append_change<N: Board>(
     change: BoardChange,
 ) -> Result<(), OutOfMemory>
     ensures desk { writer.new.desk ≡ writer.old.desk }
-    ensures ok { OnOk result (pending_changes writer.new.behind writer.new.log.items
-        ≡ pending_changes writer.old.behind writer.old.log.items ++ change ∷ []) }
-    ensures err { OnErr result (pending_changes writer.new.behind writer.new.log.items
-        ≡ pending_changes writer.old.behind writer.old.log.items) }
+    ensures ok { OnOk result (unseen writer.new ≡ unseen writer.old ++ change ∷ []) }
+    ensures err { OnErr result (unseen writer.new ≡ unseen writer.old) }
 {
     writer.append(change).map_err(|_| OutOfMemory)
 }
@@ -112,22 +93,12 @@ fn show<N: Board, R: Wait>(
     writer: &mut Publisher<N>,
     front: &HistoryPrefix,
 ) -> Result<(), OutOfMemory>
-    requires book { front.now.seen.book ≡ N.history }
-    requires begins { IsPrefix (line N.root writer.old.desk.shown.value.front.seen.log)
-        (line N.root front.now.seen.log) }
-    requires leaves { fold absorbed (table_state writer.old.desk.shown.value)
-        (pending_changes writer.old.behind writer.old.log.items)
-        ≡ (contents_after N.first (line N.root front.now.seen.log), front.now) }
-    ensures { MatchResult result
-        (λ _. (view writer.new.desk.place ≡ line N.root front.now.seen.log)
-        × (plain_contents writer.new.desk.shown.value.contents.items
-        ≡ contents_after N.first (line N.root front.now.seen.log))
-        × (writer.new.desk.shown.value.front ≡ front.now)
-        × (pending_changes writer.new.behind writer.new.log.items ≡ []))
-        (λ _. (view writer.new.desk.place ≡ view writer.old.desk.place)
-        × (writer.new.desk.shown.value ≡ writer.old.desk.shown.value)
-        × (pending_changes writer.new.behind writer.new.log.items
-        ≡ pending_changes writer.old.behind writer.old.log.items)) }
+    requires book { book_of front.now ≡ N.history }
+    requires begins { IsPrefix (shown_effects N.root writer.old) (line_of N.root front.now) }
+    requires leaves { fold absorbed (table_state (shown_table writer.old)) (unseen writer.old)
+        ≡ (contents_after N.first (line_of N.root front.now), front.now) }
+    ensures { MatchResult result (λ _. ShowsAll N.first N.root front.now writer.new)
+        (λ _. IsSameShow writer.old writer.new) }
 {
     replace_with(writer, (rt, front), |writer, with| {
         publish_owned::<N, R>(with.0, writer, with.1)
@@ -140,22 +111,12 @@ fn publish_owned<N: Board, R: Wait>(
     writer: Publisher<N>,
     front: &HistoryPrefix,
 ) -> (Publisher<N>, Result<(), OutOfMemory>)
-    requires book { front.now.seen.book ≡ N.history }
-    requires begins { IsPrefix (line N.root writer.desk.shown.value.front.seen.log)
-        (line N.root front.now.seen.log) }
-    requires leaves { fold absorbed (table_state writer.desk.shown.value)
-        (pending_changes writer.behind writer.log.items)
-        ≡ (contents_after N.first (line N.root front.now.seen.log), front.now) }
-    ensures { MatchResult result.1
-        (λ _. (view result.0.desk.place ≡ line N.root front.now.seen.log)
-        × (plain_contents result.0.desk.shown.value.contents.items
-        ≡ contents_after N.first (line N.root front.now.seen.log))
-        × (result.0.desk.shown.value.front ≡ front.now)
-        × (pending_changes result.0.behind result.0.log.items ≡ []))
-        (λ _. (view result.0.desk.place ≡ view writer.desk.place)
-        × (result.0.desk.shown.value ≡ writer.desk.shown.value)
-        × (pending_changes result.0.behind result.0.log.items
-        ≡ pending_changes writer.behind writer.log.items)) }
+    requires book { book_of front.now ≡ N.history }
+    requires begins { IsPrefix (shown_effects N.root writer) (line_of N.root front.now) }
+    requires leaves { fold absorbed (table_state (shown_table writer)) (unseen writer)
+        ≡ (contents_after N.first (line_of N.root front.now), front.now) }
+    ensures { MatchResult result.1 (λ _. ShowsAll N.first N.root front.now result.0)
+        (λ _. IsSameShow writer result.0) }
 {
     let (writer, shown) = writer.publish_as::<SeePublished<N>, R>(rt);
     (writer, shown.map_err(|_| OutOfMemory))
@@ -163,11 +124,8 @@ fn publish_owned<N: Board, R: Wait>(
 
 /// A reader that knows all that is published. It takes a free place, and waits for one.
 pub(crate) fn briefed_reader<N: Board, R: Wait>(rt: &R, writer: &mut Publisher<N>) -> BoardReader<N>
-    ensures reader { view result.place ≡ view writer.old.desk.place }
-    ensures view { view writer.new.desk.place ≡ view writer.old.desk.place }
-    ensures shown { writer.new.desk.shown ≡ writer.old.desk.shown }
-    ensures pending { pending_changes writer.new.behind writer.new.log.items
-        ≡ pending_changes writer.old.behind writer.old.log.items }
+    ensures reader { view result.place ≡ seen_by writer.old }
+    ensures writer { IsSameShow writer.old writer.new }
 {
     for _turn in rt.forever() {
         if let Ok(reader) = try_briefed_reader::<N>(writer) {
@@ -179,11 +137,8 @@ pub(crate) fn briefed_reader<N: Board, R: Wait>(rt: &R, writer: &mut Publisher<N
 
 /// A reader that knows all that is published, in a free place.
 fn try_briefed_reader<N: Board>(writer: &mut Publisher<N>) -> Result<BoardReader<N>, AllocError>
-    ensures reader { IfOk result (λ r. view r.place ≡ view writer.old.desk.place) }
-    ensures view { view writer.new.desk.place ≡ view writer.old.desk.place }
-    ensures shown { writer.new.desk.shown ≡ writer.old.desk.shown }
-    ensures pending { pending_changes writer.new.behind writer.new.log.items
-        ≡ pending_changes writer.old.behind writer.old.log.items }
+    ensures reader { IfOk result (λ r. view r.place ≡ seen_by writer.old) }
+    ensures writer { IsSameShow writer.old writer.new }
 {
     let mut reader = writer.factory().reader()?;
     reader.learn::<Notes>(writer.tell::<Notes>());

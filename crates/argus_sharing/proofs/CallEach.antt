@@ -42,9 +42,6 @@ module _ (journal : JournalView) (each : DemandedCall) (rest : List DemandedCall
   replies_end so_far now all unmet is whole =
       is ∙ ap (λ b. so_far ++ mine ∷ (if b then replies_of next rest else [])) (sym unmet) ∙ whole
 
-  pub end_unmet : is_met journal each ≡ false → Unmet ≡ end_of journal (each ∷ rest)
-  end_unmet unmet = ap (λ b. if b then end_of next rest else Unmet) (sym unmet)
-
 -- some call has a reply
 pub some_reply : (journal : JournalView) (calls : List DemandedCall) → 0 < length calls → 0 < length (replies_of journal calls)
 some_reply journal [] none = none

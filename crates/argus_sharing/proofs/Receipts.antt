@@ -109,13 +109,6 @@ module _ (s : Opening) (j : List PlainEntry) (all : List Receipt) where
       (first_fault s j (earlier ++ r.at ∷ []) (map plain_receipt (drop (suc i) all)))
   first_at earlier i r b e h = h ∙ ap (λ x. first_fault s j earlier (map plain_receipt x)) (behind all i r b e)
 
-  pub next_from : (earlier new : List ℕ) (i : ℕ) (r : Receipt) → i < length all → r ≡ get_or all i r
-      → FaultFrom earlier i → receipt_fault s j earlier (plain_receipt r) ≡ None → new ≡ earlier ++ r.at ∷ []
-      → FaultFrom new (suc i)
-  next_from earlier new i r b e h fine n = first_at earlier i r b e h
-      ∙ ap (λ x. option_or x (first_fault s j (earlier ++ r.at ∷ []) (map plain_receipt (drop (suc i) all)))) fine
-      ∙ ap (λ x. first_fault s j x (map plain_receipt (drop (suc i) all))) (sym n)
-
   pub fault_at : (earlier : List ℕ) (i : ℕ) (r : Receipt) (f : SettleFault) → i < length all → r ≡ get_or all i r
       → FaultFrom earlier i → IsSettleAnswer (receipt_fault s j earlier (plain_receipt r)) f
       → IsSettleAnswer (first_fault s j [] (map plain_receipt all)) f

@@ -7,7 +7,7 @@ ghost use Rattle.argus_core.specs.ReadyCommit.{added_by_call};
 ghost use Rattle.argus_journal.specs.JournalView.{after, reply_to};
 ghost use Rattle.argus_sharing.specs.Following.{GoesOn, IsNoCommit};
 
-use crate::commit_told::{Added, CommitTold};
+use crate::ghost_commit::{Added, GhostCommit};
 use crate::sharing::Sharing;
 use argus_actions::ActionId;
 use argus_board::BoardWriter;
@@ -100,12 +100,12 @@ impl<N: Sharing, R: Wait + Drop> PublishingGuardian<N, R> {
             return replace_with(self, a, |publishing, a| publishing.committed(a));
         }
         let PublishingGuardian { guardian, board } = self;
-        let told = CommitTold {
+        let made = GhostCommit {
             before: Snapshot::of(&*guardian),
             action: a,
         };
         let reply = guardian.commit(a)?;
-        board.append_told::<CommitTold, Added>(&told);
+        board.append_told::<GhostCommit, Added>(&made);
         Ok(reply)
     }
 

@@ -133,7 +133,7 @@ impl<N: Sharing, R: Wait + Drop> Shared<N, R> {
         ensures err { OnErr result (seat.new.made ≡ seat.old.made) }
     {
         let receipt = self.take(rt).call(seat, call)?;
-        self.wake_behind(may_end(&receipt.call), &receipt.reply);
+        self.wake_if_ended(may_end(&receipt.call), &receipt.reply);
         Ok(receipt)
     }
 
@@ -157,7 +157,7 @@ impl<N: Sharing, R: Wait + Drop> Shared<N, R> {
     {
         let may_end = may_end(&call);
         let answered = self.take(rt).answer(seat, call)?;
-        self.wake_behind(may_end, &answered.reply);
+        self.wake_if_ended(may_end, &answered.reply);
         Ok(answered)
     }
 
@@ -184,7 +184,7 @@ impl<N: Sharing, R: Wait + Drop> Shared<N, R> {
         let receipt = self
             .take_without_conflict(rt, &call, patience)
             .call(seat, call)?;
-        self.wake_behind(may_end(&receipt.call), &receipt.reply);
+        self.wake_if_ended(may_end(&receipt.call), &receipt.reply);
         Ok(receipt)
     }
 
@@ -206,7 +206,7 @@ impl<N: Sharing, R: Wait + Drop> Shared<N, R> {
         let answered = self
             .take_without_conflict(rt, &call, patience)
             .answer(seat, call)?;
-        self.wake_behind(may_end, &answered.reply);
+        self.wake_if_ended(may_end, &answered.reply);
         Ok(answered)
     }
 

@@ -15,7 +15,7 @@ use std::sync::Wait;
 impl<N: Sharing, R: Wait + Drop> Shared<N, R> {
     /// Wakes all waiting threads, if the call was one that may end actions, and got an answer.
     #[inline(always)]
-    pub(crate) fn wake_behind(&self, may_end: bool, reply: &Reply) {
+    pub(crate) fn wake_if_ended(&self, may_end: bool, reply: &Reply) {
         if may_end && is_answered(reply) {
             self.freed.notify_all();
         }

@@ -1,4 +1,4 @@
-//! `CommitTold`: a commit, as contracts see it.
+//! `GhostCommit`: a commit, as contracts see it.
 
 use argus_actions::ActionId;
 use argus_board::TellsEffects;
@@ -7,7 +7,7 @@ use std::snapshot::Snapshot;
 
 /// A commit: the guardian before it, which only contracts see, and the action.
 #[derive(Drop)]
-pub(crate) struct CommitTold {
+pub(crate) struct GhostCommit {
     pub(crate) before: Snapshot<Guardian>,
     pub(crate) action: ActionId,
 }
@@ -15,9 +15,9 @@ pub(crate) struct CommitTold {
 /// A commit stands for what it adds to the effects.
 pub(crate) struct Added;
 
-impl TellsEffects<CommitTold> for Added {
+impl TellsEffects<GhostCommit> for Added {
     ghost use Rattle.argus_core.specs.ReadyCommit.{added_by_call};
     ghost use Rattle.argus_entries.specs.Call.{commit};
 
-    ghost effects = { λ told. added_by_call told.before.value (commit told.action.0) };
+    ghost effects = { λ made. added_by_call made.before.value (commit made.action.0) };
 }
