@@ -1,13 +1,12 @@
 -- Several calls: what one more call adds.
-use Rattle.std.proofs.Common.{List, [], ap, append_assoc, append-nil, arith, drop, length, refl, subst, suc, sym, ℕ, ◌++◌, ◌∙◌, ◌∷◌, ◌≡◌, ◌≢◌, ◌≤◌}
+use Rattle.std.proofs.Common.{List, [], ap, append_assoc, append-nil, arith, drop, length, refl, subst, suc, sym, ◌++◌, ◌∙◌, ◌∷◌, ◌≡◌, ◌≤◌}
 use Rattle.std.proofs.Math.Bool.{and-true, and_assoc}
-use Rattle.std.specs.Prelude.{Bool, Option, Some, ◌&&◌}
+use Rattle.std.specs.Prelude.{Bool, ◌&&◌}
 use Rattle.argus_journal.specs.Call.{PlainCall}
 use Rattle.argus_journal.specs.JournalView.{JournalView, after, reply_to}
 use Rattle.argus_journal.specs.Reply.{PlainReply}
-use Rattle.argus_embed.specs.Embedded.{reply_lines}
 use Rattle.argus_embed.specs.declared.listed_call.ListedCall.{ListedCall}
-use Rattle.argus_embed.specs.CallEach.{SayEach, SaysAfter, after_calls, are_met, is_met, lines_or, replies_to}
+use Rattle.argus_embed.specs.CallEach.{SayEach, SaysAfter, after_calls, are_met, is_met, replies_to}
 
 pub calls_more : (journal : JournalView) (calls : List PlainCall) (call : PlainCall)
     → after_calls journal (calls ++ call ∷ []) ≡ after (after_calls journal calls) call
@@ -68,9 +67,3 @@ say_count journal before [] (made ∷ calls) says = absurd says
 say_count journal before (first ∷ listed) (made ∷ calls) says =
     let rest = say_count (after journal made) (before ++ reply_to journal made ∷ []) listed calls says.1 in
     omega arith
-
--- where there is a reply, what is kept is their lines
-pub lines_kept : (text : Option (List ℕ)) (replies : List PlainReply) → length replies ≢ 0
-    → Some (reply_lines replies) ≡ lines_or text replies
-lines_kept text [] some = absurd (some refl)
-lines_kept text (reply ∷ replies) some = refl

@@ -5,7 +5,6 @@ pub mod CallEach
 pub mod Outcomes
 pub mod Next
 pub mod Listed
-pub mod ReplyLines
 pub mod JournalLines
 pub mod KeptObjects
 pub mod Quiet

@@ -1,14 +1,13 @@
 -- What a call of a list stands for.
-use Rattle.std.proofs.Common.{List, None, Some, ap, get_or, inr, length, map, refl, suc, sym, zero, ℕ, ◌<◌, ◌∙◌, ◌≡◌, ◌≢◌, ◌≤◌}
+use Rattle.std.proofs.Common.{List, None, Some, ap, get_or, inr, length, map, suc, sym, ℕ, ◌<◌, ◌∙◌, ◌≡◌, ◌≤◌}
 use Rattle.std.proofs.lemmas.Option.{slice_get-get_or, slice_get-map, slice_get_past}
 use Rattle.std.specs.Option.{option_map}
 use Rattle.std.specs.Prelude.{Option}
 use Rattle.argus_journal.specs.Call.{PlainCall}
 use Rattle.argus_journal.specs.Reply.{PlainReply, plain_reply}
 use Rattle.argus_journal.specs.declared.Reply.{Reply}
-use Rattle.argus_embed.specs.CallEach.{IsUnreadWith, SaysWith, action_begun, action_by, demand_of, request_of}
+use Rattle.argus_embed.specs.CallEach.{IsUnreadWith, SaysWith, action_begun, action_by, request_of}
 use Rattle.argus_embed.specs.Requests.{IsRead}
-use Rattle.argus_embed.specs.declared.embed_error.EmbedError.{EmbedError}
 use Rattle.argus_embed.specs.declared.embed_error.EmbedError.TheVariants as error
 use Rattle.argus_embed.specs.declared.listed_call.ListedCall.{ListedCall}
 
@@ -19,13 +18,6 @@ unread_for_memory None each call says = absurd says
 unread_for_memory (Some action) each call says =
     let read : IsRead (request_of each action) each.text.now = says.2 in
     inr (says.0, read.0)
-
--- there are three demands
-pub no_demand : (n : ℕ) → n ≢ 0 → n ≢ 1 → n ≢ 2 → None ≡ demand_of n
-no_demand zero first second third = absurd (first refl)
-no_demand (suc zero) first second third = absurd (second refl)
-no_demand (suc (suc zero)) first second third = absurd (third refl)
-no_demand (suc (suc (suc n))) first second third = refl
 
 -- the action is the one that an earlier call began, as its reply says
 pub begun_there : (items : List Reply) (n place action : ℕ) (r d : Reply) → n ≡ suc place → place < length items

@@ -1,20 +1,27 @@
 -- If a run stops before its end, its state is a prefix of what the run comes to.
 use Rattle.std.proofs.Common.{◌≡◌, ℕ, suc, Bool, true, ◌<◌, List, ◌∷◌, ◌++◌, length, get_or, drop, Option, None, Result}
+use Rattle.std.proofs.Common.{Some, Vec, rules}
+use Rattle.std.specs.declared.alloc.Global.{Global}
+use Rattle.argus_memory.specs.declared.limited.Limited.{Limited}
 use Rattle.std.proofs.Common.{Ok, Err, OnErr, sym, ◌∙◌, ap, drop-cons}
 use Rattle.argus_actions.specs.declared.action_id.ActionId.{ActionId}
-use Rattle.argus_language.specs.PlainStep.{more, plain_step, plain_steps}
+use Rattle.argus_language.specs.PlainStep.{PlainSteps, block, more, plain_step, plain_steps}
+use Rattle.argus_language.specs.declared.action_kind.ActionKind.{ActionKind}
+use Rattle.argus_language.specs.declared.block_kind.BlockKind.TheVariants as opening
+use Rattle.argus_language.specs.declared.block_kind.BlockKind.{BlockKind}
 use Rattle.argus_language.specs.declared.step.Step.{Step}
+use Rattle.argus_language.specs.declared.step.Step as S
 use Rattle.argus_contents.specs.Shape.{PlainShape}
 use Rattle.argus_contents.specs.declared.obj_id.ObjId.{ObjId}
 use Rattle.argus_entries.specs.Call.{PlainCall}
 use Rattle.argus_entries.specs.Reply.{PlainReply}
 use Rattle.argus_runs.specs.RunOutcome.{RunOutcome, finished}
-use Rattle.argus_runs.specs.Running.{begin_all, begin_arm, run_arm, run_arms, run_step, run_steps, run_top, run_tops}
-use Rattle.argus_runs.specs.Running.{with_front}
+use Rattle.argus_runs.specs.Running.{begin_all, begin_arm, begin_one, finish, run_arm, run_arms, run_step, run_steps}
+use Rattle.argus_runs.specs.Running.{run_top, run_tops, with_front}
 use Rattle.argus_runs.specs.RunPrefix.{IsRunPrefix}
-use Rattle.argus_runs.proofs.Growth.{ExtendingCalls, ArmRunner, arms_grow, begin_on, begin_on_grows, go_on, go_on_grows}
-use Rattle.argus_runs.proofs.Growth.{parts_grow}
-use Rattle.argus_runs.proofs.Growth.{tops_grow, within_then}
+use Rattle.argus_runs.proofs.Growth.{ExtendingCalls, arms_grow, begin_on, begin_on_grows, finish_grows, go_on}
+use Rattle.argus_runs.proofs.Growth.{go_on_grows, parts_grow, tops_grow, within_then}
+use Rattle.argus_runs.proofs.Simulation.{ArmRunner}
 
 pub on_err : {S X A E : Type 0} (r : Result A E) (k a : Bool) (is_prefix : S → S → Type 0) (s : S) (m : RunOutcome S X)
     → (k ≡ true → a ≡ true → IsRunPrefix is_prefix s m) → OnErr r (k ≡ true → a ≡ true → IsRunPrefix is_prefix s m)
@@ -23,6 +30,13 @@ on_err (Err e) k a is_prefix s m p = p
 
 item : {A : Type 0} (xs : List A) (i : ℕ) (x : A) → i < length xs → x ≡ get_or xs i x → drop i xs ≡ x ∷ drop (suc i) xs
 item xs i x b e = drop-cons xs i x b ∙ ap (λ y. y ∷ drop (suc i) xs) (sym e)
+
+plain-block : (o : BlockKind) (v : Vec Step (Limited Global)) → plain_step (S.Block o v) ≡ block o (plain_steps v.items)
+plain-block o v = search (rules, S.the_lemmas)
+
+pub is_block : (x : Step) (o k : BlockKind) (v : Vec Step (Limited Global)) → x ≡ S.Block o v → o ≡ k
+    → plain_step x ≡ block k (plain_steps v.items)
+is_block x o k v e d = ap plain_step e ∙ plain-block o v ∙ ap (λ h. block h (plain_steps v.items)) d
 
 module _ (S : Type 0) (is_prefix : S → S → Type 0) (reply : PlainCall → S → RunOutcome S PlainReply)
     (arm_runner : ArmRunner S)
@@ -55,6 +69,22 @@ module _ (S : Type 0) (is_prefix : S → S → Type 0) (reply : PlainCall → S 
       (go_on S is_prefix reply arm_runner l
       ns ps w) q
       (go_on_grows S is_prefix reply arm_runner l ns ps w (parts_grow S is_prefix reply arm_runner l ns ps))))
+
+  -- of a block's action, where it begins and where its steps stop
+  pub enter_early : (ns : List ObjId) (k : ActionKind) (ps : PlainSteps) (w : Option ActionId) (a : ActionId) (s v u : S)
+      → begin_one S reply arm_runner k w s ≡ finished (Some a) v
+      → IsRunPrefix is_prefix u (run_steps S reply arm_runner ns ps (Some a) v)
+      → IsRunPrefix is_prefix u (run_step S reply arm_runner ns (block (opening.Enter k) ps) w s)
+  enter_early ns k ps w a s v u e q = rw e (within_then S is_prefix reply arm_runner l u
+      (run_steps S reply arm_runner ns ps (Some a) v) (finish S reply arm_runner a) q
+      (finish_grows S is_prefix reply arm_runner l a))
+
+  pub arm_early : (ns : List ObjId) (k : ActionKind) (ps : PlainSteps) (a : ActionId) (s u : S)
+      → IsRunPrefix is_prefix u (run_steps S reply arm_runner ns ps (Some a) s)
+      → IsRunPrefix is_prefix u (run_step S reply arm_runner ns (block (opening.Arm k) ps) (Some a) s)
+  arm_early ns k ps a s u q = within_then S is_prefix reply arm_runner l u
+      (run_steps S reply arm_runner ns ps (Some a) s) (finish S reply arm_runner a) q
+      (finish_grows S is_prefix reply arm_runner l a)
 
   pub tops_early : (shapes : List PlainShape) (ns : List ObjId) (steps : List Step) (i : ℕ) (x : Step) (m : RunOutcome S
       (List ObjId)) (u t : S)

@@ -4,8 +4,9 @@ ghost use Rattle.std.specs.Prelude.{Bool, IfOk, List, None, OnErr, Option, cond,
 ghost use Rattle.std.specs.Prelude.{◌≡◌};
 ghost use Rattle.argus_actions.specs.declared.action_id.ActionId.{ActionId};
 ghost use Rattle.argus_language.specs.PlainStep.{PlainSteps, plain_steps};
+ghost use Rattle.argus_contents.specs.Change.{plain_change};
 ghost use Rattle.argus_contents.specs.declared.obj_id.ObjId.{ObjId};
-ghost use Rattle.argus_entries.specs.Call.{PlainCall, plain_call};
+ghost use Rattle.argus_entries.specs.Call.{PlainCall, alter, plain_call};
 ghost use Rattle.argus_entries.specs.Reply.{PlainReply, plain_reply};
 ghost use Rattle.argus_runs.specs.RunOutcome.{Finishes, RunOutcome, finished};
 ghost use Rattle.argus_runs.specs.Running.{access, run_arms, run_arms_by_runner};
@@ -17,7 +18,7 @@ use crate::accessing::flow_of;
 use crate::flow::Flow;
 use crate::stopped::Stopped;
 use argus_actions::ActionId;
-use argus_contents::ObjId;
+use argus_contents::{Change, ObjId};
 use argus_entries::{Call, Reply};
 use argus_language::Step;
 use argus_memory::Heap;
@@ -84,6 +85,21 @@ pub trait Caller {
     {
         let reply = self.call(call)?;
         Ok(flow_of(&reply))
+    }
+
+    /// Makes the access that is this change of the object. It is `access` of the call, for a caller
+    /// that makes the call where it records it. `Stopped`: as in `call`.
+    fn alter(&mut self, action: ActionId, object: ObjId, change: Change) -> Result<Flow, Stopped>
+        requires ready { ready self.old }
+        ensures ready { ready self.new }
+        ensures kept { preserved self.old self.new }
+        ensures told { Finishes is_determined result (λ f. f) (access State reply arm_runner
+            (alter action.0 object.0 (plain_change change)) (state self.old)) (state self.new) }
+        ensures early { StopsEarly is_determined calls_extend is_prefix result
+            (access State reply arm_runner (alter action.0 object.0 (plain_change change))
+            (state self.old)) (state self.new) }
+    {
+        self.access(Call::Alter(action, object, change))
     }
 
     /// Runs the arms of a coenter if it has a way of its own, otherwise returns false. `begun` has

@@ -5,11 +5,13 @@ ghost use Rattle.argus_language.specs.Script.{plain_script};
 ghost use Rattle.argus_runs.specs.Played.{IsPlay, play};
 ghost use Rattle.argus_runs.specs.RunPrefix.{IsJournalPrefix, IsRunPrefix};
 
+use crate::accessing::flow_of;
 use crate::caller::Caller;
-use crate::sources::run_from_sources;
+use crate::flow::Flow;
+use crate::running::run_script;
 use crate::stopped::Stopped;
 use argus_actions::ActionId;
-use argus_contents::ObjId;
+use argus_contents::{Change, ObjId};
 use argus_core::Guardian;
 use argus_entries::{Call, Reply};
 use argus_language::{Script, Step};
@@ -57,6 +59,14 @@ impl Caller for Guardian {
         }
     }
 
+    // The guardian makes the call where it records it.
+    fn alter(&mut self, action: ActionId, object: ObjId, change: Change) -> Result<Flow, Stopped> {
+        match self.alter(action, object, change) {
+            Ok(reply) => Ok(flow_of(&reply)),
+            Err(_) => Err(Stopped),
+        }
+    }
+
     fn arms(
         &mut self,
         _heap: Heap,
@@ -90,8 +100,8 @@ pub fn run_without_output(
         (play (plain_script script.now) guardian.old)) }
     ensures kept { IsJournalPrefix guardian.old guardian.new }
 {
-    match run_from_sources(guardian, script, &heap) {
-        Ok(()) => Ok(()),
+    match run_script(heap, guardian, script) {
+        Ok(_numbers) => Ok(()),
         Err(_) => Err(OutOfMemory),
     }
 }

@@ -4,10 +4,10 @@ ghost use Rattle.std.specs.Prelude.{Some, length, ◌≡◌};
 ghost use Rattle.argus_language.specs.PlainStep.{block, plain_step, plain_steps};
 ghost use Rattle.argus_language.specs.declared.block_kind.BlockKind.TheVariants as opening;
 ghost use Rattle.argus_runs.specs.RunOutcome.{Finishes};
-ghost use Rattle.argus_runs.specs.Running.{run_arm, run_arms, run_body, run_step, run_steps};
+ghost use Rattle.argus_runs.specs.Running.{run_arm, run_arms, run_step, run_steps};
 ghost use Rattle.argus_runs.specs.RunPrefix.{StopsEarly};
 
-use crate::accessing::{call_to_test, flow_of, is_yes, run_alter, run_ask};
+use crate::accessing::{call_to_test, flow_of, is_yes};
 use crate::beginning::{begin, begin_arms};
 use crate::caller::Caller;
 use crate::ending::finish_block;
@@ -16,7 +16,8 @@ use crate::numbers::object_at;
 use crate::stopped::Stopped;
 use argus_actions::ActionId;
 use argus_contents::ObjId;
-use argus_language::{ActionKind, BlockKind, Lock, Step};
+use argus_entries::Call;
+use argus_language::{BlockKind, Lock, Step};
 use argus_memory::Heap;
 
 /// Runs steps of an action, or at top level, until one ends the block. `numbers` are the objects
@@ -75,94 +76,42 @@ pub(crate) fn run_step<C: Caller>(
 {
     match step {
         Step::Declare => Ok(Flow::On),
-        Step::Ask(x, query) => run_ask(caller, numbers, *x, *query, within),
-        Step::Alter(x, change) => run_alter(heap, caller, numbers, *x, change, within),
+        Step::Ask(x, query) => match within {
+            None => Ok(Flow::On),
+            Some(action) => caller.access(Call::Ask(action, object_at(numbers, *x), *query)),
+        },
+        Step::Alter(x, change) => match within {
+            None => Ok(Flow::On),
+            Some(action) => {
+                let change = change.duplicate(heap)?;
+                caller.alter(action, object_at(numbers, *x), change)
+            }
+        },
         Step::Leave => Ok(Flow::Leave),
         Step::AbortLeave => Ok(Flow::AbortLeave),
         Step::LeaveAll => Ok(Flow::LeaveAll),
-        Step::Block(opening, body) => run_block(heap, caller, numbers, *opening, body, within),
-    }
-}
-
-#[cycle(run)]
-fn run_block<C: Caller>(
-    heap: Heap,
-    caller: &mut C,
-    numbers: &[ObjId],
-    opening: BlockKind,
-    body: &[Step],
-    within: Option<ActionId>,
-) -> Result<Flow, Stopped>
-    requires ready { C.ready caller.old }
-    ensures ready { C.ready caller.new }
-    ensures kept { C.preserved caller.old caller.new }
-    ensures told { Finishes C.is_determined result (λ f. f)
-        (run_step C.State C.reply C.arm_runner numbers.now (block opening
-        (plain_steps body.now)) within (C.state caller.old)) (C.state caller.new) }
-    ensures early { StopsEarly C.is_determined C.calls_extend C.is_prefix result
-        (run_step C.State C.reply C.arm_runner numbers.now (block opening
-        (plain_steps body.now)) within (C.state caller.old)) (C.state caller.new) }
-{
-    match opening {
-        BlockKind::Enter(kind) => run_entered(heap, caller, numbers, kind, body, within),
-        BlockKind::If(lock, x) => match within {
-            None => Ok(Flow::On),
-            Some(action) => run_if(heap, caller, numbers, lock, x, body, action),
-        },
-        BlockKind::Coenter => run_coenter(heap, caller, numbers, body, within),
-        BlockKind::Arm(_) => match within {
-            None => Ok(Flow::On),
-            Some(action) => run_body(heap, caller, numbers, body, action),
+        Step::Block(opening, body) => match *opening {
+            BlockKind::Enter(kind) => match begin(caller, kind, within)? {
+                None => Ok(Flow::On),
+                Some(action) => {
+                    let flow = run_steps(heap, caller, numbers, body, Some(action))?;
+                    finish_block(caller, action, flow)
+                }
+            },
+            BlockKind::If(lock, x) => match within {
+                None => Ok(Flow::On),
+                Some(action) => run_if(heap, caller, numbers, lock, x, body, action),
+            },
+            BlockKind::Coenter => run_coenter(heap, caller, numbers, body, within),
+            BlockKind::Arm(_) => match within {
+                None => Ok(Flow::On),
+                Some(action) => {
+                    let flow = run_steps(heap, caller, numbers, body, Some(action))?;
+                    finish_block(caller, action, flow)
+                }
+            },
         },
     }
-}
-
-#[cycle(run)]
-fn run_entered<C: Caller>(
-    heap: Heap,
-    caller: &mut C,
-    numbers: &[ObjId],
-    kind: ActionKind,
-    body: &[Step],
-    within: Option<ActionId>,
-) -> Result<Flow, Stopped>
-    requires ready { C.ready caller.old }
-    ensures ready { C.ready caller.new }
-    ensures kept { C.preserved caller.old caller.new }
-    ensures told { Finishes C.is_determined result (λ f. f)
-        (run_step C.State C.reply C.arm_runner numbers.now (block (opening.Enter kind)
-        (plain_steps body.now)) within (C.state caller.old)) (C.state caller.new) }
-    ensures early { StopsEarly C.is_determined C.calls_extend C.is_prefix result
-        (run_step C.State C.reply C.arm_runner numbers.now (block (opening.Enter kind)
-        (plain_steps body.now)) within (C.state caller.old)) (C.state caller.new) }
-{
-    match begin(caller, kind, within)? {
-        None => Ok(Flow::On),
-        Some(action) => run_body(heap, caller, numbers, body, action),
-    }
-}
-
-// The steps of an action, and its end.
-#[cycle(run)]
-fn run_body<C: Caller>(
-    heap: Heap,
-    caller: &mut C,
-    numbers: &[ObjId],
-    body: &[Step],
-    action: ActionId,
-) -> Result<Flow, Stopped>
-    requires ready { C.ready caller.old }
-    ensures ready { C.ready caller.new }
-    ensures kept { C.preserved caller.old caller.new }
-    ensures told { Finishes C.is_determined result (λ f. f)
-        (run_body C.State C.reply C.arm_runner numbers.now (plain_steps body.now) action
-        (C.state caller.old)) (C.state caller.new) }
-    ensures early { StopsEarly C.is_determined C.calls_extend C.is_prefix result
-        (run_body C.State C.reply C.arm_runner numbers.now (plain_steps body.now) action
-        (C.state caller.old)) (C.state caller.new) }
-{
-    let flow = run_steps(heap, caller, numbers, body, Some(action))?;
-    finish_block(caller, action, flow)
 }
 
 #[cycle(run)]
