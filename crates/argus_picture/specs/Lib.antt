@@ -7,6 +7,5 @@ pub mod Naming
 pub mod Named
 pub mod Frame
 pub mod DrawError
-pub mod EntrySpacing
 pub mod Escaping
 pub mod Canvas

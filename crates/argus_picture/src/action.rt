@@ -1,12 +1,14 @@
 //! `Action`: an action of a run, from its begin to its end.
 
 use crate::fate::Fate;
-use crate::origin::Origin;
 
 /// An action of a run: the entries at which it began and ended, and their lines in the listing.
 #[derive(Clone, Copy)]
 pub(crate) struct Action<'a> {
-    pub origin: Origin,
+    /// The action that began it, by its place in the run; `None` for a topaction.
+    pub creator: Option<usize>,
+    /// The creator of a subaction, which gets its locks and its changes when it commits.
+    pub parent: Option<usize>,
     pub fate: Fate,
     pub begin: u32,
     /// `None` while the action is live.

@@ -1,126 +1,166 @@
-//! Draws the actions of a picture: their bars, and the lines between bars.
+//! Draws the actions of a picture: their bars, the lines between bars, and the refused calls.
 
 use crate::action::Action;
-use crate::canvas::Canvas;
-use crate::escaping::open_group;
-use crate::fate::Fate;
 use crate::frame::{BAR, Frame, bar_top, entry_left};
 use crate::life::{Life, life_of, life_within};
-use crate::origin::Origin;
-use crate::refusal_drawing::draw_refused;
+use crate::limits::MAX_ROWS;
+use crate::pen::Pen;
+use crate::refused_call::RefusedCall;
 use crate::run::Run;
-use argus_memory::{Heap, OutOfMemory, Room};
-use std::fmt::Write;
 
 /// Draws the lines between bars, then the bars, then the refused calls.
-pub(crate) fn draw_actions(
-    heap: Heap,
-    run: &Run<'_>,
-    frame: &Frame,
-    canvas: &mut Canvas,
-) -> Result<(), OutOfMemory> {
+pub(crate) fn draw_actions(pen: &mut Pen, run: &Run<'_>) {
     for action in &run.actions {
-        draw_tie(run, frame, action, &mut canvas.last)?;
+        draw_tie(pen, run, action);
     }
-    draw_bars(run, frame, &mut canvas.last)?;
-    draw_refused(heap, run, frame, canvas)
+    draw_bars(pen, run);
+    draw_refused(pen, run);
 }
 
 // Draws the line from the bar of the action that began this one down to its own bar, if both have a
 // row.
-fn draw_tie(
-    run: &Run<'_>,
-    frame: &Frame,
-    action: &Action<'_>,
-    out: &mut String<Room>,
-) -> Result<(), OutOfMemory> {
-    let (Some(row), Some(upper)) = (action.row, run.row(action.origin.creator())) else {
-        return Ok(());
+fn draw_tie(pen: &mut Pen, run: &Run<'_>, action: &Action<'_>) {
+    let (Some(row), Some(upper)) = (action.row, run.row(action.creator)) else {
+        return;
     };
-    let class = match action.origin {
-        Origin::Top | Origin::Sub(_) => "stem",
-        Origin::Nested(_) => "tie",
+    let class = if action.parent.is_some() {
+        "stem"
+    } else {
+        "tie"
     };
-    let x = entry_left(frame, action.begin);
-    let from = bar_top(frame, upper).saturating_add(BAR);
-    let to = bar_top(frame, row);
-    write!(out, "<path class=\"{class}\" d=\"M{x} {from}V{to}\"/>\n")?;
-    Ok(())
+    let x = entry_left(&pen.frame, action.begin);
+    let from = bar_top(&pen.frame, upper).saturating_add(BAR);
+    let to = bar_top(&pen.frame, row);
+    pen.line(class, x, from, "V", to);
+    pen.put("\n");
 }
 
-fn draw_bars(run: &Run<'_>, frame: &Frame, out: &mut String<Room>) -> Result<(), OutOfMemory> {
+fn draw_bars(pen: &mut Pen, run: &Run<'_>) {
     let mut number = u64::from(run.first_action);
     for action in &run.actions {
         if let Some(row) = action.row {
-            open_group(action.first_line, action.last_line, out)?;
-            let life = life_drawn(run, action);
-            draw_bar(frame, action.fate, life, row, number, out)?;
-            out.push_str("</g>\n")?;
+            draw_bar(pen, action, life_drawn(run, action), row, number);
         }
         number = number.saturating_add(1);
     }
-    Ok(())
 }
 
 // The part of the action's life that is drawn: what lies within its parent's life.
 fn life_drawn(run: &Run<'_>, action: &Action<'_>) -> Life {
     let life = life_of(action.begin, action.end, run.entries);
-    match run.action(action.origin.parent()) {
+    match run.action(action.parent) {
         Some(parent) => life_within(life, life_of(parent.begin, parent.end, run.entries)),
         None => life,
     }
 }
 
-fn draw_bar(
-    frame: &Frame,
-    fate: Fate,
-    life: Life,
-    row: u32,
-    number: u64,
-    out: &mut String<Room>,
-) -> Result<(), OutOfMemory> {
-    let x = entry_left(frame, life.begin);
-    let y = bar_top(frame, row);
-    let end = entry_left(frame, life.end);
+// Draws the action's bar with the sign at its end. The title has its first line and its last.
+fn draw_bar(pen: &mut Pen, action: &Action<'_>, life: Life, row: u32, number: u64) {
+    let x = entry_left(&pen.frame, life.begin);
+    let y = bar_top(&pen.frame, row);
+    let end = entry_left(&pen.frame, life.end);
     let wide = end.saturating_sub(x).max(3);
-    let class = fate.class();
-    write!(
-        out,
-        "<rect class=\"bar {class}\" x=\"{x}\" y=\"{y}\" width=\"{wide}\" height=\"{BAR}\"/>"
-    )?;
-    if wide >= 12 {
-        draw_end(fate, end, y, out)?;
+    let class = action.fate.class();
+    pen.put("<g><title>");
+    pen.put_escaped(action.first_line);
+    if action.first_line == action.last_line {
+        pen.put("</title>");
+    } else {
+        pen.end_title(action.last_line);
     }
-    if wide >= room_for(number) {
-        let left = x.saturating_add(4);
-        let line = y.saturating_add(11);
-        write!(
-            out,
-            "<text class=\"name on-{class}\" x=\"{left}\" y=\"{line}\">a{number}</text>"
-        )?;
+    pen.rect(["bar ", class], x, y, wide, BAR);
+    pen.put("/>");
+    if let (Some((cross, shape)), true) = (action.fate.sign(), wide >= 12) {
+        pen.path(cross, end, y, shape);
     }
-    Ok(())
+    let (left, line) = (x.saturating_add(4), y.saturating_add(11));
+    pen.action(["name on-", class], left, line, number, wide);
+    pen.put("</g>\n");
 }
 
-/// How wide a bar, or a lock in a lane, has to be for the number of its action, in pixels.
-pub(crate) fn room_for(number: u64) -> u64 {
-    match number {
-        0..=9 => 24,
-        10..=99 => 31,
-        100..=9_999 => 45,
-        _ => 90,
+// Draws each refused call as a diamond, on its caller's bar, or above all bars if it has none. The
+// name of the refusal is written below if the name before it in the row leaves room. Otherwise
+// only the title has it.
+fn draw_refused(pen: &mut Pen, run: &Run<'_>) {
+    let mut taken = [0u64; MAX_ROWS + 1];
+    for call in &run.refused {
+        let row = run.row(call.caller);
+        let x = entry_left(&pen.frame, call.at);
+        let y = top_of(&pen.frame, row);
+        open_refused(pen, run, call);
+        if let (Some(_), Some(holder)) = (row, run.row(call.holder)) {
+            draw_against(pen, x, y, holder);
+        }
+        pen.path("mark", x, y.saturating_add(1), "l6 6l-6 6l-6 -6z");
+        if let Some(until) = taken.get_mut(row.unwrap_or(MAX_ROWS as u32) as usize) {
+            if *until <= x {
+                draw_why(pen, call, x, y);
+                *until = x.saturating_add(width_of_why(call));
+            }
+        }
+        pen.put("</g>\n");
     }
 }
 
-// Draws the sign at the end of a bar, such as a cross for an abort.
-fn draw_end(fate: Fate, x: u64, y: u64, out: &mut String<Room>) -> Result<(), OutOfMemory> {
-    let (class, sign) = match fate {
-        Fate::Committed => return Ok(()),
-        Fate::Live => ("arrow", "l8 7l-8 7z"),
-        Fate::AbortedAlone => ("cross", "m-4 3l8 8m0 -8l-8 8"),
-        Fate::AbortedWithAncestor => ("cross", "m-4 7h8"),
-        Fate::AbortedBySibling => ("cross", "m4 2l-8 5l8 5"),
+// The top of the row's bars; without a row, of the place above all bars.
+fn top_of(frame: &Frame, row: Option<u32>) -> u64 {
+    match row {
+        Some(row) => bar_top(frame, row),
+        None => 82,
+    }
+}
+
+// How many pixels the name of the refusal takes.
+fn width_of_why(call: &RefusedCall<'_>) -> u64 {
+    let letters = (call.why().len() as u64).min(1000);
+    6 * letters + 10
+}
+
+// Whether the next refused call in the row leaves room for the object's name, too. That name isn't
+// known yet, and is taken to have ten letters.
+fn has_room_for_name(frame: &Frame, call: &RefusedCall<'_>) -> bool {
+    let Some(next) = call.next else {
+        return true;
     };
-    write!(out, "<path class=\"{class}\" d=\"M{x} {y}{sign}\"/>")?;
-    Ok(())
+    let room = entry_left(frame, next).saturating_sub(entry_left(frame, call.at));
+    room >= width_of_why(call).saturating_add(66)
+}
+
+// Begins the call's group. The title says which object it is about, and whose lock was in the way.
+fn open_refused(pen: &mut Pen, run: &Run<'_>, call: &RefusedCall<'_>) {
+    pen.put("<g><title>");
+    if let Some(asked) = call.asked {
+        pen.put(if call.is_conflict {
+            "Conflict over "
+        } else {
+            "call on "
+        });
+        pen.put_name(asked.object);
+        if let Some(holder) = call.holder {
+            pen.put(", held by ");
+            pen.put_action(run.number(holder));
+        }
+        pen.put("\n");
+    }
+    pen.put_escaped(call.line);
+    pen.put("</title>");
+}
+
+// Writes why the call was refused; of a conflict also over which object, if there is room.
+fn draw_why(pen: &mut Pen, call: &RefusedCall<'_>, x: u64, y: u64) {
+    pen.text("small refusal", x.saturating_sub(4), y.saturating_add(24));
+    pen.put_escaped(call.why());
+    let is_named = call.is_conflict && has_room_for_name(&pen.frame, call);
+    if let (Some(asked), true) = (call.asked, is_named) {
+        pen.put(" ");
+        pen.put_name(asked.object);
+    }
+    pen.put("</text>");
+}
+
+// Draws the line from a refused call to the bar of the holder whose lock was in the way.
+fn draw_against(pen: &mut Pen, x: u64, y: u64, holder: u32) {
+    let to = bar_top(&pen.frame, holder).saturating_add(7);
+    pen.line("against", x, y.saturating_add(7), "V", to);
+    pen.circle("holder", x, to, 4);
 }

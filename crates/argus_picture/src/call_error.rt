@@ -1,7 +1,7 @@
 //! `CallError`: why a call with its reply was not accepted.
 
 use argus_memory::OutOfMemory;
-use std::alloc::{AllocError, AllocFailed};
+use std::alloc::AllocFailed;
 
 /// Why a call with its reply was not accepted.
 #[derive(Clone, Copy)]
@@ -13,12 +13,6 @@ pub(crate) enum CallError {
 
 impl From<OutOfMemory> for CallError {
     fn from(_refused: OutOfMemory) -> CallError {
-        CallError::OutOfMemory
-    }
-}
-
-impl From<AllocError> for CallError {
-    fn from(_refused: AllocError) -> CallError {
         CallError::OutOfMemory
     }
 }

@@ -1,67 +1,57 @@
-//! How actions commit, and how locks are got and released.
+//! How actions commit and are aborted, and how locks are got and released.
 
 use crate::call_error::CallError;
 use crate::fate::Fate;
 use crate::held_lock::HeldLock;
 use crate::limits::MAX_LANES;
+use crate::live::{first_free, mark};
 use crate::lock_asked::{LockAsked, lock_key};
 use crate::run::Run;
-use argus_memory::{Heap, OutOfMemory};
+use argus_memory::{OutOfMemory, Room};
 
 impl<'a> Run<'a> {
-    /// Gives the action the lock, unless it has it already.
-    pub(crate) fn take_lock(
-        &mut self,
-        place: usize,
-        asked: LockAsked,
-        line: &'a str,
-    ) -> Result<(), CallError> {
-        if asked.object >= self.objects.len() {
-            return Err(CallError::Unlawful);
-        }
-        if self.has_lock(place, asked) {
+    /// Gives the action this lock on a declared object, unless it has it already.
+    pub(crate) fn take_lock(&mut self, action: usize, asked: LockAsked) -> Result<(), OutOfMemory> {
+        let object = asked.object as usize;
+        let key = lock_key(action, asked);
+        if self.live.held.get(&key).is_some() {
             return Ok(());
         }
-        self.add_lock(place, asked, line)?;
-        Ok(())
-    }
-
-    fn add_lock(
-        &mut self,
-        place: usize,
-        asked: LockAsked,
-        line: &'a str,
-    ) -> Result<(), OutOfMemory> {
-        let strip = self.free_strip(asked.object);
-        if strip.is_none() {
-            self.without_strip = self.without_strip.saturating_add(1);
-        }
+        let strip = self.take_strip(object);
         let at = self.put_lock(HeldLock {
-            action: place,
-            object: asked.object,
-            writes: asked.writes,
+            action,
+            asked,
             begin: self.entries,
             end: None,
             strip,
-            line,
+            line: self.line,
         })?;
-        self.live.held.insert(lock_key(place, asked), at)?;
-        self.live.locks.append(place, at);
-        self.live.holders.append(asked.object, at);
-        self.mark_strip(asked.object, strip, true);
+        self.live.held.insert(key, at)?;
+        self.live.locks.append(action, at);
+        self.live.holders.append(object, at);
         Ok(())
+    }
+
+    // Takes the first strip of the object's lane in which no lock is held.
+    fn take_strip(&mut self, object: usize) -> Option<u32> {
+        let told = self.objects.get_mut(object)?;
+        let strip = first_free(&told.strips, 0);
+        mark(&mut told.strips, strip, true);
+        if strip.is_none() {
+            self.without_strip = self.without_strip.saturating_add(1);
+        }
+        strip
     }
 
     // The index that the lock gets: a new one, or that of a lock that has ended, if neither is
     // drawn.
     fn put_lock(&mut self, lock: HeldLock<'a>) -> Result<usize, OutOfMemory> {
-        if lock.object >= MAX_LANES as usize {
-            if let Some(at) = self.live.spare.pop() {
-                if let Some(ended) = self.holds.get_mut(at) {
-                    *ended = lock;
-                    return Ok(at);
-                }
-            }
+        if lock.asked.object >= MAX_LANES
+            && let Some(at) = self.live.spare.pop()
+            && let Some(ended) = self.holds.get_mut(at)
+        {
+            *ended = lock;
+            return Ok(at);
         }
         let at = self.holds.len();
         self.live.add_lock()?;
@@ -76,83 +66,54 @@ impl<'a> Run<'a> {
             return Ok(());
         };
         hold.end = Some(entries);
-        let (place, strip) = (hold.action, hold.strip);
-        let (object, writes) = (hold.object, hold.writes);
-        self.live
-            .held
-            .remove(&lock_key(place, LockAsked { object, writes }));
-        self.live.locks.remove(place, at);
+        let (action, asked, strip) = (hold.action, hold.asked, hold.strip);
+        let object = asked.object as usize;
+        self.live.held.remove(&lock_key(action, asked));
+        self.live.locks.remove(action, at);
         self.live.holders.remove(object, at);
-        self.mark_strip(object, strip, false);
-        if object >= MAX_LANES as usize {
+        if let Some(told) = self.objects.get_mut(object) {
+            mark(&mut told.strips, strip, false);
+        }
+        if asked.object >= MAX_LANES {
             self.live.spare.push(at)?;
         }
         Ok(())
     }
 
-    // Says whether a lock is held in this strip of the object's lane; without a strip nothing.
-    fn mark_strip(&mut self, object: usize, strip: Option<u32>, is_taken: bool) {
-        if let (Some(told), Some(strip)) = (self.objects.get_mut(object), strip) {
-            if let Some(mark) = told.strips.get_mut(strip as usize) {
-                *mark = is_taken;
-            }
-        }
-    }
-
     /// Commits the action. Its locks go to its parent; if it has none, they are released.
-    pub(crate) fn commit(
-        &mut self,
-        heap: Heap,
-        place: usize,
-        line: &'a str,
-    ) -> Result<(), CallError> {
+    pub(crate) fn commit(&mut self, place: usize) -> Result<(), CallError> {
         if self.live.begun.first(place).is_some() {
             return Err(CallError::Unlawful);
         }
-        self.pass_locks_on(heap, place, line)?;
-        self.end(place, Fate::Committed, line);
-        match self.parent(place) {
+        let parent = self.parent(place);
+        for at in self.live.locks.places(self.heap, place)? {
+            self.pass_on(at, parent)?;
+        }
+        self.end(place, Fate::Committed);
+        match parent {
             Some(parent) => self.live.merged.append(parent, place),
             None => self.serial.push(place)?,
         }
         Ok(())
     }
 
-    fn pass_locks_on(&mut self, heap: Heap, place: usize, line: &'a str) -> Result<(), CallError> {
-        let parent = self.parent(place);
-        for _ in 0..self.holds.len() {
-            let Some(at) = self.live.locks.first(place) else {
-                return Ok(());
-            };
-            self.pass_on(heap, at, parent, line)?;
-        }
-        Ok(())
-    }
-
     // Ends the lock at index `at`: the parent gets it. Without a parent it is released, and what
     // the action wrote becomes the object's base.
-    fn pass_on(
-        &mut self,
-        heap: Heap,
-        at: usize,
-        parent: Option<usize>,
-        line: &'a str,
-    ) -> Result<(), CallError> {
+    fn pass_on(&mut self, at: usize, parent: Option<usize>) -> Result<(), CallError> {
         let Some(hold) = self.holds.get(at).copied() else {
             return Ok(());
         };
         self.release(at)?;
-        let (object, writes) = (hold.object, hold.writes);
         match parent {
-            Some(parent) => self.take_lock(parent, LockAsked { object, writes }, line),
-            None if writes => self.settle(heap, hold.action, object, line),
+            Some(parent) => Ok(self.take_lock(parent, hold.asked)?),
+            None if hold.asked.writes => self.settle(hold.action, hold.asked.object),
             None => Ok(()),
         }
     }
 
     /// Ends the action with this fate. If it had committed before, that stays its end.
-    pub(crate) fn end(&mut self, place: usize, fate: Fate, line: &'a str) {
-        let entries = self.entries;
+    pub(crate) fn end(&mut self, place: usize, fate: Fate) {
+        let (entries, line) = (self.entries, self.line);
         let Some(action) = self.actions.get_mut(place) else {
             return;
         };
@@ -162,10 +123,100 @@ impl<'a> Run<'a> {
         }
         action.end = Some(entries);
         action.last_line = line;
-        let (row, creator) = (action.row, action.origin.creator());
-        self.live.mark_row(row, false);
+        let (row, creator) = (action.row, action.creator);
+        mark(&mut self.live.rows, row, false);
         if let Some(creator) = creator {
             self.live.begun.remove(creator, place);
         }
     }
+
+    /// Aborts the action, or with `others` all its live siblings; each with its subactions, theirs,
+    /// and so on.
+    pub(crate) fn abort(&mut self, place: usize, others: bool) -> Result<(), OutOfMemory> {
+        let mut doomed = Vec::new(self.heap.room());
+        if others {
+            self.doom_siblings(place, &mut doomed)?;
+        } else {
+            self.doom(place, Fate::AbortedAlone, &mut doomed)?;
+        }
+        self.doom_below(&mut doomed)?;
+        for place in doomed.iter() {
+            self.discard(*place)?;
+        }
+        Ok(())
+    }
+
+    // Gives the action this fate, and adds it to the doomed ones, which are being aborted.
+    fn doom(&mut self, place: usize, fate: Fate, doomed: &mut Places) -> Result<(), OutOfMemory> {
+        doomed.push(place)?;
+        self.end(place, fate);
+        Ok(())
+    }
+
+    // Dooms the live actions that the same action began.
+    fn doom_siblings(&mut self, place: usize, doomed: &mut Places) -> Result<(), OutOfMemory> {
+        let Some(creator) = self.action(Some(place)).and_then(|action| action.creator) else {
+            return Ok(());
+        };
+        for sibling in self.live.begun.places(self.heap, creator)? {
+            if sibling != place {
+                self.doom(sibling, Fate::AbortedBySibling, doomed)?;
+            }
+        }
+        Ok(())
+    }
+
+    // Dooms the subactions of the doomed actions, theirs, and so on.
+    fn doom_below(&mut self, doomed: &mut Places) -> Result<(), OutOfMemory> {
+        for at in 0..self.actions.len() {
+            let Some(place) = doomed.get(at).copied() else {
+                return Ok(());
+            };
+            let begun = self.live.begun.places(self.heap, place)?;
+            self.doom_each(begun, doomed)?;
+            let merged = self.live.merged.places(self.heap, place)?;
+            self.doom_each(merged, doomed)?;
+        }
+        Ok(())
+    }
+
+    // Dooms those of these actions that are subactions. Nested topactions go on.
+    fn doom_each(&mut self, places: Places, doomed: &mut Places) -> Result<(), OutOfMemory> {
+        for place in places {
+            if self.parent(place).is_some() {
+                self.doom(place, Fate::AbortedWithAncestor, doomed)?;
+            }
+        }
+        Ok(())
+    }
+
+    // Releases the locks of the doomed action, and undoes what was changed under them.
+    fn discard(&mut self, place: usize) -> Result<(), OutOfMemory> {
+        for at in self.live.locks.places(self.heap, place)? {
+            self.release(at)?;
+            self.undo_at(at);
+        }
+        Ok(())
+    }
+
+    // Drops the last changes of the lock's object, as far as they were made by aborted actions.
+    fn undo_at(&mut self, at: usize) {
+        let Some(hold) = self.holds.get(at) else {
+            return;
+        };
+        let Some(told) = self.objects.get_mut(hold.asked.object as usize) else {
+            return;
+        };
+        for _ in 0..told.writes.len() {
+            let Some((action, _)) = told.writes.last() else {
+                return;
+            };
+            match self.actions.get(*action) {
+                Some(action) if action.fate.is_aborted() => told.writes.pop(),
+                Some(_) | None => return,
+            };
+        }
+    }
 }
+
+type Places = Vec<usize, Room>;

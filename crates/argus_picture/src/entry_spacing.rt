@@ -1,7 +1,7 @@
 //! `EntrySpacing`: how far apart a picture's entries are.
 
 ghost use Rattle.std.specs.Prelude.{◌≡◌, ◌≢◌, ◌*◌};
-ghost use Rattle.argus_picture.specs.EntrySpacing.{pixels_of, spacing_for, tick_of};
+ghost use Rattle.argus_picture.specs.Frame.{pixels_of, spacing_for, tick_of};
 
 /// How far apart a picture's entries are: the more there are, the closer together.
 ///
@@ -10,10 +10,6 @@ ghost use Rattle.argus_picture.specs.EntrySpacing.{pixels_of, spacing_for, tick_
 /// | `Wide` | up to 64 | 28 |
 /// | `Middle` | up to 512 | 12 |
 /// | `Narrow` | more | 4 |
-///
-/// ```text
-/// assert!(rt; pixels(EntrySpacing::for_entries(65), 10) == 120);
-/// ```
 #[derive(Clone, Copy)]
 pub(crate) enum EntrySpacing {
     Wide,

@@ -1,4 +1,4 @@
-//! Escapes texts for a picture: titles, and texts that are cut short.
+//! Texts for a picture: escaped, or cut short.
 
 ghost use Rattle.std.specs.Prelude.{OnOk, encode_utf8, string_bytes, ◌++◌, ◌≡◌};
 ghost use Rattle.argus_picture.specs.Escaping.{escape, escaped};
@@ -37,34 +37,10 @@ fn append_character(character: char, out: &mut String<Room>) -> Result<(), OutOf
     Ok(())
 }
 
-/// Begins a group with these lines as its title. The second line is left out if both are the same.
-pub(crate) fn open_group(
-    first: &str,
-    last: &str,
-    out: &mut String<Room>,
-) -> Result<(), OutOfMemory> {
-    out.push_str("<g><title>")?;
-    append_escaped(first, out)?;
-    if first != last {
-        out.push_str("\n")?;
-        append_escaped(last, out)?;
-    }
-    out.push_str("</title>")?;
-    Ok(())
-}
-
-/// Appends the first letters of the text, escaped, and an ellipsis if there are more.
-pub(crate) fn append_shortened(
-    text: &str,
-    letters: usize,
-    out: &mut String<Room>,
-) -> Result<(), OutOfMemory> {
+/// The first letters of the text, and an ellipsis if there are more.
+pub(crate) fn first_letters(text: &str, letters: usize) -> (&str, &'static str) {
     match text.char_indices().nth(letters) {
-        Some((end, _)) => {
-            append_escaped(text.get(..end).unwrap_or(""), out)?;
-            out.push_str("\u{2026}")?;
-        }
-        None => append_escaped(text, out)?,
+        Some((end, _)) => (text.get(..end).unwrap_or(""), "\u{2026}"),
+        None => (text, ""),
     }
-    Ok(())
 }

@@ -9,12 +9,6 @@ use crate::entry_spacing::{EntrySpacing, pixels};
 /// The size of a picture: how far apart its entries are, how many entries, rows of actions, lanes
 /// of objects and lines of the serial order's table there are. All coordinates follow from it, in
 /// pixels from the upper left corner.
-///
-/// ```text
-/// let step = EntrySpacing::for_entries(2);
-/// let frame = Frame { step, entries: 2, rows: 1, lanes: 0, lines: 1 };
-/// assert!(rt; entry_left(&frame, 1) == 196);
-/// ```
 #[derive(Clone, Copy)]
 pub(crate) struct Frame {
     pub step: EntrySpacing,

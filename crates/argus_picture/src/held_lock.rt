@@ -1,12 +1,12 @@
 //! `HeldLock`: a lock that an action had on an object.
 
-/// A lock that an action held: on which object, from which entry to which, and the line that got
-/// it.
+use crate::lock_asked::LockAsked;
+
+/// A lock that an action held: which one, from which entry to which, and the line that got it.
 #[derive(Clone, Copy)]
 pub(crate) struct HeldLock<'a> {
     pub action: usize,
-    pub object: usize,
-    pub writes: bool,
+    pub asked: LockAsked,
     pub begin: u32,
     /// `None` while it is held.
     pub end: Option<u32>,

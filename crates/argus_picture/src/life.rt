@@ -4,10 +4,6 @@ ghost use Rattle.std.specs.Prelude.{IfNone, IfSome, max, min, ◌<◌, ◌≡◌
 
 /// The entries between which an action is live, from the one at which it began to the one at which
 /// it ended.
-///
-/// ```text
-/// assert!(rt; life_of(2, Some(5), 9).end == 5);
-/// ```
 #[derive(Clone, Copy)]
 pub(crate) struct Life {
     pub begin: u32,
@@ -33,10 +29,6 @@ pub(crate) fn life_of(begin: u32, end: Option<u32>, last: u32) -> Life
 /// they have no entry in common, it is a single entry, the one of the outer life that is nearest.
 ///
 /// Condition: the outer life doesn't end before it begins.
-///
-/// ```text
-/// assert!(rt; life_within(Life { begin: 2, end: 9 }, Life { begin: 4, end: 6 }).end == 6);
-/// ```
 pub(crate) fn life_within(life: Life, outer: Life) -> Life
     requires { outer.begin ≤ outer.end }
     ensures begins { outer.begin ≤ result.begin }

@@ -1,7 +1,6 @@
 //! `Lists`: many lists of places, in which a place is found, added and taken out in a step.
 
 use argus_memory::{Heap, OutOfMemory, Room};
-use std::mem::replace;
 
 /// Many lists of places. Each place is in one list at most, and stands behind those that were
 /// appended before.
@@ -14,110 +13,97 @@ use std::mem::replace;
 /// ```
 #[derive(Drop)]
 pub(crate) struct Lists {
-    ends: Vec<Ends, Room>,
-    neighbours: Vec<Neighbours, Room>,
+    lists: Vec<Neighbours, Room>,
+    places: Vec<Neighbours, Room>,
 }
 
-/// The first and the last place of a list.
-#[derive(Clone, Copy)]
-struct Ends {
-    first: Option<usize>,
-    last: Option<usize>,
-}
-
-/// The places before and behind a place in its list.
+/// The places before and behind a place in its list. The list itself stands, as `None`, before its
+/// first place and behind its last.
 #[derive(Clone, Copy)]
 struct Neighbours {
     before: Option<usize>,
     behind: Option<usize>,
 }
 
+/// Without neighbours.
+const ALONE: Neighbours = Neighbours {
+    before: None,
+    behind: None,
+};
+
 impl Lists {
     /// No list, and no place.
     pub(crate) fn new(heap: Heap) -> Lists {
         Lists {
-            ends: Vec::new(heap.room()),
-            neighbours: Vec::new(heap.room()),
+            lists: Vec::new(heap.room()),
+            places: Vec::new(heap.room()),
         }
     }
 
     /// Adds an empty list.
     pub(crate) fn add_list(&mut self) -> Result<(), OutOfMemory> {
-        self.ends.push(Ends {
-            first: None,
-            last: None,
-        })?;
-        Ok(())
+        Ok(self.lists.push(ALONE)?)
     }
 
     /// Adds a place that is in no list.
     pub(crate) fn add_place(&mut self) -> Result<(), OutOfMemory> {
-        self.neighbours.push(Neighbours {
-            before: None,
-            behind: None,
-        })?;
-        Ok(())
+        Ok(self.places.push(ALONE)?)
     }
 
     /// The first place of the list.
     pub(crate) fn first(&self, list: usize) -> Option<usize> {
-        self.ends.get(list)?.first
+        self.lists.get(list)?.behind
     }
 
     /// The next place of its list.
     pub(crate) fn behind(&self, place: usize) -> Option<usize> {
-        self.neighbours.get(place)?.behind
+        self.places.get(place)?.behind
+    }
+
+    /// The places of the list, in order.
+    pub(crate) fn places(&self, heap: Heap, list: usize) -> Result<Vec<usize, Room>, OutOfMemory> {
+        let mut places = Vec::new(heap.room());
+        let mut next = self.first(list);
+        for _ in 0..self.places.len() {
+            let Some(place) = next else {
+                return Ok(places);
+            };
+            places.push(place)?;
+            next = self.behind(place);
+        }
+        Ok(places)
     }
 
     /// Adds a place that is in no list at the end of this one.
     pub(crate) fn append(&mut self, list: usize, place: usize) {
-        let Some(ends) = self.ends.get_mut(list) else {
-            return;
-        };
-        let last = replace(&mut ends.last, Some(place));
-        if ends.first.is_none() {
-            ends.first = Some(place);
+        if let Some(own) = self.lists.get(list).copied() {
+            self.tie(list, own.before, Some(place));
+            self.tie(list, Some(place), None);
         }
-        self.tie(last, Some(place));
     }
 
     /// Takes the place out of this list.
     pub(crate) fn remove(&mut self, list: usize, place: usize) {
-        let Some(own) = self.neighbours.get(place).copied() else {
-            return;
-        };
-        self.tie(own.before, own.behind);
-        if let Some(neighbours) = self.neighbours.get_mut(place) {
-            neighbours.before = None;
-            neighbours.behind = None;
-        }
-        self.move_ends(list, own);
-    }
-
-    // Moves the ends of the list inwards, from a place that had these neighbours.
-    fn move_ends(&mut self, list: usize, own: Neighbours) {
-        let Some(ends) = self.ends.get_mut(list) else {
-            return;
-        };
-        if own.before.is_none() {
-            ends.first = own.behind;
-        }
-        if own.behind.is_none() {
-            ends.last = own.before;
+        if let Some(own) = self.places.get(place).copied() {
+            self.tie(list, own.before, own.behind);
         }
     }
 
-    // Makes both places neighbours. `None` stands for the end of a list.
-    fn tie(&mut self, before: Option<usize>, behind: Option<usize>) {
-        if let Some(place) = before {
-            if let Some(neighbours) = self.neighbours.get_mut(place) {
-                neighbours.behind = behind;
-            }
+    // Makes both neighbours in the list.
+    fn tie(&mut self, list: usize, before: Option<usize>, behind: Option<usize>) {
+        if let Some(neighbours) = self.neighbours(list, before) {
+            neighbours.behind = behind;
         }
-        if let Some(place) = behind {
-            if let Some(neighbours) = self.neighbours.get_mut(place) {
-                neighbours.before = before;
-            }
+        if let Some(neighbours) = self.neighbours(list, behind) {
+            neighbours.before = before;
+        }
+    }
+
+    // The neighbours of the place, or of the list itself.
+    fn neighbours(&mut self, list: usize, place: Option<usize>) -> Option<&mut Neighbours> {
+        match place {
+            Some(place) => self.places.get_mut(place),
+            None => self.lists.get_mut(list),
         }
     }
 }

@@ -56,14 +56,25 @@ impl Live {
         self.locks.add_place()?;
         self.holders.add_place()
     }
+}
 
-    /// Says whether the row has a live action; without a row nothing.
-    pub(crate) fn mark_row(&mut self, row: Option<u32>, is_taken: bool) {
-        let Some(row) = row else {
-            return;
-        };
-        if let Some(mark) = self.rows.get_mut(row as usize) {
-            *mark = is_taken;
+/// The first place from this one on that isn't taken.
+pub(crate) fn first_free(taken: &[bool], from: usize) -> Option<u32> {
+    let mut place = 0u32;
+    for is_taken in taken {
+        if !*is_taken && place as usize >= from {
+            return Some(place);
         }
+        place = place.saturating_add(1);
+    }
+    None
+}
+
+/// Says whether the place is taken; without a place nothing.
+pub(crate) fn mark(taken: &mut [bool], place: Option<u32>, is_taken: bool) {
+    if let Some(place) = place
+        && let Some(mark) = taken.get_mut(place as usize)
+    {
+        *mark = is_taken;
     }
 }

@@ -22,6 +22,11 @@ pub enum NamesError {
 }
 
 impl From<OutOfMemory> for NamesError {
+    ghost use Rattle.std.specs.Prelude.{◌≡◌};
+    ghost use Rattle.argus_picture.specs.declared.names_error.NamesError.TheVariants as error;
+
+    ghost from_gives = { λ _ e. e ≡ error.OutOfMemory };
+
     fn from(_refused: OutOfMemory) -> NamesError {
         NamesError::OutOfMemory
     }

@@ -5,12 +5,9 @@ ghost use Rattle.argus_contents.specs.Content.{KeepsBounds, KeepsLimits, plain_o
 
 use crate::call_error::CallError;
 use crate::limits::MAX_STRIPS;
-use crate::write::Write;
 use argus_contents::limits::{MAX_BOUND, MAX_ITEMS, MIN_BOUND};
 use argus_contents::{Change, Content, Shape, alter_in_place, change_fits, fits};
-use argus_memory::{Heap, OutOfMemory, Room};
-use argus_texts::write_shape;
-use std::mem::replace;
+use argus_memory::{Heap, Room};
 
 /// A declared object: its shape, its base (the content that committed topactions have left in it),
 /// and the line of the listing that it comes from.
@@ -23,40 +20,15 @@ pub(crate) struct Object<'a> {
     /// Whether the base is known to fit the shape. Objects that it refers to stay declared, and a
     /// change leaves what fits.
     pub is_fitting: bool,
-    /// The changes that aren't in the base, in the order in which they were made. Some of those
-    /// that were undone may still be there.
-    pub writes: Vec<Write, Room>,
+    /// The changes that aren't in the base, in the order in which they were made, each behind its
+    /// action. Some of those that were undone may still be there.
+    pub writes: Vec<(usize, Change), Room>,
     /// In which strips of its lane a lock is held.
     pub strips: [bool; MAX_STRIPS],
     pub line: &'a str,
 }
 
-impl<'a> Object<'a> {
-    /// An object from a line of the listing.
-    pub(crate) fn new(
-        heap: Heap,
-        shape: Shape,
-        base: Option<Content>,
-        line: &'a str,
-    ) -> Result<Object<'a>, OutOfMemory> {
-        let mut shape_text = String::new(heap.room());
-        write_shape(&shape, &mut shape_text)?;
-        Ok(Object {
-            shape,
-            shape_text,
-            base,
-            is_fitting: false,
-            writes: Vec::new(heap.room()),
-            strips: [false; MAX_STRIPS],
-            line,
-        })
-    }
-
-    /// The changes that aren't in the base; none is left.
-    pub(crate) fn take_writes(&mut self, heap: Heap) -> Vec<Write, Room> {
-        replace(&mut self.writes, Vec::new(heap.room()))
-    }
-
+impl Object<'_> {
     /// Applies the change to the base. `declared` is how many objects there are for references to
     /// name.
     pub(crate) fn make_for_good(
@@ -66,10 +38,10 @@ impl<'a> Object<'a> {
         change: &Change,
     ) -> Result<(), CallError> {
         self.is_fitting = self.is_fitting || base_fits(&self.shape, &self.base, declared);
-        if !self.is_fitting || !change_fits(&self.shape, declared, change) {
-            return Err(CallError::Unlawful);
-        }
-        if !keeps_limits(&self.base) {
+        if !self.is_fitting
+            || !change_fits(&self.shape, declared, change)
+            || !keeps_limits(&self.base)
+        {
             return Err(CallError::Unlawful);
         }
         alter_in_place(heap, &mut self.base, change)?;

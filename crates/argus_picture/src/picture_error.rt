@@ -22,6 +22,11 @@ pub enum PictureError {
 }
 
 impl From<OutOfMemory> for PictureError {
+    ghost use Rattle.std.specs.Prelude.{◌≡◌};
+    ghost use Rattle.argus_picture.specs.declared.picture_error.PictureError.TheVariants as error;
+
+    ghost from_gives = { λ _ e. e ≡ error.OutOfMemory };
+
     fn from(_refused: OutOfMemory) -> PictureError {
         PictureError::OutOfMemory
     }

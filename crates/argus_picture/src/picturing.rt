@@ -12,11 +12,11 @@ use crate::legend::{LEGEND, LOOKS};
 use crate::limits::{MAX_LANES, TALL};
 use crate::object_drawing::draw_objects;
 use crate::order_drawing::{draw_order, draw_table};
+use crate::pen::Pen;
 use crate::picture_error::PictureError;
 use crate::run::Run;
-use crate::sketching::sketch_listing;
+use crate::sketch::sketch_listing;
 use argus_memory::{Heap, OutOfMemory, Room};
-use std::fmt::Write;
 
 /// The picture of a journal's listing: an SVG 1.1 document, without scripts and links. Objects are
 /// called by their numbers.
@@ -32,39 +32,20 @@ pub fn picture(heap: Heap, listing: &[u8]) -> Result<String<Room>, PictureError>
     ensures fault { IfErr result (λ e. SaysOfListing e listing.now) }
 {
     let sketch = sketch_listing(heap, listing)?;
-    match sketch.text(heap) {
-        Ok(text) => Ok(text),
-        Err(OutOfMemory) => Err(PictureError::OutOfMemory),
-    }
+    Ok(sketch.text(heap)?)
 }
 
-/// Draws the run on the canvas.
-pub(crate) fn draw_run(heap: Heap, run: &Run<'_>, canvas: &mut Canvas) -> Result<(), OutOfMemory> {
-    let frame = frame_of(run);
-    draw_page(run, &frame, &mut canvas.last)?;
-    draw_actions(heap, run, &frame, canvas)?;
-    draw_order(run, &frame, &mut canvas.last)?;
-    draw_objects(heap, run, &frame, canvas)?;
-    draw_table(run, &frame, &mut canvas.last)?;
-    draw_counts(run, &frame, height(&frame), &mut canvas.last)?;
-    canvas.last.push_str("</svg>\n")?;
-    Ok(())
-}
-
-// Draws the style sheet, the legend, and the numbers of entries.
-fn draw_page(run: &Run<'_>, frame: &Frame, out: &mut String<Room>) -> Result<(), OutOfMemory> {
-    let (wide, high) = (width(frame), height(frame));
-    out.push_str("<svg xmlns=\"http://www.w3.org/2000/svg\" version=\"1.1\"")?;
-    write!(out, " width=\"{wide}\" height=\"{high}\"")?;
-    write!(out, " viewBox=\"0 0 {wide} {high}\">\n")?;
-    out.push_str("<title>The run that a journal tells</title>\n")?;
-    out.push_str(LOOKS)?;
-    write!(
-        out,
-        "<rect class=\"page\" width=\"{wide}\" height=\"{high}\"/>\n"
-    )?;
-    out.push_str(LEGEND)?;
-    draw_axis(run, frame, out)
+/// Draws the run.
+pub(crate) fn draw_run(heap: Heap, run: &Run<'_>) -> Result<Canvas, OutOfMemory> {
+    let mut pen = Pen::new(heap, frame_of(run));
+    draw_page(&mut pen, run);
+    draw_actions(&mut pen, run);
+    draw_order(&mut pen, run);
+    draw_objects(&mut pen, run);
+    draw_table(&mut pen, run);
+    draw_counts(&mut pen, run);
+    pen.put("</svg>\n");
+    pen.finish()
 }
 
 // The frame, which has room for all rows and lanes.
@@ -75,92 +56,78 @@ fn frame_of(run: &Run<'_>) -> Frame {
             rows = rows.max(row.saturating_add(1));
         }
     }
-    let mut lanes = MAX_LANES;
-    if run.objects.len() < MAX_LANES as usize {
-        lanes = run.objects.len() as u32;
-    }
     Frame {
         step: EntrySpacing::for_entries(run.entries),
         entries: run.entries,
         rows,
-        lanes,
+        lanes: run.objects.len().min(MAX_LANES as usize) as u32,
         lines: lines_of_table(run.serial.len()),
     }
 }
 
+// Draws the style sheet, the legend, and the numbers of entries.
+fn draw_page(pen: &mut Pen, run: &Run<'_>) {
+    let (wide, high) = (width(&pen.frame), height(&pen.frame));
+    pen.put("<svg xmlns=\"http://www.w3.org/2000/svg\" version=\"1.1\"");
+    pen.set(" width=\"", wide);
+    pen.set(" height=\"", high);
+    pen.put(" viewBox=\"0 0 ");
+    pen.put_number(wide);
+    pen.set(" ", high);
+    pen.put(">\n<title>The run that a journal tells</title>\n");
+    pen.put(LOOKS);
+    pen.put("<rect class=\"page\"");
+    pen.set(" width=\"", wide);
+    pen.set(" height=\"", high);
+    pen.put("/>\n");
+    pen.put(LEGEND);
+    draw_axis(pen, run);
+}
+
 // Draws the numbers of entries, each with a line from top to bottom; in a tall picture also at the
 // bottom.
-fn draw_axis(run: &Run<'_>, frame: &Frame, out: &mut String<Room>) -> Result<(), OutOfMemory> {
-    let bottom = lanes_end(frame).saturating_add(6);
-    let tick = frame.step.tick();
-    for entry in 0..frame.entries {
+fn draw_axis(pen: &mut Pen, run: &Run<'_>) {
+    let bottom = lanes_end(&pen.frame).saturating_add(6);
+    let tick = pen.frame.step.tick();
+    for entry in 0..run.entries {
         if entry % tick == 0 {
-            let x = entry_left(frame, entry);
+            let x = entry_left(&pen.frame, entry);
             let number = run.first_entry.saturating_add(u64::from(entry));
-            write!(out, "<path class=\"grid\" d=\"M{x} 124V{bottom}\"/>")?;
-            draw_number(number, x, 120, out)?;
+            pen.line("grid", x, 124, "V", bottom);
+            draw_number(pen, number, x, 120);
             if bottom > TALL {
-                draw_number(number, x, bottom.saturating_add(9), out)?;
+                draw_number(pen, number, x, bottom.saturating_add(9));
             }
         }
     }
-    Ok(())
 }
 
 // Draws the number of an entry.
-fn draw_number(number: u64, x: u64, y: u64, out: &mut String<Room>) -> Result<(), OutOfMemory> {
-    write!(
-        out,
-        "<text class=\"tick\" x=\"{x}\" y=\"{y}\">{number}</text>\n"
-    )?;
-    Ok(())
+fn draw_number(pen: &mut Pen, number: u64, x: u64, y: u64) {
+    pen.text("tick", x, y);
+    pen.put_number(number);
+    pen.put("</text>\n");
 }
 
 // Writes how many entries, actions and objects there are, and how many found no room.
-fn draw_counts(
-    run: &Run<'_>,
-    frame: &Frame,
-    high: u64,
-    out: &mut String<Room>,
-) -> Result<(), OutOfMemory> {
-    let line = high.saturating_sub(14);
+fn draw_counts(pen: &mut Pen, run: &Run<'_>) {
     let no_row = run
         .actions
         .iter()
         .filter(|action| action.row.is_none())
         .count();
-    let no_strip = run.without_strip;
-    let no_lane = run.objects.len().saturating_sub(frame.lanes as usize);
-    write!(out, "<text class=\"small\" x=\"14\" y=\"{line}\">")?;
-    append_count(frame.entries as usize, "entry", "entries", out)?;
-    out.push_str(", ")?;
-    append_count(run.actions.len(), "action", "actions", out)?;
-    out.push_str(", ")?;
-    append_count(run.objects.len(), "object", "objects", out)?;
-    out.push_str(". ")?;
-    if no_row > 0 || no_strip > 0 || no_lane > 0 {
-        out.push_str("Without room, and not drawn: ")?;
-        append_count(no_row, "action", "actions", out)?;
-        out.push_str(", ")?;
-        append_count(no_lane, "object", "objects", out)?;
-        out.push_str(", ")?;
-        append_count(no_strip, "lock", "locks", out)?;
-        out.push_str(". ")?;
+    let no_lane = run.objects.len().saturating_sub(pen.frame.lanes as usize);
+    let line = height(&pen.frame).saturating_sub(14);
+    pen.text("small", 14, line);
+    pen.put_count(run.entries as usize, " entry, ", " entries, ");
+    pen.put_count(run.actions.len(), " action, ", " actions, ");
+    pen.put_count(run.objects.len(), " object. ", " objects. ");
+    if no_row > 0 || run.without_strip > 0 || no_lane > 0 {
+        pen.put("Without room, and not drawn: ");
+        pen.put_count(no_row, " action, ", " actions, ");
+        pen.put_count(no_lane, " object, ", " objects, ");
+        pen.put_count(run.without_strip, " lock. ", " locks. ");
     }
-    out.push_str(
-        "Point at a thing to read its entries. A name without room stands there alone.</text>\n",
-    )?;
-    Ok(())
-}
-
-// Appends a count with its noun: `1 entry`, `2 entries`.
-fn append_count(
-    count: usize,
-    one: &str,
-    several: &str,
-    out: &mut String<Room>,
-) -> Result<(), OutOfMemory> {
-    let name = if count == 1 { one } else { several };
-    write!(out, "{count} {name}")?;
-    Ok(())
+    pen.put("Point at a thing to read its entries. A name without room stands there alone.");
+    pen.put("</text>\n");
 }

@@ -29,7 +29,7 @@ pub(crate) fn read_run<'a>(heap: Heap, listing: &'a [u8]) -> Result<Run<'a>, Pic
     let mut rest = listing;
     let mut line = 1;
     while let Some((text, behind)) = first_line(rest) {
-        match run.take_bytes(heap, text) {
+        match run.take_bytes(text) {
             Ok(()) => {}
             Err(error) => return Err(error_at(line, error)),
         }
@@ -79,12 +79,12 @@ fn first_feed(text: &[u8]) -> Option<usize>
 
 impl<'a> Run<'a> {
     // Takes a whole line, without its line feed.
-    fn take_bytes(&mut self, heap: Heap, line: &'a [u8]) -> Result<(), LineError>
+    fn take_bytes(&mut self, line: &'a [u8]) -> Result<(), LineError>
         ensures line { OnOk result (Takes (place_of self.old) (place_of self.new) line.now) }
         ensures fault { IfErr result (λ e. SaysOfLine e (place_of self.old) line.now) }
     {
         match from_utf8(line) {
-            Ok(text) => self.take(heap, text),
+            Ok(text) => self.take(text),
             Err(error) => Err(LineError::Fault(ListingFaultKind::NoText {
                 at: error.valid_up_to(),
             })),

@@ -1,13 +1,15 @@
 //! `RefusedCall`: a call that was refused.
 
-/// A refused call: its entry and its line, the object that it is about, its caller if that action
+use crate::lock_asked::LockAsked;
+
+/// A refused call: its entry and its line, the lock that it asked for, its caller if that action
 /// was live, the holder whose lock was in the way, and the entry of the next refused call in the
 /// same row.
 #[derive(Clone, Copy)]
 pub(crate) struct RefusedCall<'a> {
     pub at: u32,
     pub line: &'a str,
-    pub object: Option<u32>,
+    pub asked: Option<LockAsked>,
     pub is_conflict: bool,
     pub caller: Option<usize>,
     pub holder: Option<usize>,

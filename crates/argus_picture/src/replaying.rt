@@ -4,94 +4,77 @@ ghost use Rattle.std.specs.Prelude.{if◌then◌else◌, nat_lt, ◌≡◌};
 
 use crate::beginning::beginning_of;
 use crate::call_error::CallError;
+use crate::fate::Fate;
 use crate::limits::{MAX_LANES, MAX_LATE_TITLE_LETTERS, MAX_TITLE_LETTERS};
-use crate::outcome::Outcome;
 use crate::run::Run;
 use crate::settling::Settling;
-use crate::write::Write;
-use argus_contents::{Change, ObjId};
-use argus_memory::{Heap, OutOfMemory};
+use argus_contents::Change;
+use argus_memory::OutOfMemory;
+use std::mem::replace;
 
-impl<'a> Run<'a> {
+impl Run<'_> {
     /// Records a change that the action made.
     pub(crate) fn note_change(
         &mut self,
         action: usize,
-        object: ObjId,
+        object: u32,
         change: Change,
-    ) -> Result<(), CallError> {
-        let Some(told) = self.objects.get_mut(object.0 as usize) else {
-            return Err(CallError::Unlawful);
-        };
-        told.writes.push(Write { action, change })?;
+    ) -> Result<(), OutOfMemory> {
+        if let Some(told) = self.objects.get_mut(object as usize) {
+            told.writes.push((action, change))?;
+        }
         Ok(())
     }
 
     /// Applies the changes that the action has made, or got, to the object's base, and records the
     /// commit.
-    pub(crate) fn settle(
-        &mut self,
-        heap: Heap,
-        place: usize,
-        object: usize,
-        line: &'a str,
-    ) -> Result<(), CallError> {
-        let Some(told) = self.objects.get_mut(object) else {
+    pub(crate) fn settle(&mut self, place: usize, object: u32) -> Result<(), CallError> {
+        let Some(told) = self.objects.get_mut(object as usize) else {
             return Ok(());
         };
-        for write in told.take_writes(heap) {
-            self.settle_change(heap, write, place, object)?;
+        for (action, change) in replace(&mut told.writes, Vec::new(self.heap.room())) {
+            self.settle_change(action, change, place, object)?;
         }
-        self.note_settling(heap, object, line)?;
-        Ok(())
+        Ok(self.note_settling(object)?)
     }
 
     // Applies the change to the base, if it is the action's. Another action's is left for its end,
     // unless it was undone.
     fn settle_change(
         &mut self,
-        heap: Heap,
-        write: Write,
+        action: usize,
+        change: Change,
         place: usize,
-        object: usize,
+        object: u32,
     ) -> Result<(), CallError> {
         let declared = self.objects.len().min(65_535) as u32;
-        let (owner, outcome) = self.owner(write.action);
-        let Some(told) = self.objects.get_mut(object) else {
+        let (owner, fate) = self.owner(action);
+        let Some(told) = self.objects.get_mut(object as usize) else {
             return Ok(());
         };
-        match outcome {
-            Outcome::Undone | Outcome::ForGood => Ok(()),
-            Outcome::InVersion if owner == place => told.make_for_good(
-                heap,
-                declared,
-                &write.change,
-            ),
-            Outcome::InVersion => {
-                told.writes.push(write)?;
-                Ok(())
-            }
+        match fate {
+            Fate::Live if owner == place => told.make_for_good(self.heap, declared, &change),
+            Fate::Live => Ok(told.writes.push((action, change))?),
+            Fate::Committed
+            | Fate::AbortedAlone
+            | Fate::AbortedWithAncestor
+            | Fate::AbortedBySibling => Ok(()),
         }
     }
 
     // Records what the commit leaves in the object's base, as far as it is shown.
-    fn note_settling(
-        &mut self,
-        heap: Heap,
-        object: usize,
-        line: &'a str,
-    ) -> Result<(), OutOfMemory> {
-        if object >= MAX_LANES as usize {
-            return Ok(());
-        }
-        let Some(told) = self.objects.get(object) else {
+    fn note_settling(&mut self, lane: u32) -> Result<(), OutOfMemory> {
+        let Some(told) = self.objects.get(lane as usize) else {
             return Ok(());
         };
-        let base = beginning_of(heap, &told.base, title_letters(self.entries))?;
+        if lane >= MAX_LANES {
+            return Ok(());
+        }
+        let base = beginning_of(self.heap, &told.base, title_letters(self.entries))?;
         self.settlings.push(Settling {
-            lane: object as u32,
+            lane,
             at: self.entries,
-            line,
+            line: self.line,
             order: self.serial.len().saturating_add(1),
             base,
         })?;

@@ -9,9 +9,8 @@ use crate::action::Action;
 use crate::fate::Fate;
 use crate::held_lock::HeldLock;
 use crate::live::Live;
-use crate::lock_asked::{LockAsked, lock_key};
+use crate::lock_asked::LockAsked;
 use crate::object::Object;
-use crate::outcome::Outcome;
 use crate::refused_call::RefusedCall;
 use crate::settling::Settling;
 use argus_actions::ActionId;
@@ -21,6 +20,9 @@ use argus_memory::{Heap, Room};
 /// number minus `first_action`, which is how many actions the opening stands for. An object's place
 /// is its number.
 pub(crate) struct Run<'a> {
+    pub heap: Heap,
+    /// The line of the entry that is taken.
+    pub line: &'a str,
     pub first_entry: u64,
     pub first_action: u32,
     /// How many entries were read.
@@ -43,6 +45,8 @@ pub(crate) struct Run<'a> {
 impl Drop for Run<'_> {
     fn drop(self) {
         let Run {
+            heap: _,
+            line: _,
             first_entry: _,
             first_action: _,
             entries: _,
@@ -65,6 +69,8 @@ impl<'a> Run<'a> {
         ensures { place_of result ≡ start }
     {
         Run {
+            heap,
+            line: "",
             first_entry: 0,
             first_action: 0,
             entries: 0,
@@ -80,9 +86,14 @@ impl<'a> Run<'a> {
         }
     }
 
+    /// The place of the action with this number, which may still have to begin.
+    pub(crate) fn place(&self, action: ActionId) -> Option<usize> {
+        Some(action.0.checked_sub(self.first_action)? as usize)
+    }
+
     /// The place of the live action with this number.
     pub(crate) fn live_place(&self, action: ActionId) -> Option<usize> {
-        let place = action.0.checked_sub(self.first_action)? as usize;
+        let place = self.place(action)?;
         match self.actions.get(place)?.end {
             None => Some(place),
             Some(_) => None,
@@ -96,7 +107,7 @@ impl<'a> Run<'a> {
 
     /// The parent of the action at this place.
     pub(crate) fn parent(&self, place: usize) -> Option<usize> {
-        self.actions.get(place)?.origin.parent()
+        self.actions.get(place)?.parent
     }
 
     /// The row of the action at this place.
@@ -117,7 +128,7 @@ impl<'a> Run<'a> {
                 return true;
             }
             place = match self.action(place) {
-                Some(action) => action.origin.parent(),
+                Some(action) => action.parent,
                 None => return false,
             };
         }
@@ -125,47 +136,28 @@ impl<'a> Run<'a> {
     }
 
     /// The action that has the changes of this one: itself, or the topmost one that they were
-    /// passed to by commits; and what has become of them.
-    pub(crate) fn owner(&self, place: usize) -> (usize, Outcome) {
+    /// passed to by commits; and its fate. If it committed, they are there for good.
+    pub(crate) fn owner(&self, place: usize) -> (usize, Fate) {
         let mut owner = place;
         for _ in 0..self.actions.len() {
             let Some(action) = self.action(Some(owner)) else {
-                return (owner, Outcome::Undone);
+                return (owner, Fate::AbortedAlone);
             };
-            match (action.fate, action.origin.parent()) {
+            match (action.fate, action.parent) {
                 (Fate::Committed, Some(parent)) => owner = parent,
-                (Fate::Committed, None) => return (owner, Outcome::ForGood),
-                (Fate::Live, _) => return (owner, Outcome::InVersion),
-                (Fate::AbortedAlone | Fate::AbortedWithAncestor | Fate::AbortedBySibling, _) => {
-                    return (owner, Outcome::Undone);
-                }
+                (fate, _) => return (owner, fate),
             }
         }
-        (owner, Outcome::Undone)
-    }
-
-    /// The first row from `from` on without a live action.
-    pub(crate) fn free_row(&self, from: usize) -> Option<u32> {
-        first_free(&self.live.rows, from)
-    }
-
-    /// The first strip of the object's lane in which no lock is held.
-    pub(crate) fn free_strip(&self, object: usize) -> Option<u32> {
-        first_free(&self.objects.get(object)?.strips, 0)
-    }
-
-    /// Whether the action has this lock.
-    pub(crate) fn has_lock(&self, place: usize, asked: LockAsked) -> bool {
-        self.live.held.get(&lock_key(place, asked)).is_some()
+        (owner, Fate::AbortedAlone)
     }
 
     /// The first holder in the way of the action's lock. The action's ancestors aren't in the way.
     pub(crate) fn holder_against(&self, place: usize, asked: LockAsked) -> Option<usize> {
-        let mut next = self.live.holders.first(asked.object);
+        let mut next = self.live.holders.first(asked.object as usize);
         for _ in 0..self.holds.len() {
             let at = next?;
             let hold = self.holds.get(at)?;
-            let counts = asked.writes || hold.writes;
+            let counts = asked.writes || hold.asked.writes;
             if counts && !self.is_above(hold.action, place) {
                 return Some(hold.action);
             }
@@ -173,16 +165,4 @@ impl<'a> Run<'a> {
         }
         None
     }
-}
-
-// The first place from this one on that is free.
-fn first_free(taken: &[bool], from: usize) -> Option<u32> {
-    let mut place = 0u32;
-    for is_taken in taken {
-        if !*is_taken && place as usize >= from {
-            return Some(place);
-        }
-        place = place.saturating_add(1);
-    }
-    None
 }

@@ -1,14 +1,20 @@
-//! `Sketch`: a journal's picture in which the names of objects are filled in later.
+//! `Sketch`: a journal's picture in which the names of objects are filled in later, and how it is
+//! made.
 
-ghost use Rattle.std.specs.Prelude.{IfErr, IfOk, [], string_bytes, ◌≡◌};
-ghost use Rattle.argus_picture.specs.Canvas.{canvas_text};
+ghost use Rattle.std.specs.Prelude.{IfErr, IfOk, OnOk, [], map, string_bytes, ◌≡◌};
 ghost use Rattle.argus_language.specs.Script.{plain_script};
+ghost use Rattle.argus_picture.specs.Canvas.{canvas_text};
+ghost use Rattle.argus_picture.specs.Faults.{SaysOfListing};
+ghost use Rattle.argus_picture.specs.Listing.{IsListing};
 ghost use Rattle.argus_picture.specs.Naming.{IsNamed, RefusesNames};
-ghost use Rattle.argus_picture.specs.declared.names_error.NamesError.TheVariants as error;
 
 use crate::canvas::Canvas;
 use crate::names_error::NamesError;
 use crate::naming::{names_fault, texts_of};
+use crate::object::Object;
+use crate::picture_error::PictureError;
+use crate::picturing::draw_run;
+use crate::reading::read_run;
 use argus_contents::Shape;
 use argus_language::Script;
 use argus_memory::{Heap, OutOfMemory, Room};
@@ -47,23 +53,39 @@ impl Sketch {
     {
         match names_fault(self.shapes.as_slice(), script.shapes()) {
             Some(fault) => Err(NamesError::Fault(fault)),
-            None => self.with_names(heap, script),
+            None => {
+                let texts = texts_of(heap, script.names())?;
+                Ok(self.canvas.with_names(heap, texts.as_slice())?)
+            }
         }
     }
+}
 
-    // The text with the script's names, whether the journal has these objects or not.
-    fn with_names(&self, heap: Heap, script: &Script) -> Result<String<Room>, NamesError>
-        ensures text { IfOk result (λ text. string_bytes text
-            ≡ canvas_text (plain_script script.now).objects.names self.now.canvas) }
-        ensures err { IfErr result (λ e. e ≡ error.OutOfMemory) }
-    {
-        let texts = match texts_of(heap, script.names()) {
-            Ok(texts) => texts,
-            Err(OutOfMemory) => return Err(NamesError::OutOfMemory),
-        };
-        match self.canvas.with_names(heap, texts.as_slice()) {
-            Ok(text) => Ok(text),
-            Err(OutOfMemory) => Err(NamesError::OutOfMemory),
-        }
+/// The picture of a journal's listing, in which the names of objects are filled in later.
+///
+/// `Fault` says which line is the first that is refused, and why. `OutOfMemory` may be returned in
+/// place of any other result.
+///
+/// ```text
+/// let sketch = sketch_listing(heap, b"0 begin_top -> a0\n1 commit a0 -> done\n")?;
+/// ```
+pub fn sketch_listing(heap: Heap, listing: &[u8]) -> Result<Sketch, PictureError>
+    ensures lines { OnOk result (IsListing listing.now) }
+    ensures fault { IfErr result (λ e. SaysOfListing e listing.now) }
+{
+    let run = read_run(heap, listing)?;
+    let canvas = draw_run(heap, &run)?;
+    let shapes = shapes_of(heap, run.objects.as_slice())?;
+    Ok(Sketch { canvas, shapes })
+}
+
+// The shapes of the objects.
+fn shapes_of(heap: Heap, objects: &[Object<'_>]) -> Result<Vec<Shape, Room>, OutOfMemory>
+    ensures { IfOk result (λ shapes. shapes.items ≡ map (λ object. object.shape) objects.now) }
+{
+    let mut shapes = Vec::new(heap.room());
+    for object in objects {
+        shapes.push(object.shape.duplicate(heap)?)?;
     }
+    Ok(shapes)
 }

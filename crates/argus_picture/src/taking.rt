@@ -1,46 +1,54 @@
 //! Takes a line of a listing into a run: a line of the opening, or of an entry.
 
-ghost use Rattle.std.specs.Prelude.{IfErr, IsTrue, OnOk, ◌+◌, ◌<◌, ◌↔◌, ◌≡◌, ◌⊎◌};
+ghost use Rattle.std.specs.Prelude.{IfErr, IsTrue, OnOk, codes, length, true, ◌+◌, ◌++◌, ◌<◌, ◌↔◌};
+ghost use Rattle.std.specs.Prelude.{◌≡◌, ◌⊎◌};
+ghost use Rattle.argus_contents.specs.Content.{plain_option};
+ghost use Rattle.argus_contents.specs.declared.limits.TheConstants.{MAX_OBJECTS};
 ghost use Rattle.argus_entries.specs.Entry.{plain_entry};
 ghost use Rattle.argus_entries.specs.EntrySpelling.{entry_spelling};
 ghost use Rattle.argus_picture.specs.declared.listing_fault_kind.ListingFaultKind.TheVariants as kind;
 ghost use Rattle.argus_picture.specs.Faults.{SaysOfLine};
-ghost use Rattle.argus_picture.specs.Listing.{Enters, IsOfOpening, Takes};
+ghost use Rattle.argus_picture.specs.Fitting.{may_fit};
+ghost use Rattle.argus_picture.specs.Listing.{Enters, IsNextOfOpening, IsOfOpening, Takes, start};
 ghost use Rattle.argus_picture.specs.RunPlace.{place_of};
 ghost use Rattle.argus_picture.specs.declared.limits.TheConstants.{MAX_ENTRIES};
 ghost use Rattle.argus_picture.specs.declared.line_error.LineError.TheVariants as line_error;
 ghost use Rattle.argus_reading.specs.Line.{IsReadable};
 
 use crate::call_error::CallError;
-use crate::limits::MAX_ENTRIES;
+use crate::limits::{MAX_ENTRIES, MAX_STRIPS};
 use crate::line_error::LineError;
 use crate::listing_fault_kind::ListingFaultKind;
+use crate::object::Object;
 use crate::run::Run;
+use argus_contents::limits::MAX_OBJECTS;
+use argus_contents::{Content, Shape, fits};
 use argus_entries::Entry;
-use argus_memory::Heap;
-use argus_reading::{ReadEntryError, read_entry};
+use argus_memory::OutOfMemory;
+use argus_reading::{ReadEntryError, folded_numbers, object_line, read_entry};
 use argus_texts::front::{Stop, word};
+use argus_texts::write_shape;
 
 impl<'a> Run<'a> {
     /// Takes one more line.
-    pub(crate) fn take(&mut self, heap: Heap, line: &'a str) -> Result<(), LineError>
+    pub(crate) fn take(&mut self, line: &'a str) -> Result<(), LineError>
         ensures line { OnOk result (Takes (place_of self.old) (place_of self.new) line.now) }
         ensures fault { IfErr result (λ e. SaysOfLine e (place_of self.old) line.now) }
     {
         match word(line, "opening ") {
-            Ok(rest) => self.take_opening(heap, rest, line),
-            Err(Stop::Left(_)) => self.take_entry(heap, line),
+            Ok(rest) => self.take_opening(rest, line),
+            Err(Stop::Left(_)) => self.take_entry(line),
             Err(Stop::Memory) => Err(LineError::OutOfMemory),
         }
     }
 
-    fn take_entry(&mut self, heap: Heap, line: &'a str) -> Result<(), LineError>
+    fn take_entry(&mut self, line: &'a str) -> Result<(), LineError>
         requires { IsOfOpening line.now → ⊥ }
         ensures line { OnOk result (Enters (place_of self.old) (place_of self.new) line.now) }
         ensures fault { IfErr result (λ e. SaysOfLine e (place_of self.old) line.now) }
     {
-        match read_entry(heap, line) {
-            Ok((number, entry)) => self.take_numbered(heap, number, entry, line),
+        match read_entry(self.heap, line) {
+            Ok((number, entry)) => self.take_numbered(number, entry, line),
             Err(ReadEntryError::Fault(fault)) | Err(ReadEntryError::Shape(fault)) => {
                 Err(LineError::Fault(ListingFaultKind::NoLine { at: fault.at }))
             }
@@ -49,13 +57,7 @@ impl<'a> Run<'a> {
     }
 
     // Takes an entry with its number.
-    fn take_numbered(
-        &mut self,
-        heap: Heap,
-        number: u64,
-        entry: Entry,
-        line: &'a str,
-    ) -> Result<(), LineError>
+    fn take_numbered(&mut self, number: u64, entry: Entry, line: &'a str) -> Result<(), LineError>
         requires readable { IsReadable (plain_entry entry) }
         requires line { line.now ≡ entry_spelling number (plain_entry entry) }
         ensures line { OnOk result (Enters (place_of self.old) (place_of self.new) line.now) }
@@ -67,7 +69,7 @@ impl<'a> Run<'a> {
         if !self.is_next(number) {
             return Err(LineError::Fault(ListingFaultKind::NotNext));
         }
-        self.take_next(heap, entry, line)
+        self.take_next(entry, line)
     }
 
     // Whether the next entry has this number.
@@ -78,7 +80,7 @@ impl<'a> Run<'a> {
     }
 
     // Takes the next entry. `take_call` has no contract, so these two numbers are set after it.
-    fn take_next(&mut self, heap: Heap, entry: Entry, line: &'a str) -> Result<(), LineError>
+    fn take_next(&mut self, entry: Entry, line: &'a str) -> Result<(), LineError>
         requires { self.old.entries < MAX_ENTRIES }
         ensures first { OnOk result (self.new.first_entry ≡ self.old.first_entry) }
         ensures entries { OnOk result (self.new.entries ≡ self.old.entries + 1) }
@@ -86,7 +88,8 @@ impl<'a> Run<'a> {
             ⊎ (e ≡ line_error.Fault kind.Unlawful)) }
     {
         let (first_entry, entries) = (self.first_entry, self.entries + 1);
-        match self.take_call(heap, entry, line) {
+        self.line = line;
+        match self.take_call(entry) {
             Ok(()) => {
                 self.first_entry = first_entry;
                 self.entries = entries;
@@ -95,5 +98,126 @@ impl<'a> Run<'a> {
             Err(CallError::Unlawful) => Err(LineError::Fault(ListingFaultKind::Unlawful)),
             Err(CallError::OutOfMemory) => Err(LineError::OutOfMemory),
         }
+    }
+
+    // Takes a line of the opening. `rest` is what comes after `opening `.
+    fn take_opening(&mut self, rest: &str, line: &'a str) -> Result<(), LineError>
+        ensures line { OnOk result (IsNextOfOpening (place_of self.old) (place_of self.new)
+            (codes "opening " ++ rest.now)) }
+        ensures fault { IfErr result
+            (λ e. SaysOfLine e (place_of self.old) (codes "opening " ++ rest.now)) }
+    {
+        if self.is_at_start() {
+            return self.take_folded(rest);
+        }
+        if self.is_in_opening() {
+            return self.take_opened(rest, line);
+        }
+        Err(LineError::Fault(ListingFaultKind::NotAnOpening))
+    }
+
+    // Whether no line has come yet.
+    fn is_at_start(&self) -> bool
+        ensures { IsTrue result ↔ (place_of self.now ≡ start) }
+    {
+        self.first_entry == 0 && self.objects.is_empty() && self.entries == 0
+    }
+
+    // Whether the opening has begun, and no entry has come yet.
+    fn is_in_opening(&self) -> bool
+        ensures { IsTrue result ↔ ((self.now.entries ≡ 0) × (0 < self.now.first_entry)) }
+    {
+        self.entries == 0 && self.first_entry > 0
+    }
+
+    // Takes the first line of the opening.
+    fn take_folded(&mut self, rest: &str) -> Result<(), LineError>
+        requires { place_of self.old ≡ start }
+        ensures line { OnOk result (IsNextOfOpening (place_of self.old) (place_of self.new)
+            (codes "opening " ++ rest.now)) }
+        ensures fault { IfErr result
+            (λ e. SaysOfLine e (place_of self.old) (codes "opening " ++ rest.now)) }
+    {
+        match folded_numbers(rest) {
+            Ok((entries, actions)) => {
+                self.first_entry = entries;
+                self.first_action = actions;
+                Ok(())
+            }
+            Err(Stop::Left(_)) => Err(LineError::Fault(ListingFaultKind::NotAnOpening)),
+            Err(Stop::Memory) => Err(LineError::OutOfMemory),
+        }
+    }
+
+    // Takes one more object of the opening.
+    fn take_opened(&mut self, rest: &str, line: &'a str) -> Result<(), LineError>
+        requires none { self.old.entries ≡ 0 }
+        requires opened { 0 < self.old.first_entry }
+        ensures line { OnOk result (IsNextOfOpening (place_of self.old) (place_of self.new)
+            (codes "opening " ++ rest.now)) }
+        ensures fault { IfErr result
+            (λ e. SaysOfLine e (place_of self.old) (codes "opening " ++ rest.now)) }
+    {
+        match object_line(self.heap, rest) {
+            Ok((object, shape, content)) => {
+                if !self.may_add(object, &shape, &content) {
+                    return Err(LineError::Fault(ListingFaultKind::NotAnOpening));
+                }
+                match self.add_object(shape, content, line) {
+                    Ok(()) => Ok(()),
+                    Err(OutOfMemory) => Err(LineError::OutOfMemory),
+                }
+            }
+            Err(Stop::Left(_)) => Err(LineError::Fault(ListingFaultKind::NotAnOpening)),
+            Err(Stop::Memory) => Err(LineError::OutOfMemory),
+        }
+    }
+
+    // Whether the number is the next object's, one more object is allowed, and the content may fit.
+    fn may_add(&self, object: u64, shape: &Shape, content: &Option<Content>) -> bool
+        ensures { IsTrue result ↔ ((object ≡ length self.now.objects.items)
+            × (object < MAX_OBJECTS)
+            × (may_fit shape.now (plain_option content.now) ≡ true)) }
+    {
+        let is_next = object == self.objects.len() as u64 && object < u64::from(MAX_OBJECTS);
+        is_next && may_fit(shape, content)
+    }
+
+    /// Adds an object.
+    pub(crate) fn add_object(
+        &mut self,
+        shape: Shape,
+        content: Option<Content>,
+        line: &'a str,
+    ) -> Result<(), OutOfMemory>
+        ensures { OnOk result (place_of self.new ≡ record {
+          first = self.old.first_entry;
+          objects = length self.old.objects.items + 1;
+          entries = self.old.entries;
+        }) }
+    {
+        let mut shape_text = String::new(self.heap.room());
+        write_shape(&shape, &mut shape_text)?;
+        self.live.holders.add_list()?;
+        self.objects.push(Object {
+            shape,
+            shape_text,
+            base: content,
+            is_fitting: false,
+            writes: Vec::new(self.heap.room()),
+            strips: [false; MAX_STRIPS],
+            line,
+        })?;
+        Ok(())
+    }
+}
+
+// Whether there is no content, or it fits as if all `MAX_OBJECTS` objects were declared.
+fn may_fit(shape: &Shape, content: &Option<Content>) -> bool
+    ensures { result ≡ may_fit shape.now (plain_option content.now) }
+{
+    match content {
+        Some(content) => fits(shape, MAX_OBJECTS, content),
+        None => true,
     }
 }

@@ -1,7 +1,6 @@
 -- The text is that of the opening's next object, or it isn't.
 use Rattle.std.proofs.Common.{sym, ◌∙◌}
 use Rattle.std.proofs.lemmas.Bool.{false≢true}
-use Rattle.std.proofs.lemmas.Result.{on_ok_weaker}
 use Rattle.argus_contents.specs.Content.{plain_option}
 use Rattle.argus_picture.specs.RunPlace.{place_of}
 use Rattle.argus_picture.proofs.Openings.{adds, no_adding, no_object}
@@ -18,10 +17,8 @@ returns-then-not-may_add-clause-fault c =
     c.requires.opened c.in-Ok.ensures.read
     (λ o r f. false≢true (sym c.if-not-may_add.true ∙ c.may_add.ensures.1 (o, r, f)))
 
-pub returns-else-not-may_add-clause-line : goal.returns-else-not-may_add-clause-line
-returns-else-not-may_add-clause-line c =
-    on_ok_weaker c.add_object.result
-    (λ is. adds (place_of c.args.self.now) (place_of c.add_object.new.self) c.args.rest.now c.in-Ok.object
+pub returns-in-Ok-add_object-clause-line : goal.returns-in-Ok-add_object-clause-line
+returns-in-Ok-add_object-clause-line c =
+    adds (place_of c.args.self.now) (place_of c.add_object.new.self) c.args.rest.now c.in-Ok.object
     c.in-Ok.shape (plain_option c.in-Ok.content) c.requires.none c.requires.opened
-    (c.may_add.ensures.0 c.if-not-may_add.false) c.in-Ok.ensures.read is)
-    c.add_object.ensures.added
+    (c.may_add.ensures.0 c.if-not-may_add.false) c.in-Ok.ensures.read c.in-Ok-add_object.ensures
