@@ -5,14 +5,21 @@ from __future__ import annotations
 import threading
 import time
 from collections.abc import Callable
+from operator import methodcaller
 from typing import TypeVar
 
 from .errors import Closed, Reentered
 
 _Outcome = TypeVar("_Outcome")
 
-# After so many seconds a close looks again whether other threads use the log.
-_LOOK_AFTER = 0.002
+
+def _has_ended(use: threading.Lock, seconds: float = -1.0) -> bool:
+    """Waits for the end of a use, at most so long. Whether it has ended.
+
+    The lock is had and given back in one step: a handler in between might close the log, too, and wait for it.
+    """
+    had = filter(methodcaller("acquire", True, seconds), (use,))
+    return next(map(methodcaller("release"), had), False) is None
 
 
 class Uses:
@@ -53,7 +60,7 @@ class Uses:
                     raise Closed("the log is closed, or it is that of the process from which this one was forked")
                 return call()
         finally:
-            # If an interrupt comes in between, a thread that waits in `close` finds out by itself.
+            # If an interrupt comes in between, the entry stays, whose lock nobody has.
             self._uses.pop(use, None)
             self._free_closed()
 
@@ -61,18 +68,19 @@ class Uses:
         """Closes it, when the calls of other threads have ended."""
         self.refuse_reentered()
         self._is_open = False
-        while self._under_way():
-            time.sleep(_LOOK_AFTER)
-        self._free_closed()
+        # A use that comes later finds it closed.
+        for use in list(self._uses):
+            _has_ended(use)
+        self._free()
 
     def close_within(self, seconds: float) -> bool:
         """`close`, which gives up after a while: False where threads use it still."""
         limit = time.monotonic() + seconds
         self._is_open = False
-        while self._under_way() and time.monotonic() < limit:
-            time.sleep(_LOOK_AFTER)
-        self._free_closed()
-        return not self._under_way()
+        if not all(_has_ended(use, max(0.0, limit - time.monotonic())) for use in list(self._uses)):
+            return False
+        self._free()
+        return True
 
     def _free_closed(self) -> None:
         if not (self._is_open or self._under_way()):

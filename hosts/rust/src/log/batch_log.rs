@@ -2,34 +2,29 @@
 
 use crate::log::error::Failure;
 
-/// What keeps a guardian's entries permanently: a database, or etcd. After a failure each call returns that failure
-/// again, and appends nothing more.
+/// What keeps a guardian's entries permanently: a database, or etcd. After a failure it isn't known whether the log has
+/// what was to be written; each later call returns that failure again, and writes nothing.
 ///
 /// A [`Logged`](crate::log::Logged) calls it while commits wait. What it calls of that `Logged` must not wait for the
 /// log: such a call panics, and the log is broken.
 pub trait BatchLog: Send {
     /// Appends entries. `Ok`: they and all before them can't be lost, as far as this log promises.
-    ///
-    /// # Errors
-    ///
-    /// This failure or an earlier one. Then it isn't known whether these entries are in the log.
     fn append(&mut self, lines: &EntryLines) -> Result<(), Failure>;
 
     /// Starts again with this opening, which replaces everything before.
-    ///
-    /// # Errors
-    ///
-    /// As for [`append`](Self::append); then it isn't known whether the log has the old entries or the opening.
     fn restart(&mut self, opening: &Opening) -> Result<(), Failure>;
 }
 
 /// A piece of a journal's listing: whole lines of entries that follow one another.
 ///
 /// ```
-/// use argus_guardian::log::EntryLines;
+/// use argus_guardian::log::{EntryLines, Opening};
 /// let lines = EntryLines::new(7, "7 begin_top -> a3\n8 commit a3 -> done\n".into()).expect("whole lines");
 /// assert_eq!((lines.first, lines.next), (7, 9));
 /// assert_eq!(EntryLines::new(7, "7 begin_top -> a3".into()), None);
+/// let text = "opening entries 4 actions 1\nopening o0 atomic_record[n:int] {5}\n";
+/// let opening = Opening::new(4, text.into()).expect("whole lines");
+/// assert_eq!((opening.next, opening.text), (4, text.into()));
 /// ```
 #[derive(Debug, Clone, PartialEq, Eq, Default)]
 #[non_exhaustive]
@@ -60,7 +55,8 @@ impl EntryLines {
     #[must_use]
     pub fn new(first: u64, text: String) -> Option<EntryLines> {
         let next = first.saturating_add(line_feeds(text.as_bytes()));
-        (text.is_empty() || text.ends_with('\n')).then_some(EntryLines {
+        let is_whole = text.is_empty() || text.ends_with('\n');
+        is_whole.then(|| EntryLines {
             first,
             next,
             text,
@@ -70,13 +66,6 @@ impl EntryLines {
 }
 
 /// What a journal begins with after a checkpoint: the opening lines of its listing.
-///
-/// ```
-/// use argus_guardian::log::Opening;
-/// let text = "opening entries 4 actions 1\nopening o0 atomic_record[n:int] {5}\n";
-/// let opening = Opening::new(4, text.into()).expect("whole lines");
-/// assert_eq!((opening.next, opening.text), (4, text.into()));
-/// ```
 #[derive(Debug, Clone, PartialEq, Eq)]
 #[non_exhaustive]
 pub struct Opening {

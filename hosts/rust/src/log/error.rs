@@ -1,5 +1,4 @@
-//! `LoggedError`: why a call failed, or a log wasn't opened; `LogFault`: what is wrong with a database; `Failure`: why
-//! a log is broken.
+//! `LoggedError`: why a call failed; `LogFault`: what is wrong with a database; `Failure`: why a log is broken.
 
 use crate::Error;
 use crate::shared::retry::MayConflict;
@@ -77,8 +76,7 @@ pub enum LogFault {
 /// ```
 /// use argus_guardian::{Refusal, log::LoggedError};
 /// let failure = std::io::Error::other("no disk").into();
-/// let words = "in doubt: the log couldn't be written: no disk";
-/// assert_eq!(LoggedError::InDoubt(failure).to_string(), words);
+/// assert_eq!(LoggedError::InDoubt(failure).to_string(), "in doubt: the log couldn't be written: no disk");
 /// assert!(LoggedError::from(Refusal::Conflict).is_conflict());
 /// ```
 #[derive(Debug, Clone)]
@@ -86,8 +84,7 @@ pub enum LogFault {
 pub enum LoggedError {
     /// The error that a guardian without a log would return, too.
     Guardian(Error),
-    /// The call was made, but the log failed before it was known to have it. After a restart it may be in the guardian,
-    /// or not.
+    /// The call was made, but the log failed before it was known to have it: a restart finds out.
     InDoubt(Failure),
     /// The log had failed earlier: the call wasn't made.
     Broken(Failure),
@@ -135,15 +132,17 @@ impl<E: Into<Error>> From<E> for LoggedError {
     }
 }
 
-/// What is wrong with a database, in these words.
 #[cfg(feature = "sqlite")]
-macro_rules! fault {
-    ($fault:ident, $($words:tt)+) => {
-        $crate::log::LoggedError::Database($crate::log::LogFault::$fault, format!($($words)+))
-    };
+impl LogFault {
+    /// The error that says this in words.
+    pub(crate) fn says(self, words: impl Into<String>) -> LoggedError {
+        LoggedError::Database(self, words.into())
+    }
+
+    pub(crate) fn unless(self, holds: bool, words: impl Into<String>) -> Result<(), LoggedError> {
+        if holds { Ok(()) } else { Err(self.says(words)) }
+    }
 }
-#[cfg(feature = "sqlite")]
-pub(crate) use fault;
 
 #[cfg(feature = "sqlite")]
 impl From<rusqlite::Error> for LoggedError {
@@ -151,22 +150,19 @@ impl From<rusqlite::Error> for LoggedError {
         use rusqlite::{Error as Sql, ErrorCode as Code};
         let words = error.to_string();
         let is_damage = words.contains("malformed") || words.starts_with("no such ");
-        match (error.sqlite_error_code(), error) {
-            (Some(Code::OutOfMemory), _) => Error::OutOfMemory.into(),
-            (Some(Code::NotADatabase), _) => fault!(NotALog, "{words}"),
-            (Some(Code::DatabaseBusy | Code::DatabaseLocked), _) => fault!(Locked, "{words}"),
-            (Some(Code::DatabaseCorrupt), _) => fault!(PagesDamaged, "{words}"),
-            _ if is_damage => fault!(PagesDamaged, "{words}"),
-            (
-                _,
-                Sql::FromSqlConversionFailure(..)
-                | Sql::IntegralValueOutOfRange(..)
-                | Sql::InvalidColumnType(..),
-            ) => fault!(
-                RowChanged,
-                "a row hasn't the types that it should have: {words}"
-            ),
-            _ => fault!(Unreadable, "{words}"),
-        }
+        let fault = match (error.sqlite_error_code(), error) {
+            (Some(Code::OutOfMemory), _) => return Error::OutOfMemory.into(),
+            (Some(Code::NotADatabase), _) => LogFault::NotALog,
+            (Some(Code::DatabaseBusy | Code::DatabaseLocked), _) => LogFault::Locked,
+            (Some(Code::DatabaseCorrupt), _) => LogFault::PagesDamaged,
+            _ if is_damage => LogFault::PagesDamaged,
+            (Some(_), _) | (None, Sql::InvalidPath(_) | Sql::NulError(_)) => LogFault::Unreadable,
+            // What a row has is converted outside SQLite.
+            (None, _) => {
+                let what = "a row hasn't the types that it should have";
+                return LogFault::RowChanged.says(format!("{what}: {words}"));
+            }
+        };
+        fault.says(words)
     }
 }

@@ -1,11 +1,10 @@
 //! `LogOptions`: how a log in a database is opened or made; `LogFound`: what was there.
 
-use crate::guardian::Guardian;
-use crate::log::error::{LogFault, LoggedError, fault};
-use crate::log::log_reading::{lock, read_log};
+use crate::log::error::{LogFault, LoggedError};
+use crate::log::log_reading::read_log;
 use crate::log::logged::Logged;
-use crate::log::sqlite_log::{SqliteLog, copy_log, make_log, resolved};
-use crate::shared::Shared;
+use crate::log::sqlite_log::{copy_log, make_log, resolved};
+use crate::{Guardian, Shared};
 use std::path::{Path, PathBuf};
 use std::sync::Mutex;
 use std::time::Duration;
@@ -69,24 +68,16 @@ pub struct LogFound {
     pub aborted: u64,
 }
 
-#[allow(clippy::missing_errors_doc, reason = "`open` says how each fails")]
 impl LogOptions {
     /// Opens the log that is there: makes each call in it again, compares its reply, and aborts what was live.
-    ///
-    /// # Errors
-    ///
     /// [`LoggedError::Database`]: nothing in the log has changed. [`LoggedError::InDoubt`]: the log was read, but the
-    /// first append failed. [`LoggedError::Guardian`]: out of memory.
+    /// first append failed. [`LoggedError::Guardian`]: out of memory. The other calls here fail so, too.
     pub fn open(&self, path: impl AsRef<Path>) -> Result<Logged, LoggedError> {
-        let path = resolved(path.as_ref())?;
-        let (log, read) = SqliteLog::open(&path, self)?;
-        let resumed = Logged::resumed(read.guardian, Box::new(log), self.patience)?;
-        let (mut logged, aborted) = resumed;
-        logged.found = LogFound {
-            aborted,
-            ..read.found
-        };
-        logged.names = Some(Mutex::new(read.names));
+        let (mut log, guardian, names, found) = read_log(path.as_ref(), self)?;
+        log.begin()?;
+        let (mut logged, aborted) = Logged::resumed(guardian, Box::new(log), self.patience)?;
+        (logged.found, logged.found.aborted) = (found, aborted);
+        logged.names = Some(Mutex::new(names));
         logged.checkpoint_after = self.checkpoint_after;
         // No action is live yet. Later there may be no number left for one that commits.
         let used = Guardian::MAX_ACTIONS - logged.actions_left();
@@ -96,32 +87,25 @@ impl LogOptions {
 
     /// Makes a log, and opens it; [`LogFault::Exists`] if a file is there.
     pub fn create(&self, path: impl AsRef<Path>) -> Result<Logged, LoggedError> {
-        self.open(make_log(path.as_ref())?)
+        make_log(path.as_ref())?;
+        self.open(path)
     }
 
     /// Opens the log that is there; if there is none, makes one. Where there has to be one, [`open`](Self::open) is
     /// safer: a disk that isn't mounted looks like a log that isn't there.
     pub fn open_or_create(&self, path: impl AsRef<Path>) -> Result<Logged, LoggedError> {
-        match self.open(&path) {
-            Err(LoggedError::Database(LogFault::NoLog, _)) => {}
-            opened => return opened,
-        }
         match make_log(path.as_ref()) {
-            // Another process was quicker.
-            Ok(_) | Err(LoggedError::Database(LogFault::Exists, _)) => self.open(path),
+            Ok(()) | Err(LoggedError::Database(LogFault::Exists, _)) => self.open(path),
             Err(error) => Err(error),
         }
     }
 
     /// Reads a log that no process has, such as a backup, as [`open`](Self::open) does, and changes nothing.
     pub fn check(&self, path: impl AsRef<Path>) -> Result<LogFound, LoggedError> {
-        let path = resolved(path.as_ref())?;
-        let _owner = lock(&path)?;
-        Ok(read_log(&path, self)?.found)
+        read_log(path.as_ref(), self).map(|(.., found)| found)
     }
 }
 
-#[allow(clippy::missing_errors_doc, reason = "as those of LogOptions fail")]
 impl Logged {
     /// Opens the log that is there, with default options: [`LogOptions::open`]. It never makes one.
     pub fn open(path: impl AsRef<Path>) -> Result<Logged, LoggedError> {
@@ -148,7 +132,7 @@ impl Logged {
     /// [`LogFault::Exists`] if a file is there; [`LogFault::NoLog`] if this log isn't in a database.
     pub fn backup(&self, path: impl AsRef<Path>) -> Result<(), LoggedError> {
         if self.found.path.as_os_str().is_empty() {
-            return Err(fault!(NoLog, "the log isn't in a database"));
+            return Err(LogFault::NoLog.says("the log isn't in a database"));
         }
         copy_log(&self.found.path, &resolved(path.as_ref())?)
     }

@@ -1,27 +1,38 @@
 //! Reads a log in a database, and changes nothing: what is wrong with it is named.
 
 use crate::guardian::Guardian;
-use crate::log::error::{LogFault, LoggedError, fault};
+use crate::log::batch_log::{line_feeds, log_sum};
+use crate::log::error::LogFault::{
+    Locked, LogCut, LogOld, NoLog, NotALog, OtherFormat, OtherLog, OtherReply, PagesDamaged,
+    RowChanged, RowDoubled, RowMissing, RowSwapped, Unreadable, WalDamaged, WalMissing,
+};
+use crate::log::error::LoggedError;
 use crate::log::log_options::{LogFound, LogOptions};
-use crate::log::log_rows::{Head, check_format, check_pages, head_of, is_name, read_rows};
-use crate::log::log_wal::{HEADER, check_wal};
+use crate::log::logged::Names;
 use crate::log::recovery::{LineError, Recovery};
-use crate::log::sqlite_log::{KEEPS_WAL, connected};
+use crate::log::sqlite_log::{KEEPS_WAL, SqliteLog, connected, resolved};
 use crate::{Error, ObjId};
-use rusqlite::{Connection, OpenFlags};
-use std::collections::HashMap;
-use std::fs::{self, File};
-use std::io::Read;
+use rusqlite::{Connection, ErrorCode, OpenFlags, OptionalExtension};
+use std::cmp::Ordering::{Equal, Greater, Less};
+use std::fs;
 use std::path::{Path, PathBuf};
 use std::time::Duration;
 
-/// A log that was read, with its guardian.
-pub(crate) struct ReadLog {
-    pub(crate) head: Head,
-    pub(crate) guardian: Guardian,
-    /// The numbers of objects by their names.
-    pub(crate) names: HashMap<String, u32>,
-    pub(crate) found: LogFound,
+/// "ARGU" in ASCII.
+pub(crate) const APPLICATION: i64 = 0x4152_4755;
+/// The number of the format.
+pub(crate) const FORMAT: i64 = 1;
+
+/// A log that was read, and what it has.
+pub(crate) type ReadLog = (SqliteLog, Guardian, Names, LogFound);
+
+/// The row of `log`.
+#[derive(Debug)]
+pub(crate) struct Head {
+    pub(crate) name: String,
+    is_open: bool,
+    /// Who writes, as an epoch; the next entry; and the chain's last sum.
+    pub(crate) end: (u64, u64, u32),
 }
 
 /// The file beside this one whose name has this suffix, too.
@@ -31,80 +42,114 @@ pub(crate) fn beside(path: &Path, suffix: &str) -> PathBuf {
     name.into()
 }
 
-/// Locks a second database, which the process has until it ends. Who only reads the log doesn't need it.
-pub(crate) fn lock(path: &Path) -> Result<Connection, LoggedError> {
-    if !path.exists() {
-        return Err(fault!(NoLog, "no log is there: {}", path.display()));
-    }
+// Locks a second database, which the process has until it ends.
+fn lock(path: &Path) -> Result<Connection, LoggedError> {
+    let is_there = path.exists();
+    NoLog.unless(is_there, format!("no log is there: {}", path.display()))?;
     // A pipe would have SQLite wait.
     let files = ["", "-wal", "-journal", "-owner"].map(|it| beside(path, it));
     let is_other = |it: &&PathBuf| fs::metadata(it).is_ok_and(|it| !it.is_file());
     if let Some(other) = files.iter().find(is_other) {
-        return Err(fault!(NotALog, "it isn't a file: {}", other.display()));
+        return Err(NotALog.says(format!("it isn't a file: {}", other.display())));
     }
     let how = OpenFlags::SQLITE_OPEN_READ_WRITE | OpenFlags::SQLITE_OPEN_CREATE;
     let owner = connected(&files[3], how)?;
     owner.busy_timeout(Duration::ZERO)?;
     // Nothing is ever written there.
     let locked = owner.execute_batch("PRAGMA journal_mode=OFF; BEGIN EXCLUSIVE");
-    match locked.map_err(LoggedError::from) {
-        Ok(()) => Ok(owner),
-        Err(LoggedError::Database(LogFault::Locked, _)) => {
+    locked.map_err(|error| match error.sqlite_error_code() {
+        Some(ErrorCode::DatabaseBusy) => {
             let who = "another process has the log, or another part of this one";
-            Err(fault!(Locked, "{who}: {}", path.display()))
+            Locked.says(format!("{who}: {}", path.display()))
         }
-        Err(other) => Err(other),
-    }
+        _ => error.into(),
+    })?;
+    Ok(owner)
 }
 
-/// Reads a log that this process has locked.
+/// Locks a log and reads it, and changes nothing.
 pub(crate) fn read_log(path: &Path, wanted: &LogOptions) -> Result<ReadLog, LoggedError> {
-    if is_hot(path) {
-        // SQLite rolls back what was broken off, when it is opened by who can write.
-        head_of(&connected(path, OpenFlags::SQLITE_OPEN_READ_WRITE)?)?;
-    }
-    let alone = head_alone(path);
-    check_wal_of(path, alone.as_ref())?;
-    let reading = connected(path, OpenFlags::SQLITE_OPEN_READ_ONLY)?;
-    reading.set_db_config(KEEPS_WAL, true)?;
-    reading.execute_batch("BEGIN")?;
-    check_format(&reading)?;
-    let head = head_of(&reading)?;
-    compare(&head, wanted, alone.as_ref())?;
-    check_pages(&reading)?;
+    let path = &resolved(path)?;
+    let owner = lock(path)?;
+    // SQLite rolls back what was broken off without a WAL, and leaves a WAL where it is.
+    let database = connected(path, OpenFlags::SQLITE_OPEN_READ_WRITE)?;
+    database.set_db_config(KEEPS_WAL, true)?;
+    database.execute_batch("BEGIN")?;
+    let head = compared_head(path, &database, wanted)?;
     let mut recovery = Recovery::new()?;
-    let take = |what: &str, lines: &[u8]| take(&mut recovery, what, lines);
-    let (first, batches) = read_rows(&reading, &head, take)?;
-    let made = recovery.into_guardian();
-    let guardian = made.map_err(|error| not_taken("the opening", error))?;
-    let (taken, next) = (guardian.entries(), head.next_entry);
-    if taken != next {
-        let words = format!("by the lines entry {taken} comes next, and by `log` entry {next}");
-        return Err(fault!(OtherReply, "{words}"));
-    }
-    Ok(ReadLog {
-        names: names_in(&reading, &guardian)?,
-        found: LogFound {
-            path: path.to_owned(),
-            name: head.name.clone(),
-            batches,
-            entries: next - first,
-            next,
-            objects: guardian.objects(),
-            epoch: head.epoch,
-            aborted: 0,
-        },
+    let (first, batches) = check_rows(&database, &head, |what, lines| {
+        let text = std::str::from_utf8(lines);
+        OtherReply.unless(text.is_ok(), format!("{what} isn't UTF-8"))?;
+        let taken = recovery.take(&format!("{}\n", text.unwrap_or("")));
+        taken.map_err(|it| not_taken(what, it))
+    })?;
+    let guardian = recovery.into_guardian();
+    let guardian = guardian.map_err(|it| not_taken("the opening", it))?;
+    let (taken, (epoch, next, _)) = (guardian.entries(), head.end);
+    let words = format!("by the lines entry {taken} comes next, and by `log` entry {next}");
+    OtherReply.unless(taken == next, words)?;
+    let names = names_in(&database, &guardian)?;
+    database.execute_batch("COMMIT")?;
+    let found = LogFound {
+        path: path.to_owned(),
+        name: head.name.clone(),
+        batches,
+        entries: next - first,
+        next,
+        objects: guardian.objects(),
+        epoch,
+        aborted: 0,
+    };
+    let log = SqliteLog {
+        connections: Some([database, owner]),
         head,
-        guardian,
-    })
+        broken: None,
+        process: None,
+    };
+    Ok((log, guardian, names, found))
 }
 
-// Whether a transaction without a WAL was broken off, so that its journal has to be rolled back.
-fn is_hot(path: &Path) -> bool {
-    let mut begins = [0; 8];
-    let journal = File::open(beside(path, "-journal"));
-    let read = journal.and_then(|mut it| it.read_exact(&mut begins));
-    read.is_ok() && begins != [0; 8] && !beside(path, "-wal").exists()
+fn not_taken(what: &str, error: LineError) -> LoggedError {
+    match error {
+        LineError::Fault { line, why } => {
+            OtherReply.says(format!("{what}, line {line} of it: {why}"))
+        }
+        LineError::OutOfMemory => Error::OutOfMemory.into(),
+    }
+}
+
+// The row of `log`, if that is the one that is wanted, and the WAL is there, is sound, and belongs to the file.
+fn compared_head(
+    path: &Path,
+    database: &Connection,
+    wanted: &LogOptions,
+) -> Result<Head, LoggedError> {
+    let (head, alone) = (head_of(database), head_alone(path));
+    let is_open = alone.as_ref().is_some_and(|it| it.is_open);
+    let wal = beside(path, "-wal");
+    if fs::metadata(&wal).is_ok_and(|it| it.len() >= HEADER as u64) {
+        check_wal(&wal, alone.is_some() && !is_open)?;
+    } else if is_open {
+        return Err(WalMissing.says(format!(
+            "the log wasn't closed, and {} isn't there, or is empty: what it had is gone. If nothing was in it, since \
+             sqlite3 has moved that, or this is a whole copy, `UPDATE log SET is_open = 0` says so",
+            wal.display()
+        )));
+    }
+    let head = head?;
+    let (name, (epoch, next, _), least) = (&head.name, head.end, wanted.at_least);
+    let other = wanted.name.as_ref().unwrap_or(name);
+    let words = format!("the log's name is {name}, and that of the one that is wanted {other}");
+    OtherLog.unless(other == name, words)?;
+    let words = format!("the log has {next} entries, and had {least}: it is an older copy");
+    LogOld.unless(next >= least, words)?;
+    if let Some((own, (begun, was, _))) = alone.map(|it| (it.name, it.end)) {
+        let words = format!("the file is the log {own}, and the WAL beside it that of {name}");
+        OtherLog.unless(own == *name, words)?;
+        let words = format!("the file has {was} entries, and with its WAL {next}: that is older");
+        LogOld.unless((begun, was) <= (epoch, next), words)?;
+    }
+    Ok(head)
 }
 
 // What the file says without its WAL; None if it can't be read so, as in the midst of a move.
@@ -113,96 +158,204 @@ fn head_alone(path: &Path) -> Option<Head> {
     let bytes = path.as_os_str().as_encoded_bytes().iter();
     let uri = bytes.fold("file:".to_owned(), |uri, it| format!("{uri}%{it:02x}"));
     let database = connected(Path::new(&(uri + "?immutable=1")), how).ok()?;
-    check_format(&database).ok()?;
-    head_of(&database).ok().filter(|it| is_name(&it.name))
-}
-
-// Whether the WAL of a log that wasn't closed is there, and whether it has rotted.
-fn check_wal_of(path: &Path, alone: Option<&Head>) -> Result<(), LoggedError> {
-    let wal = beside(path, "-wal");
-    let is_open = alone.is_some_and(|it| it.is_open != 0);
-    if fs::metadata(&wal).is_ok_and(|it| it.len() >= HEADER as u64) {
-        return check_wal(&wal, alone.is_some() && !is_open);
-    }
-    if !is_open {
-        return Ok(());
-    }
-    Err(fault!(
-        WalMissing,
-        "the log wasn't closed, and {} isn't there, or is empty: what it had is gone. If nothing was in it, since \
-         sqlite3 has moved that, or this is a whole copy, `UPDATE log SET is_open = 0` says so",
-        wal.display()
-    ))
-}
-
-// Whether it is the log that is wanted, and the WAL belongs to the file.
-fn compare(head: &Head, wanted: &LogOptions, alone: Option<&Head>) -> Result<(), LoggedError> {
-    let (name, next, least) = (&head.name, head.next_entry, wanted.at_least);
-    let alone = alone.unwrap_or(head);
-    let (own, was) = (&alone.name, alone.next_entry);
-    Err(match &wanted.name {
-        Some(other) if other != name => {
-            fault!(
-                OtherLog,
-                "the log's name is {name}, and that of the one that is wanted {other}"
-            )
-        }
-        _ if next < least => {
-            fault!(
-                LogOld,
-                "the log has {next} entries, and had {least}: it is an older copy"
-            )
-        }
-        _ if own != name => {
-            fault!(
-                OtherLog,
-                "the file is the log {own}, and the WAL beside it that of {name}"
-            )
-        }
-        _ if (alone.epoch, was) > (head.epoch, next) => {
-            fault!(
-                LogOld,
-                "the file has {was} entries, and with its WAL {next}: that is older"
-            )
-        }
-        _ => return Ok(()),
-    })
-}
-
-// Has the guardian take the lines of a row.
-fn take(recovery: &mut Recovery, what: &str, lines: &[u8]) -> Result<(), LoggedError> {
-    let Ok(text) = std::str::from_utf8(lines) else {
-        return Err(fault!(OtherReply, "{what} isn't UTF-8"));
-    };
-    let taken = recovery.take(&format!("{text}\n"));
-    taken.map_err(|error| not_taken(what, error))
-}
-
-fn not_taken(what: &str, error: LineError) -> LoggedError {
-    match error {
-        LineError::Fault { line, why } => fault!(OtherReply, "{what}, line {line} of it: {why}"),
-        LineError::OutOfMemory => Error::OutOfMemory.into(),
-    }
+    head_of(&database).ok().filter(|it| it.name.len() == 32)
 }
 
 // The objects that have names, each with the shape that it was declared with.
-fn names_in(
-    database: &Connection,
-    guardian: &Guardian,
-) -> Result<HashMap<String, u32>, LoggedError> {
+fn names_in(database: &Connection, guardian: &Guardian) -> Result<Names, LoggedError> {
     let select = "SELECT name, number, shape FROM object WHERE name IS NOT NULL";
-    let (mut select, mut names) = (database.prepare(select)?, HashMap::new());
+    let (mut select, mut names) = (database.prepare(select)?, Names::new());
     let mut rows = select.query([])?;
     while let Some(row) = rows.next()? {
         let (name, number, shape): (String, u32, String) = row.try_into()?;
         if number >= guardian.objects() || guardian.shape(ObjId::numbered(number))? != shape {
             let which = format!("`{name}` is the name of object {number}");
-            return Err(fault!(
-                RowChanged,
-                "{which}, which hasn't the shape {shape}"
-            ));
+            return Err(RowChanged.says(format!("{which}, which hasn't the shape {shape}")));
         }
         names.insert(name, number);
     }
     Ok(names)
+}
+
+// The row of `log`, if it is a log, in a format that is known.
+fn head_of(database: &Connection) -> Result<Head, LoggedError> {
+    let number = |pragma| database.pragma_query_value(None, pragma, |row| row.get::<_, i64>(0));
+    let is_log = number("application_id")? == APPLICATION;
+    NotALog.unless(is_log, "the file is no log of a guardian")?;
+    let format = number("user_version")?;
+    let words = format!("it has format {format}, which isn't known");
+    OtherFormat.unless(format == FORMAT, words)?;
+    let select = "SELECT name, is_open != 0, epoch, next_entry, sum FROM log";
+    let head = database.query_row(select, [], |row| {
+        let end = (row.get(2)?, row.get(3)?, row.get(4)?);
+        let (name, is_open) = (row.get(0)?, row.get(1)?);
+        Ok(Head { name, is_open, end })
+    });
+    head.optional()?
+        .ok_or_else(|| RowMissing.says("`log` has no row"))
+}
+
+/// Compares the copy of a log.
+pub(crate) fn check_copy(database: &Connection) -> Result<(), LoggedError> {
+    check_rows(database, &head_of(database)?, |_, _| Ok(())).map(|_| ())
+}
+
+// Compares the pages, the opening and each batch, and has each taken then, as what it is, and its lines. Returns the
+// number of the first entry, and how many batches there are.
+fn check_rows(
+    database: &Connection,
+    head: &Head,
+    mut take: impl FnMut(&str, &[u8]) -> Result<(), LoggedError>,
+) -> Result<(u64, u64), LoggedError> {
+    let said = database.query_row("PRAGMA quick_check(1)", [], |row| {
+        Ok(String::from_utf8_lossy(row.get_ref(0)?.as_bytes()?).into_owned())
+    })?;
+    PagesDamaged.unless(said == "ok", format!("the database isn't sound: {said}"))?;
+    let opening = opening_of(database)?;
+    let begins = match opening.strip_prefix(b"opening entries ") {
+        None if opening.is_empty() => Some(0),
+        said => said.and_then(number_in),
+    };
+    let words = "line 0 of the opening doesn't say before which entry it stands";
+    let begins = begins.ok_or_else(|| RowChanged.says(words))?;
+    if !opening.is_empty() {
+        take("the opening", &opening)?;
+    }
+    let mut sum = log_sum(&head.name, begins, 0, &opening);
+    let (mut entry, mut batches) = (begins, 0);
+    let mut statement = database.prepare("SELECT first, lines, sum FROM batch ORDER BY first")?;
+    let mut rows = statement.query([])?;
+    while let Some(row) = rows.next()? {
+        let lines = row.get_ref(1)?.as_bytes();
+        let (first, lines) = (row.get(0)?, lines.map_err(rusqlite::Error::from)?);
+        check_place(first, entry, lines)?;
+        let what = format!("batch {first}");
+        sum = log_sum(&head.name, first, sum, lines);
+        if row.get::<_, u32>(2)? != sum {
+            let why = "it was changed, or what is before it";
+            return Err(RowChanged.says(format!("{what} hasn't the sum that it says: {why}")));
+        }
+        take(&what, lines)?;
+        (entry, batches) = (entry + line_feeds(lines) + 1, batches + 1);
+    }
+    check_end(head, entry, sum)?;
+    Ok((begins, batches))
+}
+
+// The opening's lines; none before the first checkpoint.
+fn opening_of(database: &Connection) -> Result<Vec<u8>, LoggedError> {
+    let mut statement = database.prepare("SELECT line, text FROM opening ORDER BY line")?;
+    let (mut rows, mut lines, mut count) = (statement.query([])?, Vec::new(), 0);
+    while let Some(row) = rows.next()? {
+        let is_next = row.get::<_, i64>(0)? == count;
+        RowMissing.unless(is_next, format!("line {count} of the opening isn't there"))?;
+        lines.extend((count > 0).then_some(b'\n'));
+        let text = row.get_ref(1)?.as_bytes();
+        lines.extend_from_slice(text.map_err(rusqlite::Error::from)?);
+        count += 1;
+    }
+    Ok(lines)
+}
+
+// The number that a text begins with, if its first word is one.
+fn number_in(text: &[u8]) -> Option<u64> {
+    let word = text.split(|it| matches!(it, b' ' | b'\n')).next()?;
+    std::str::from_utf8(word).ok()?.parse().ok()
+}
+
+// Whether this batch comes next, and its lines are in their place.
+fn check_place(first: u64, entry: u64, lines: &[u8]) -> Result<(), LoggedError> {
+    let begins = number_in(lines).unwrap_or(first);
+    let place = format!("in the place of batch {first} are the lines of entry {begins}");
+    Err(match (first.cmp(&entry), begins.cmp(&first)) {
+        (Equal, Equal) => return Ok(()),
+        (Equal, Greater) => RowSwapped.says(format!("{place} and those after it")),
+        (Equal, Less) => RowDoubled.says(format!("{place} once more")),
+        (Less, _) => RowDoubled.says(format!(
+            "batch {first} comes where entry {entry} comes next"
+        )),
+        (Greater, _) => {
+            let missing = format!("the entries {entry} to {} aren't there", first - 1);
+            RowMissing.says(format!("{missing}: batch {first} comes next"))
+        }
+    })
+}
+
+fn check_end(head: &Head, entry: u64, sum: u32) -> Result<(), LoggedError> {
+    let (_, next, last) = head.end;
+    let words =
+        format!("the log ends before entry {entry}, and `log` says that entry {next} comes next");
+    LogCut.unless(entry >= next, words)?;
+    let words = format!("`log` is older than the batches: it says {next}, in place of {entry}");
+    LogOld.unless(entry <= next, words)?;
+    let words = "`log` has another sum than the last batch or the opening: one was changed";
+    RowChanged.unless(sum == last, words)
+}
+
+// SQLite takes a WAL up to the first frame that doesn't verify, and drops what is behind it without a word. That is
+// right of a write that was torn, and wrong of a frame that rotted. Each commit is on disk before the next one's
+// frames are written, so they can be distinguished: behind the end of a torn commit there are no frames of this WAL.
+// The format is SQLite's (sqlite.org/fileformat2.html, "The WAL File Format"). A WAL without its header is empty.
+const HEADER: usize = 32;
+const FRAME: usize = 24;
+const MAGIC: u32 = 0x377f_0682;
+const VERSION: u32 = 3_007_000;
+
+// Whether a frame that was on disk has changed. The header of a WAL that is new may be torn: then nothing is in it.
+fn check_wal(path: &Path, may_be_new: bool) -> Result<(), LoggedError> {
+    let content = fs::read(path).map_err(|error| Unreadable.says(error.to_string()))?;
+    let what = match damaged_frame(&content) {
+        None => return Ok(()),
+        Some(0) if may_be_new => return Ok(()),
+        Some(0) => "the header".to_owned(),
+        Some(number) => format!("frame {number}"),
+    };
+    let words = "has changed, and later work was written behind it";
+    Err(WalDamaged.says(format!("{}: {what} {words}", path.display())))
+}
+
+// The number of the first damaged frame, from 1 on; 0 for the header.
+fn damaged_frame(wal: &[u8]) -> Option<u64> {
+    let (header, frames) = wal.split_at_checked(HEADER)?;
+    let is_big = word(header, 0) & 1 == 1;
+    let mut sums = summed(is_big, &header[..24], (0, 0));
+    let is_known = word(header, 0) & !1 == MAGIC && word(header, 4) == VERSION;
+    if !is_known || sums != (word(header, 24), word(header, 28)) {
+        return Some(0);
+    }
+    let (mut damaged, mut is_ended) = (None, false);
+    for (number, frame) in (1..).zip(frames.chunks_exact(FRAME + word(header, 8) as usize)) {
+        let is_own = frame[8..16] == header[16..24];
+        if damaged.is_none() {
+            sums = summed(is_big, &frame[FRAME..], summed(is_big, &frame[..8], sums));
+            let is_sound = is_own && sums == (word(frame, 16), word(frame, 20));
+            damaged = (!is_sound).then_some(number);
+        }
+        if damaged.is_some() && is_own {
+            if is_ended {
+                return damaged;
+            }
+            // Of a commit that was torn, the frame with which it ends may be there.
+            is_ended = word(frame, 4) != 0;
+        }
+    }
+    None
+}
+
+fn word(bytes: &[u8], at: usize) -> u32 {
+    let bytes = bytes[at..at + 4].iter();
+    bytes.fold(0, |word, byte| word << 8 | u32::from(*byte))
+}
+
+fn summed(is_big: bool, data: &[u8], sums: (u32, u32)) -> (u32, u32) {
+    let swapped = |it: u32| if is_big { it } else { it.swap_bytes() };
+    data.chunks_exact(8).fold(sums, |(first, second), it| {
+        let first = first
+            .wrapping_add(swapped(word(it, 0)))
+            .wrapping_add(second);
+        let second = second
+            .wrapping_add(swapped(word(it, 4)))
+            .wrapping_add(first);
+        (first, second)
+    })
 }

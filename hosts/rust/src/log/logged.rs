@@ -1,23 +1,16 @@
-//! `Logged`: a guardian that threads share, and whose entries go to a log.
+//! `Logged`: a guardian that threads share, and whose entries go to a log; `LoggedAction`: a live action of one.
 
-use crate::error::{CheckpointError, Error};
-use crate::guardian::Guardian;
+use crate::access::Caller;
 use crate::log::batch_log::{BatchLog, EntryLines, ObjectName, Opening};
 use crate::log::error::{Failure, LoggedError};
-use crate::log::group::{Goal, Group, LogCounts};
-use crate::log::logged_action::LoggedAction;
-use crate::object::{AsObject, Object};
-use crate::questions::Listing;
-use crate::shared::Shared;
-use crate::shared::action::SharedAction;
-use crate::shared::retry::{MayConflict, retried};
-use crate::value::Content;
-use crate::{ActionId, ObjId};
+use crate::log::group::{LogCounts, Queue, locked};
+use crate::shared::retry::retried;
+use crate::{ActionId, Answer, AsObject, Call, Content, Error, Guardian, Listing, MayConflict};
+use crate::{ObjId, Object, Shared, SharedAction};
 use std::collections::HashMap;
-use std::iter;
-use std::sync::atomic::{AtomicU64, Ordering};
-use std::sync::{Mutex, PoisonError};
+use std::sync::{Condvar, Mutex, OnceLock};
 use std::time::Duration;
+use std::{fmt, iter};
 
 // How long a checkpoint that a log makes by itself holds back topactions; and after how many entries it tries again.
 const PATIENCE: Duration = Duration::from_millis(100);
@@ -25,19 +18,15 @@ const AGAIN: u64 = 10_000;
 
 /// A guardian that threads share, and whose journal's entries go to a log.
 ///
-/// A topaction is *acknowledged* when its [`commit`](LoggedAction::commit) has returned `Ok`: the commit and all
-/// entries before it are in the log. The same holds for a nested topaction. What a program passes on has to be
-/// acknowledged, too: the contents from [`base`](Self::base) and the numbers from [`declare`](Self::declare) are, and
-/// so are all calls before a [`barrier`](Self::barrier).
-///
-/// Commits wait for the log together: calls go on while a batch is written, and one write and one sync serve all
-/// commits that arrive meanwhile.
+/// A topaction or a nested one is *acknowledged* when its [`commit`](LoggedAction::commit) has returned `Ok`: it and
+/// all entries before it are in the log. What a program passes on has to be acknowledged, too: what
+/// [`base`](Self::base) and [`declare`](Self::declare) return is, and so are all calls before a
+/// [`barrier`](Self::barrier). Calls go on while a batch is written, and one sync serves all commits that arrive then.
 ///
 /// Each call fails as its namesake of [`Shared`] or [`Guardian`]. If the log fails, this is *broken*: each later call
 /// returns [`LoggedError::Broken`] and isn't made, and those that were waiting for the log return
-/// [`LoggedError::InDoubt`]. A restart finds out whether they are there.
-///
-/// **None of this is proved**, except the guardian's replies and the call that restores it from its log's lines.
+/// [`LoggedError::InDoubt`]. A restart finds out whether they are there. So a client numbers its orders, and the
+/// topaction that carries one out also records its number, as in the example `orders`.
 ///
 /// ```
 /// use argus_guardian::{Access, log::{Logged, LoggedError}};
@@ -56,28 +45,33 @@ const AGAIN: u64 = 10_000;
 /// # }
 /// # Ok::<(), LoggedError>(())
 /// ```
-///
-/// After a crash a client can't know whether its order was carried out. So it numbers its orders, and the topaction
-/// that carries one out also records its number, as in the example `orders`.
-#[derive(Debug)]
 pub struct Logged {
-    shared: Shared,
-    group: Group,
-    // The numbers of objects by their names, if the log keeps any.
-    pub(crate) names: Option<Mutex<HashMap<String, u32>>>,
+    pub(crate) shared: Shared,
+    pub(crate) log: Mutex<Box<dyn BatchLog>>,
+    pub(crate) queue: Mutex<Queue>,
+    pub(crate) has_changed: Condvar,
+    pub(crate) have_come: Condvar,
+    pub(crate) broken: OnceLock<Failure>,
+    // If the log keeps any.
+    pub(crate) names: Option<Mutex<Names>>,
     // After so many entries it makes a checkpoint by itself.
     pub(crate) checkpoint_after: Option<u64>,
-    // The number of the first entry since the last checkpoint; and that before which no other one is tried.
-    begins: AtomicU64,
-    again_at: AtomicU64,
     // The database, and what was found there.
     #[cfg(feature = "sqlite")]
     pub(crate) found: crate::log::LogFound,
 }
 
+/// The numbers of objects by their names.
+pub(crate) type Names = HashMap<String, u32>;
+
+impl fmt::Debug for Logged {
+    fn fmt(&self, f: &mut fmt::Formatter<'_>) -> fmt::Result {
+        f.debug_struct("Logged").finish_non_exhaustive()
+    }
+}
+
 // A log that forgets.
 struct Forgetting;
-
 impl BatchLog for Forgetting {
     fn append(&mut self, _: &EntryLines) -> Result<(), Failure> {
         Ok(())
@@ -88,7 +82,6 @@ impl BatchLog for Forgetting {
     }
 }
 
-#[allow(clippy::missing_errors_doc, reason = "the type says how each fails")]
 impl Logged {
     /// A new guardian whose log forgets: for tests of a program.
     pub fn in_memory() -> Result<Logged, Error> {
@@ -100,11 +93,13 @@ impl Logged {
     #[must_use]
     pub fn over(guardian: Guardian, log: Box<dyn BatchLog>, patience: Duration) -> Logged {
         Logged {
-            group: Group::new(log, guardian.entries()),
+            log: Mutex::new(log),
+            queue: Mutex::new(Queue::of(&guardian)),
+            has_changed: Condvar::new(),
+            have_come: Condvar::new(),
+            broken: OnceLock::new(),
             names: None,
             checkpoint_after: None,
-            begins: AtomicU64::new(guardian.first_entry()),
-            again_at: AtomicU64::new(0),
             #[cfg(feature = "sqlite")]
             found: crate::log::LogFound::default(),
             shared: Shared::new(guardian, patience).fold_after(None),
@@ -122,23 +117,20 @@ impl Logged {
         let logged = Logged::over(guardian, log, patience);
         let next = logged.entries();
         logged.acknowledged(Guardian::abort_live)?;
-        let entries = logged.entries();
-        Ok((logged, entries - next))
+        let aborted = logged.entries() - next;
+        Ok((logged, aborted))
     }
 
     // The guardian, unless the log is broken.
     pub(crate) fn shared(&self) -> Result<&Shared, LoggedError> {
-        let broken = self.group.broken().map(LoggedError::Broken);
+        let broken = self.broken().map(LoggedError::Broken);
         broken.map_or(Ok(&self.shared), Err)
     }
 
     /// Begins a topaction. It aborts when it is dropped, unless it has committed.
     pub fn topaction(&self) -> Result<LoggedAction<'_>, LoggedError> {
-        Ok(LoggedAction {
-            action: self.shared()?.topaction()?,
-            logged: self,
-            is_outer: true,
-        })
+        let (logged, action) = (self, self.shared()?.topaction()?);
+        Ok(LoggedAction { logged, action })
     }
 
     /// Carries out the work as a topaction, as [`Shared::run`] does: it may run more than once, and is
@@ -182,8 +174,7 @@ impl Logged {
 
     /// Finds the object of this name; if there is none, declares one of this shape. Its number and its name are
     /// acknowledged. So a program keeps names, and no numbers, from one start to the next.
-    ///
-    /// It may also fail with [`LoggedError::OtherShape`], and [`LoggedError::NoNames`] if the log isn't in a database.
+    /// It may also fail with [`LoggedError::OtherShape`], or [`LoggedError::NoNames`].
     pub fn declare_named(&self, name: &str, shape: &str) -> Result<ObjId, LoggedError> {
         Ok(self.named(name, shape)?.id())
     }
@@ -191,29 +182,27 @@ impl Logged {
     /// The same, with the object's handle: its name, and the names of its fields or tags.
     pub fn named(&self, name: &str, shape: impl AsRef<str>) -> Result<Object, LoggedError> {
         let (shared, shape) = (self.shared()?, shape.as_ref());
-        let names = self.names.as_ref().ok_or(LoggedError::NoNames)?;
-        let mut names = names.lock().unwrap_or_else(PoisonError::into_inner);
-        let found = names.get(name).copied();
-        let declare = |guardian: &Guardian| {
+        let mut names = locked(self.names.as_ref().ok_or(LoggedError::NoNames)?);
+        let object = |id| shared.lend(|guardian| guardian.object(id));
+        if let Some(number) = names.get(name) {
+            let object = object(ObjId::numbered(*number))?;
+            if object.shape() != shape {
+                return Err(LoggedError::OtherShape(object.shape().to_owned()));
+            }
+            return Ok(object.called(name));
+        }
+        let id = self.acknowledged(|guardian| {
             let id = guardian.declare(shape)?;
             let entry = ObjectName {
                 number: id.number(),
                 name: name.to_owned(),
                 shape: shape.to_owned(),
             };
-            self.group.queue().name(guardian.entries(), entry);
+            locked(&self.queue).names.push((guardian.entries(), entry));
             Ok(id)
-        };
-        let id = match found.map(ObjId::numbered) {
-            Some(id) => id,
-            None => self.acknowledged(declare)?,
-        };
+        })?;
         names.insert(name.to_owned(), id.number());
-        let object = shared.lend(|guardian| guardian.object(id))?;
-        if found.is_some() && object.shape() != shape {
-            return Err(LoggedError::OtherShape(object.shape().to_owned()));
-        }
-        Ok(object.called(name))
+        Ok(object(id)?.called(name))
     }
 
     /// The object's base, which is acknowledged; `None` if it has no content yet.
@@ -266,14 +255,8 @@ impl Logged {
         let asked = |guardian: &Guardian| (what(guardian), guardian.entries());
         let (answer, entries) = self.shared()?.lend(asked);
         let answer = answer?;
-        self.wait(Goal::entry(entries))?;
+        self.wait(entries, 0)?;
         Ok(answer)
-    }
-
-    // Returns when the log has that.
-    fn wait(&self, goal: Goal) -> Result<(), LoggedError> {
-        let waited = self.group.wait(&self.shared, goal);
-        waited.map_err(LoggedError::InDoubt)
     }
 
     /// Returns when all earlier calls are in the log. Call it before you pass on what an action has read, if that
@@ -285,28 +268,25 @@ impl Logged {
     /// Folds the journal when no action is live, and starts the log again with what the objects hold: its old entries
     /// are removed. Until then it holds back each [`topaction`](Self::topaction), at most for this patience.
     /// At an error the log goes on as it was, except that after `OutOfMemory` it may start again with the next commit.
-    ///
     /// A log in a database does so by itself, too (`LogOptions::checkpoint_after`).
     pub fn checkpoint_waiting(&self, patience: Duration) -> Result<(), LoggedError> {
-        let fold = |guardian: &Guardian| self.group.queue().fold(guardian);
-        let goal: Result<Goal, CheckpointError> = self.shared()?.fold_waiting(patience, fold);
-        let goal = goal?;
-        self.begins.store(goal.entry, Ordering::Relaxed);
-        self.wait(goal)
+        let fold = |guardian: &Guardian| locked(&self.queue).fold(guardian);
+        let openings = self.shared()?.fold_waiting(patience, fold)?;
+        self.wait(0, openings)
     }
 
-    // Where so many entries are in the log, and so many actions have begun. What comes of the checkpoint isn't reported,
-    // since what was committed is in the log. A later commit tries again.
+    // Where so many entries are in the log, and so many actions have begun. What comes of the checkpoint isn't
+    // reported, since what was committed is in the log. A later commit tries again.
     pub(crate) fn checkpoint_if_due(&self, entries: u64, actions: u32) {
         let Some(after) = self.checkpoint_after else {
             return;
         };
-        let grown = entries.saturating_sub(self.begins.load(Ordering::Relaxed));
-        let is_due = grown >= after || actions >= Guardian::MAX_ACTIONS / 2;
+        let mut queue = locked(&self.queue);
+        let is_due = entries >= queue.begins + after || actions >= Guardian::MAX_ACTIONS / 2;
         // One thread makes it.
-        let next = |at| (is_due && entries >= at).then_some(entries + AGAIN.min(after));
-        let (set, fetch) = (Ordering::Relaxed, Ordering::Relaxed);
-        if self.again_at.fetch_update(set, fetch, next).is_ok() {
+        if is_due && entries >= queue.again_at {
+            queue.again_at = entries + AGAIN.min(after);
+            drop(queue);
             let _ = self.checkpoint_waiting(PATIENCE);
         }
     }
@@ -314,24 +294,106 @@ impl Logged {
     /// What the log has done since it was opened.
     #[must_use]
     pub fn counts(&self) -> LogCounts {
-        self.group.counts()
+        locked(&self.queue).counts
     }
 
     /// Why the log is broken, if it is.
     #[must_use]
     pub fn broken(&self) -> Option<Failure> {
-        self.group.broken()
+        self.broken.get().cloned()
+    }
+}
+
+/// A live action of a guardian with a log: a [`SharedAction`]. It aborts when it is dropped, unless it has committed.
+/// What it does with objects is in the trait [`Access`](crate::Access). What it reads may come from commits that aren't
+/// in the log yet: to pass it on without committing, call [`Logged::barrier`] first. Each call fails as its namesake of
+/// [`SharedAction`], or with [`LoggedError::Broken`], and then it isn't made.
+///
+/// ```
+/// # use argus_guardian::{Access, log::Logged};
+/// # let logged = Logged::in_memory()?;
+/// let record = logged.declare("atomic_record[n:int]")?;
+/// let top = logged.topaction()?;
+/// top.create(record, (1,))?;
+/// let sub = top.subaction()?;
+/// sub.set(record, 0, 2)?;
+/// sub.commit()?; // to its parent: nothing is waited for
+/// top.commit()?; // acknowledged
+/// # Ok::<(), argus_guardian::log::LoggedError>(())
+/// ```
+#[derive(Debug)]
+#[must_use = "an action that is dropped aborts"]
+pub struct LoggedAction<'l> {
+    logged: &'l Logged,
+    action: SharedAction<'l>,
+}
+
+impl<'l> LoggedAction<'l> {
+    // The action, unless the log is broken.
+    fn action(&self) -> Result<&SharedAction<'l>, LoggedError> {
+        self.logged.shared().map(|_| &self.action)
     }
 
-    // Commits an outer action, and returns when that is in the log.
-    pub(crate) fn commit(&self, action: SharedAction<'_>) -> Result<(), LoggedError> {
-        self.shared()?;
-        let (number, is_top) = (action.id().number(), !action.is_nested());
+    /// Its number.
+    #[must_use]
+    pub fn id(&self) -> ActionId {
+        self.action.id()
+    }
+
+    /// Begins a subaction: what it leaves counts only if its ancestors commit.
+    pub fn subaction(&self) -> Result<LoggedAction<'_>, LoggedError> {
+        let (logged, action) = (self.logged, self.action()?.subaction()?);
+        Ok(LoggedAction { logged, action })
+    }
+
+    /// Begins a nested topaction: what it leaves stays, and is acknowledged, even if this action aborts.
+    pub fn nested(&self) -> Result<LoggedAction<'_>, LoggedError> {
+        let (logged, action) = (self.logged, self.action()?.nested()?);
+        Ok(LoggedAction { logged, action })
+    }
+
+    /// Aborts all live siblings: the first that is done ends the others.
+    pub fn abort_others(&self) -> Result<(), LoggedError> {
+        Ok(self.action()?.abort_others()?)
+    }
+
+    /// Commits. For a topaction or a nested one it returns when the commit is in the log. At an error it is aborted,
+    /// but for [`LoggedError::InDoubt`]: it has committed here, and a restart finds out whether the log has it.
+    pub fn commit(self) -> Result<(), LoggedError> {
+        let (logged, action) = (self.logged, self.action);
+        logged.shared()?;
+        let (number, is_top) = (action.id().number(), action.is_outermost());
+        if !is_top && !action.is_nested() {
+            return Ok(action.commit()?);
+        }
         let entries = action.commit_counted()?;
-        self.wait(Goal::entry(entries))?;
+        logged.wait(entries, 0)?;
         if is_top {
-            self.checkpoint_if_due(entries, number);
+            logged.checkpoint_if_due(entries, number);
         }
         Ok(())
+    }
+
+    /// Aborts, and returns an error if that fails, which a drop can't; it is aborted even if the log is broken. It
+    /// doesn't wait for the log: after a crash the action is aborted, too.
+    pub fn abort(self) -> Result<(), LoggedError> {
+        self.logged.shared()?;
+        Ok(self.action.abort()?)
+    }
+}
+
+impl Caller for LoggedAction<'_> {
+    type Error = LoggedError;
+
+    fn number(&self) -> ActionId {
+        self.action.id()
+    }
+
+    fn make(&self, call: &Call, object: &impl AsObject) -> Result<Answer, LoggedError> {
+        Ok(self.action()?.make(call, object)?)
+    }
+
+    fn find(&self, object: &impl AsObject) -> Result<Object, LoggedError> {
+        Ok(self.action()?.find(object)?)
     }
 }

@@ -1,8 +1,6 @@
 //! `Recovery`: a guardian that is being restored from the lines of its log; `LineError`: why it takes one not.
 
-use crate::error::Error;
-use crate::guardian::Guardian;
-use crate::resumption::{LineFault, Resumption, TakenEnd};
+use crate::{Error, Guardian, LineFault, Resumption, TakenEnd};
 
 /// Why the lines of a batch weren't taken.
 #[derive(Debug, Clone, PartialEq, Eq)]
@@ -19,26 +17,20 @@ pub enum LineError {
 }
 
 /// A guardian that is being restored from the lines of its log, by the library's proved call: each call is made again,
-/// and its reply compared with the line's.
+/// and its reply compared with the line's. It fails as a [`Resumption`].
 ///
 /// ```
 /// use argus_guardian::log::{LineError, Recovery};
 /// let mut recovery = Recovery::new()?;
 /// recovery.take("0 begin_top -> a0\n").expect("a journal's line");
-/// let LineError::Fault { line, why } = recovery.take("1 commit a7 -> done\n").expect_err("no action a7") else {
-///     panic!("there is memory");
-/// };
-/// assert_eq!(line, 0);
-/// assert_eq!(why, "`1 commit a7 -> done`: the journal before it gives the reply `refused NoAction`");
+/// let error = recovery.take("1 commit a7 -> done\n").expect_err("no action a7");
+/// let why = "`1 commit a7 -> done`: the journal before it gives the reply `refused NoAction`".to_owned();
+/// assert_eq!(error, LineError::Fault { line: 0, why });
 /// # Ok::<(), argus_guardian::Error>(())
 /// ```
 #[derive(Debug)]
 pub struct Recovery(Resumption);
 
-#[allow(
-    clippy::missing_errors_doc,
-    reason = "they fail as those of Resumption"
-)]
 impl Recovery {
     /// A new one, which has taken no line: [`Resumption::new`].
     pub fn new() -> Result<Recovery, Error> {
@@ -61,9 +53,19 @@ impl Recovery {
         let taken = self.0.take(lines);
         let why = match taken.end {
             TakenEnd::Whole => return Ok(()),
-            TakenEnd::Torn => "it has no line feed".to_owned(),
-            TakenEnd::Fault(fault) => words_of(&fault),
             TakenEnd::OutOfMemory => return Err(LineError::OutOfMemory),
+            TakenEnd::Torn => "it has no line feed".to_owned(),
+            TakenEnd::Fault(fault) => match fault {
+                LineFault::NotAnOpening => "it isn't the next line of an opening".to_owned(),
+                LineFault::NoLine { at } => {
+                    format!("it isn't the line of an entry, from byte {at} on")
+                }
+                LineFault::NotNext { next } => format!("entry {next} comes next"),
+                LineFault::NotTheReply { reply: Some(reply) } => {
+                    format!("the journal before it gives the reply `{reply}`")
+                }
+                other => other.to_string(),
+            },
         };
         let text = lines[taken.bytes..].lines().next().unwrap_or("");
         let (line, why) = (taken.lines as u64, format!("`{text}`: {why}"));
@@ -79,18 +81,5 @@ impl Recovery {
             return Err(LineError::Fault { line, why });
         }
         Ok(opened.guardian)
-    }
-}
-
-// What is wrong with a line.
-fn words_of(fault: &LineFault) -> String {
-    match fault {
-        LineFault::NotAnOpening => "it isn't the next line of an opening".to_owned(),
-        LineFault::NoLine { at } => format!("it isn't the line of an entry, from byte {at} on"),
-        LineFault::NotNext { next } => format!("entry {next} comes next"),
-        LineFault::NotTheReply { reply: Some(reply) } => {
-            format!("the journal before it gives the reply `{reply}`")
-        }
-        other => other.to_string(),
     }
 }

@@ -213,7 +213,7 @@ impl<'s> SharedAction<'s> {
     }
 
     // Whether nothing is around it.
-    fn is_outermost(&self) -> bool {
+    pub(crate) fn is_outermost(&self) -> bool {
         self.creator.is_none()
     }
 
