@@ -10,3 +10,4 @@ pub mod KeptObjects
 pub mod Quiet
 pub mod Dropped
 pub mod Told
+pub mod Listings

@@ -7,5 +7,6 @@ pub mod Laws
 pub mod CallEach
 pub mod JournalLines
 pub mod Resuming
+pub mod Listed
 pub mod ReadyEmbedded
 pub mod ParsedCall

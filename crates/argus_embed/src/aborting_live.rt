@@ -19,6 +19,7 @@ impl Embedded {
         ensures err { OnErr result (IsAbortedInPart self.old self.new) }
         ensures error { IfErr result (λ error. error ≡ OutOfMemory) }
     {
+        self.guardian.journal_is_legal();
         self.guardian.abort_live()?;
         Ok(())
     }

@@ -2,9 +2,7 @@
 
 ghost use Rattle.std.specs.Prelude.{IfErr, IfOk, OnErr, OnOk, ◌≡◌};
 ghost use Rattle.argus_embed.specs.Requests.{IsCalled, IsRead, IsUnread};
-ghost use Rattle.argus_embed.specs.Embedded.{after_call, outcome_of, with_reply};
-ghost use Rattle.argus_journal.specs.Call.{plain_call};
-ghost use Rattle.argus_journal.specs.JournalView.{reply_to};
+ghost use Rattle.argus_embed.specs.Embedded.{outcome_of, with_reply};
 ghost use Rattle.argus_journal.specs.Reply.{plain_reply};
 
 use crate::embed_error::EmbedError;
@@ -14,8 +12,7 @@ use crate::outcome::Outcome;
 use crate::reporting::outcome_of;
 use crate::request::Request;
 use crate::requesting::call_of;
-use argus_journal::{Call, Reply};
-use argus_values::OutOfMemory;
+use argus_journal::Reply;
 use std::mem::replace;
 
 impl Embedded {
@@ -42,18 +39,6 @@ impl Embedded {
         ensures err { OnErr result (self.new ≡ self.old) }
     {
         let call = call_of(self.heap, request, text)?;
-        match self.make(call) {
-            Ok(outcome) => Ok(outcome),
-            Err(OutOfMemory) => Err(EmbedError::OutOfMemory),
-        }
-    }
-
-    pub(crate) fn make(&mut self, call: Call) -> Result<Outcome, OutOfMemory>
-        ensures outcome { IfOk result (λ outcome. outcome
-            ≡ outcome_of (reply_to self.old.journal (plain_call call))) }
-        ensures ok { OnOk result (self.new ≡ after_call self.old (plain_call call)) }
-        ensures err { OnErr result (self.new ≡ self.old) }
-    {
         let reply = self.guardian.call(call)?;
         Ok(self.keep_reply(reply))
     }

@@ -9,6 +9,7 @@ ghost use Rattle.argus_embed.specs.declared.embed_error.EmbedError.TheVariants.{
 use crate::embed_error::EmbedError;
 use crate::embedded::Embedded;
 use argus_guardian::CheckpointError;
+use argus_guardian::resume_laws::{guardians_are_listable, journals_stay_listable};
 
 impl Embedded {
     /// Folds the journal's past into its opening: objects keep their bases, entries and actions
@@ -25,6 +26,8 @@ impl Embedded {
             ⊎ (error ≡ OutOfMemory)) }
         ensures err { OnErr result (self.new ≡ self.old) }
     {
+        guardians_are_listable(&self.guardian);
+        journals_stay_listable();
         match self.guardian.checkpoint() {
             Ok(()) => Ok(()),
             Err(CheckpointError::Busy) => Err(EmbedError::Busy),

@@ -8,7 +8,8 @@ use argus_guardian::{Guardian, Resuming};
 use argus_values::Heap;
 use std::marker::Model;
 
-/// A guardian as a host holds it. Contracts see its journal, the text that is kept, if any, and the
+/// A guardian as a host holds it. Each of its calls was read of numbers and a text, so the listing of
+/// its journal can be taken again (`listing_is_resumed`). Contracts see its journal, the text that is kept, if any, and the
 /// journal whose lines were taken so far, of which a guardian is to be made.
 ///
 /// ```text
@@ -28,6 +29,7 @@ pub struct Embedded {
 impl Model for Embedded {
     ghost use Rattle.argus_embed.specs.Kept.{kept_text};
     ghost use Rattle.argus_embed.specs.Embedded.{EmbeddedState, embedded_state_coded};
+    ghost use Rattle.argus_embed.specs.Listed.{CanBeRead};
 
     ghost Value = { EmbeddedState };
 
@@ -38,6 +40,8 @@ impl Model for Embedded {
       text = kept_text e.kept;
       taken = e.taken;
     } };
+
+    ghost invariant = { λ e. CanBeRead e.guardian };
 }
 
 impl Embedded {

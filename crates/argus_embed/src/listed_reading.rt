@@ -3,6 +3,7 @@
 ghost use Rattle.std.specs.Prelude.{IfErr, IfOk, Some, map, ◌≡◌};
 ghost use Rattle.argus_embed.specs.CallEach.{IsUnreadWith, SaysWith, action_begun};
 ghost use Rattle.argus_embed.specs.CallEach.{action_by, request_of};
+ghost use Rattle.argus_guardian.specs.Calls.{IsReadableCall};
 ghost use Rattle.argus_journal.specs.Call.{plain_call};
 ghost use Rattle.argus_journal.specs.Reply.{plain_reply};
 
@@ -24,6 +25,7 @@ pub(crate) fn listed_call_of(
     ensures says { IfOk result (λ call.
         SaysWith (action_by (map plain_reply replies.now) each.now.begun_by each.now.action)
         each.now (plain_call call)) }
+    ensures readable { IfOk result (λ call. IsReadableCall (plain_call call)) }
     ensures unread { IfErr result (λ e.
         IsUnreadWith (action_by (map plain_reply replies.now) each.now.begun_by each.now.action)
         each.now e) }

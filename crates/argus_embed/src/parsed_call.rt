@@ -28,12 +28,15 @@ pub struct ParsedCall {
 impl Model for ParsedCall {
     ghost use Rattle.argus_journal.specs.Call.{plain_call};
     ghost use Rattle.argus_embed.specs.ParsedCall.{ParsedState, parsed_state_coded};
+    ghost use Rattle.argus_guardian.specs.Calls.{IsReadableCall};
 
     ghost Value = { ParsedState };
 
     ghost coded = { parsed_state_coded };
 
     ghost view = { λ p. plain_call p.call };
+
+    ghost invariant = { λ p. IsReadableCall (plain_call p.call) };
 }
 
 impl Embedded {
@@ -54,6 +57,7 @@ impl Embedded {
         ensures err { OnErr result (self.new ≡ self.old) }
     {
         let ParsedCall { call } = parsed;
-        self.make(call)
+        let reply = self.guardian.call(call)?;
+        Ok(self.keep_reply(reply))
     }
 }

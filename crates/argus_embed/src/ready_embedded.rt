@@ -27,6 +27,8 @@ pub struct ReadyEmbedded {
 }
 
 impl Model for ReadyEmbedded {
+    ghost use Rattle.std.specs.Prelude.{◌<◌, ◌^◌};
+    ghost use Rattle.argus_embed.specs.Listed.{CanBeRead};
     ghost use Rattle.argus_embed.specs.ReadyEmbedded.{ReadyState, ready_state_coded};
 
     ghost Value = { ReadyState };
@@ -41,6 +43,8 @@ impl Model for ReadyEmbedded {
       };
       action = r.commit.action;
     } };
+
+    ghost invariant = { λ r. CanBeRead r.commit.journal × (r.commit.action < 2 ^ 32) };
 }
 
 impl ReadyEmbedded {

@@ -14,7 +14,9 @@ ghost use Rattle.argus_journal.specs.declared.limits.TheConstants.{MAX_FIRST_ENT
 
 use crate::embed_error::EmbedError;
 use crate::embedded::Embedded;
+use crate::laws::renewals_leave_listable;
 use argus_guardian::Guardian;
+use argus_guardian::resume_laws::guardians_are_listable;
 use argus_journal::limits::MAX_FIRST_ENTRY;
 use argus_values::{Content, Heap, ObjId, OutOfMemory, Room, Shape};
 use std::mem::replace;
@@ -38,6 +40,8 @@ impl Embedded {
             ⊎ (e ≡ error.OutOfMemory)) }
         ensures err { OnErr result (self.new ≡ self.old) }
     {
+        guardians_are_listable(&self.guardian);
+        renewals_leave_listable();
         let guardian = renewed(self.heap, &self.guardian)?;
         let _before = replace(&mut self.guardian, guardian);
         Ok(())

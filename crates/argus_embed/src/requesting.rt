@@ -1,6 +1,6 @@
 //! The call that a request stands for.
 
-ghost use Rattle.std.specs.Prelude.{IfErr, IfOk, List, OnOk, pos, ℕ, ◌<◌, ◌≡◌, ◌≤◌};
+ghost use Rattle.std.specs.Prelude.{IfErr, IfOk, List, OnOk, pos, ℕ, ◌<◌, ◌^◌, ◌≡◌, ◌≤◌};
 ghost use Rattle.argus_values.specs.Change.{plain_change};
 ghost use Rattle.argus_values.specs.Content.{plain_content};
 ghost use Rattle.argus_values.specs.Value.{plain_value};
@@ -9,8 +9,11 @@ ghost use Rattle.argus_embed.specs.Requests.{HasNumbers, IsNoPart, IsRead, IsUnr
 ghost use Rattle.argus_embed.specs.declared.kinds.TheConstants as kinds;
 ghost use Rattle.argus_embed.specs.Requests.{Says, SaysChange, SaysQuery, TakesPart, TakesValue};
 ghost use Rattle.argus_journal.specs.Call.{plain_call};
-ghost use Rattle.argus_values.specs.ContentSpelling.{content_spelling};
-ghost use Rattle.argus_values.specs.Spelling.{spelling};
+ghost use Rattle.argus_entries.specs.Laws.{ChangeWithin, QueryWithin};
+ghost use Rattle.argus_guardian.specs.Calls.{IsReadableCall};
+ghost use Rattle.argus_values.specs.ContentSpelling.{PartsWithin, content_spelling};
+ghost use Rattle.argus_values.specs.Spelling.{Within, spelling};
+ghost use Rattle.argus_values.specs.contents_declared.limits.TheConstants.{MAX_VALUE_DEPTH};
 
 use crate::embed_error::EmbedError;
 use crate::kinds::{
@@ -26,14 +29,15 @@ use argus_values::{
     Change, Content, Heap, ObjId, Query, ReadError, Value, read_content, read_shape, read_value,
 };
 
-/// The call that the request with its text stands for.
+/// The call that the request with its text stands for. It has a line that can be read.
 pub(crate) fn call_of(heap: Heap, request: &Request, text: &str) -> Result<Call, EmbedError>
     ensures says { IfOk result (λ call. Says request.now text.now (plain_call call)) }
+    ensures readable { IfOk result (λ call. IsReadableCall (plain_call call)) }
     ensures read { OnOk result (IsRead request.now text.now) }
     ensures unread { IfErr result (λ e. IsUnread request.now text.now e) }
 {
-    let a = ActionId(request.action);
-    let o = ObjId(request.object);
+    let a = action_of(request.action);
+    let o = object_of(request.object);
     match request.kind {
         DECLARE => declaration_of(heap, request, text),
         BEGIN_TOP => Ok(Call::BeginTop),
@@ -48,9 +52,26 @@ pub(crate) fn call_of(heap: Heap, request: &Request, text: &str) -> Result<Call,
     }
 }
 
+/// The action with this number, which is within 32 bits.
+fn action_of(number: u32) -> ActionId
+    ensures number { result.0 ≡ number }
+    ensures range { result.0 < 2 ^ 32 }
+{
+    ActionId(number)
+}
+
+/// The object with this number, which is within 32 bits.
+fn object_of(number: u32) -> ObjId
+    ensures number { result.0 ≡ number }
+    ensures range { result.0 < 2 ^ 32 }
+{
+    ObjId(number)
+}
+
 fn declaration_of(heap: Heap, request: &Request, text: &str) -> Result<Call, EmbedError>
     requires { request.now.kind ≡ kinds.DECLARE }
     ensures says { IfOk result (λ call. Says request.now text.now (plain_call call)) }
+    ensures readable { IfOk result (λ call. IsReadableCall (plain_call call)) }
     ensures read { OnOk result (IsRead request.now text.now) }
     ensures unread { IfErr result (λ e. IsUnread request.now text.now e) }
 {
@@ -64,11 +85,12 @@ fn declaration_of(heap: Heap, request: &Request, text: &str) -> Result<Call, Emb
 fn access_of(heap: Heap, request: &Request, text: &str) -> Result<Call, EmbedError>
     requires { kinds.WHOLE ≤ request.now.kind }
     ensures says { IfOk result (λ call. Says request.now text.now (plain_call call)) }
+    ensures readable { IfOk result (λ call. IsReadableCall (plain_call call)) }
     ensures read { OnOk result (IsRead request.now text.now) }
     ensures unread { IfErr result (λ e. IsUnread request.now text.now e) }
 {
-    let a = ActionId(request.action);
-    let o = ObjId(request.object);
+    let a = action_of(request.action);
+    let o = object_of(request.object);
     if request.kind < CREATE {
         Ok(Call::Ask(a, o, query_of(request)?))
     } else {
@@ -79,6 +101,7 @@ fn access_of(heap: Heap, request: &Request, text: &str) -> Result<Call, EmbedErr
 fn query_of(request: &Request) -> Result<Query, EmbedError>
     requires { (kinds.WHOLE ≤ request.now.kind) × (request.now.kind < kinds.CREATE) }
     ensures says { IfOk result (λ query. SaysQuery request.now.kind request.now.first query) }
+    ensures within { IfOk result (λ query. QueryWithin query) }
     ensures numbers { OnOk result (HasNumbers request.now) }
     ensures unread { IfErr result (λ e. (text : List ℕ) → IsUnread request.now text e) }
 {
@@ -100,6 +123,7 @@ fn change_of(heap: Heap, request: &Request, text: &str) -> Result<Change, EmbedE
     requires { kinds.CREATE ≤ request.now.kind }
     ensures says { IfOk result (λ change. SaysChange request.now.kind request.now.first
         request.now.second text.now (plain_change change)) }
+    ensures within { IfOk result (λ change. ChangeWithin MAX_VALUE_DEPTH (plain_change change)) }
     ensures read { OnOk result (IsRead request.now text.now) }
     ensures unread { IfErr result (λ e. IsUnread request.now text.now e) }
 {
@@ -130,6 +154,7 @@ fn change_by_number(request: &Request) -> Result<Change, EmbedError>
     requires { kinds.TOUCH < request.now.kind }
     ensures says { (text : List ℕ) → IfOk result (λ change. SaysChange request.now.kind
         request.now.first request.now.second text (plain_change change)) }
+    ensures within { IfOk result (λ change. ChangeWithin MAX_VALUE_DEPTH (plain_change change)) }
     ensures numbers { OnOk result (HasNumbers request.now) }
     ensures unread { IfErr result (λ e. (text : List ℕ) → IsUnread request.now text e) }
 {
@@ -168,6 +193,7 @@ fn value_of(heap: Heap, request: &Request, text: &str) -> Result<Value, EmbedErr
     requires kind { TakesValue request.now.kind }
     requires part { LacksPart request.now → ⊥ }
     ensures says { IfOk result (λ value. text.now ≡ spelling (plain_value value)) }
+    ensures within { IfOk result (λ value. Within MAX_VALUE_DEPTH (plain_value value)) }
     ensures read { OnOk result (IsValueText text.now) }
     ensures unread { IfErr result (λ e. IsUnread request.now text.now e) }
 {
@@ -181,6 +207,7 @@ fn value_of(heap: Heap, request: &Request, text: &str) -> Result<Value, EmbedErr
 fn content_of(heap: Heap, request: &Request, text: &str) -> Result<Content, EmbedError>
     requires { request.now.kind ≡ kinds.CREATE }
     ensures says { IfOk result (λ content. text.now ≡ content_spelling (plain_content content)) }
+    ensures within { IfOk result (λ content. PartsWithin MAX_VALUE_DEPTH (plain_content content)) }
     ensures read { OnOk result (IsContentText text.now) }
     ensures unread { IfErr result (λ e. IsUnread request.now text.now e) }
 {

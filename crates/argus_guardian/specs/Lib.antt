@@ -16,6 +16,7 @@ pub use Rattle.argus_sharing.specs.Receipt
 pub use Rattle.argus_sharing.specs.Seat
 pub use Rattle.argus_sharing.specs.Waking
 pub use Rattle.argus_listings.specs.Listing
+pub use Rattle.argus_reading.specs.Calls
 pub use Rattle.argus_reading.specs.Laws as ReadingLaws
 pub use Rattle.argus_reading.specs.Line as EntryLine
 pub use Rattle.argus_reading.specs.OpeningLanguages

@@ -23,3 +23,4 @@ pub mod Longest
 pub mod OneFault
 pub mod Crossing
 pub mod WellFormedValues
+pub mod Listable

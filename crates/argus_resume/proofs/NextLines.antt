@@ -207,6 +207,16 @@ no_longer taken left f r faulty front rest parts ends other listable e =
     let behind = left_behind taken other front r listable e in
     no_fault taken other listable faulty.line first.0 faulty.whole (subst (Behind taken other) all behind) f faulty.says
 
+-- what is left is at no fault, whatever of the listing comes after it
+pub none_within : (taken : JournalView) (left : List ℕ) (f : LineFault) → IsReadableJournal taken
+    → IsFaulty taken left f → (other : JournalView) (rest : List ℕ) → IsListable other
+    → journal_text other ≡ journal_text taken ++ (left ++ rest) → ⊥
+none_within taken left f r faulty other rest listable e =
+    let all : left ++ rest ≡ faulty.line ++ 10 ∷ (faulty.more ++ rest) =
+    ap (λ (x : List ℕ). x ++ rest) faulty.is ∙ append_assoc faulty.line (10 ∷ faulty.more) rest in
+    no_fault taken other listable faulty.line (faulty.more ++ rest) faulty.whole
+    (subst (Behind taken other) all (left_behind taken other (left ++ rest) r listable e)) f faulty.says
+
 pub behind_none : (taken other : JournalView) (t : List ℕ) → t ≡ [] → Behind taken other t → taken ≡ other
 behind_none taken other t none (with_entries o [] b is) =
     ap (λ (s : Opening). let j : JournalView = record { opening = s; entries = taken.entries } in j) o
@@ -271,11 +281,7 @@ module _ (journal listed : JournalView) (r : IsReadableJournal journal) (listabl
       let all : left ++ behind ≡ left = ap (λ (x : List ℕ). left ++ x) none ∙ append-nil left in
       absurd (behind_torn journal listed left h.0 (subst (Behind journal listed) all all_behind))
   ended (read.Fault f) has failed is h n m =
-      let faulty = h.0 in
-      let all : left ++ behind ≡ faulty.line ++ 10 ∷ (faulty.more ++ behind) =
-      ap (λ (x : List ℕ). x ++ behind) faulty.is ∙ append_assoc faulty.line (10 ∷ faulty.more) behind in
-      absurd (no_fault journal listed listable faulty.line (faulty.more ++ behind) faulty.whole
-      (subst (Behind journal listed) all all_behind) f faulty.says)
+      absurd (none_within journal left f r h.0 listed behind listable e)
   ended read.OutOfMemory has failed is h n m = absurd (n refl)
   ended read.Read has failed is h n m = absurd (m refl)
 

@@ -1,19 +1,23 @@
 -- The laws of what is taken.
 use Rattle.std.specs.Prelude.{Bool, List, Option, Some, [], true, ℕ, ◌++◌, ◌<◌, ◌∷◌, ◌^◌, ◌≡◌, ◌≢◌}
 use Rattle.std.specs.Prelude.{length, ◌≤◌, ◌↔◌}
+use Rattle.argus_contents.specs.Content.{PlainContent}
+use Rattle.argus_contents.specs.Shape.{PlainShape}
 use Rattle.argus_core.specs.Checkpoint.{after_checkpoint}
 use Rattle.argus_entries.specs.Call.{PlainCall}
 use Rattle.argus_entries.specs.Reply.{plain_reply}
 use Rattle.argus_entries.specs.declared.reply.Reply.{Reply}
 use Rattle.argus_journal.specs.JournalView.{JournalView, after, entry_of, next_entry}
 use Rattle.argus_journal.specs.Legal.{Legal}
-use Rattle.argus_journal.specs.Opening.{is_sound}
+use Rattle.argus_journal.specs.Opening.{KeepsNumbers, is_sound, opening_at}
 use Rattle.argus_journal.specs.declared.limits.TheConstants.{MAX_FIRST_ENTRY}
 use Rattle.argus_resume.specs.JournalText.{AreReadable, IsEmptyOrReadable, IsReadableJournal}
+use Rattle.argus_resume.specs.JournalText.{IsReadableOpening}
 use Rattle.argus_resume.specs.JournalText.{journal_text}
 use Rattle.argus_resume.specs.Lines.{IsLineFault}
 use Rattle.argus_resume.specs.ReadableCalls.{HasReadableCall, HaveReadableCalls}
 use Rattle.argus_resume.specs.Resumed.{IsResumed}
+use Rattle.argus_resume.specs.SoundFront.{sound_front}
 use Rattle.argus_resume.specs.Taking.{EndsTaking, IsFaulty}
 use Rattle.argus_resume.specs.declared.line_fault.LineFault.{LineFault}
 use Rattle.argus_resume.specs.declared.line_fault.LineFault.TheVariants as fault
@@ -52,6 +56,15 @@ CheckpointsLeaveListable =
     (journal : JournalView) → IsListable journal → next_entry journal ≤ MAX_FIRST_ENTRY
     → IsListable (after_checkpoint journal)
 
+-- Each opening of these objects can be read that is sound and within the limits, and before which an
+-- entry went.
+abbrev pub OpeningsAreReadable : List (PlainShape × Option PlainContent) → Type 0
+OpeningsAreReadable objects =
+    (first_action first_entry : ℕ) → 0 < first_entry
+    → KeepsNumbers (opening_at objects first_action first_entry)
+    → is_sound (opening_at objects first_action first_entry) ≡ true
+    → IsReadableOpening (opening_at objects first_action first_entry)
+
 -- the other fault is the same, at the same byte, or with the same reply
 abbrev pub IsSameFault : LineFault → LineFault → Type 0
 IsSameFault (fault.NoText at) other = other ≡ fault.NoText at
@@ -81,6 +94,14 @@ NoLongerFrontIsAListing =
     → (other : JournalView) → IsListable other
     → journal_text other ≡ journal_text taken ++ front → ⊥
 
+-- No line of a listing is at fault, wherever a piece of it ends: what was taken and what is left begin
+-- no listing if the first line that is left is at fault.
+abbrev pub ListingsHaveNoFault : Type 0
+ListingsHaveNoFault =
+    (taken : JournalView) (left : List ℕ) (fault : LineFault) → IsReadableJournal taken
+    → IsFaulty taken left fault → (other : JournalView) (rest : List ℕ) → IsListable other
+    → journal_text other ≡ journal_text taken ++ (left ++ rest) → ⊥
+
 -- A listing is taken whole, and gives its journal: if what was taken and what is left is the
 -- listing of a legal journal, nothing is left, and that journal was taken; unless there is no
 -- memory.
@@ -89,6 +110,10 @@ ListingsAreTakenBack =
     (taken : JournalView) (left : List ℕ) (end : TakenEnd) → IsReadableJournal taken
     → EndsTaking end taken left → end ≢ OutOfMemory → (other : JournalView) → IsListable other
     → journal_text other ≡ journal_text taken ++ left → (end ≡ Whole) × (taken ≡ other)
+
+-- The guardian that is made of a listable journal has all of it: no object is dropped.
+abbrev pub GuardiansAreWhole : Type 0
+GuardiansAreWhole = (journal : JournalView) → IsListable journal → sound_front journal ≡ journal
 
 -- A listing that a reader has is resumed whole, and the guardian has its journal: unless there is
 -- no memory or a read fails.

@@ -1,7 +1,8 @@
 -- What is true of each value that a program can hold, and of contents and changes.
-use Rattle.std.specs.Prelude.{ℕ}
+use Rattle.std.specs.Prelude.{List, None, Option, Some, [], ℕ, ◌∷◌}
 use Rattle.argus_contents.specs.Change.{PlainChange}
 use Rattle.argus_contents.specs.Content.{PlainContent}
+use Rattle.argus_contents.specs.Shape.{IsMakeable, PlainShape}
 use Rattle.argus_contents.specs.Value.{PlainValue, PlainValues}
 use Rattle.argus_texts.specs.ContentSpelling.{PartsWithin}
 use Rattle.argus_texts.specs.Spelling.{AllWithin, Within}
@@ -18,6 +19,21 @@ AreWellFormedValues vs = (depth : ℕ) × AllWithin depth vs
 -- the same of each value of the content
 abbrev pub IsWellFormedContent : PlainContent → Type 0
 IsWellFormedContent c = (depth : ℕ) × PartsWithin depth c
+
+-- the same of a content if there is one
+abbrev pub IsWellFormedOption : Option PlainContent → Type 0
+IsWellFormedOption None = Unit {0}
+IsWellFormedOption (Some c) = IsWellFormedContent c
+
+-- an object whose shape can be made, and whose content is such
+abbrev pub IsWellFormedObject : PlainShape × Option PlainContent → Type 0
+IsWellFormedObject object = IsMakeable object.0 × IsWellFormedOption object.1
+
+-- each of the objects is such an object
+abbrev pub AreWellFormedObjects : List (PlainShape × Option PlainContent) → Type 0
+AreWellFormedObjects [] = Unit {0}
+AreWellFormedObjects (object ∷ objects) =
+    IsWellFormedObject object × AreWellFormedObjects objects
 
 -- the same of each value of the change, whose numbers are in range, too
 abbrev pub IsWellFormedChange : PlainChange → Type 0

@@ -1,14 +1,20 @@
 //! The laws of what is taken. Each function changes nothing: its contract is the law.
 
+ghost use Rattle.std.specs.Prelude.{map};
 ghost use Rattle.argus_resume.specs.JournalText.{IsEmptyOrReadable, no_journal};
 ghost use Rattle.argus_resume.specs.Laws.{CallsLeaveListable, CheckpointsLeaveListable};
-ghost use Rattle.argus_resume.specs.Laws.{IsListable, JournalsAreReadable, ListingsAreResumed};
+ghost use Rattle.argus_resume.specs.Laws.{GuardiansAreWhole, IsListable, JournalsAreReadable};
+ghost use Rattle.argus_resume.specs.Laws.{ListingsAreResumed, ListingsHaveNoFault};
 ghost use Rattle.argus_resume.specs.Laws.{LinesHaveOneFault, ListingsAreTakenBack};
 ghost use Rattle.argus_resume.specs.Laws.{LongestListingIsResumed, NoLongerFrontIsAListing};
+ghost use Rattle.argus_resume.specs.Laws.{OpeningsAreReadable};
 ghost use Rattle.argus_entries.specs.Call.{plain_call};
+ghost use Rattle.argus_journal.specs.Opening.{plain_object};
 ghost use Rattle.argus_resume.specs.ReadableCalls.{HaveReadableCalls, IsWellFormed};
 
 use crate::well_formed_calls::call_is_well_formed;
+use crate::well_formed_values::object_is_well_formed;
+use argus_contents::{Content, Shape};
 use argus_core::Guardian;
 use argus_entries::Call;
 use argus_reading::laws::texts_have_one_error;
@@ -33,6 +39,19 @@ pub fn calls_are_well_formed(call: &Call)
     ensures { IsWellFormed (plain_call call.now) }
 {
     call_is_well_formed(call);
+}
+
+/// Objects that a program holds have lines that can be read, if each content fits its shape: with a
+/// first entry above 0 the guardian that `Guardian::starting_at` makes of them is listable. Before
+/// entry 0 a listing has no opening, and lacks the objects and the number of the first action.
+///
+/// It reads each object whole to show it, and changes nothing: no program has to run it.
+pub fn openings_are_readable(objects: &[(Shape, Option<Content>)])
+    ensures { OpeningsAreReadable (map plain_object objects.now) }
+{
+    for object in objects {
+        object_is_well_formed(object);
+    }
 }
 
 /// The journal of a new guardian is listable. It stays so with each call that can be read, and with
@@ -69,11 +88,19 @@ pub fn no_longer_front_is_a_listing()
     ensures { NoLongerFrontIsAListing }
 {}
 
+/// No line of a listing is at fault, in whatever pieces the listing comes: its journal's opening and
+/// calls have to be readable.
+pub fn listings_have_no_fault()
+    ensures { ListingsHaveNoFault }
+{}
+
 /// A listing is taken whole, and gives its journal: so what `write_listing` of `argus_listings`
-/// wrote is taken back, given memory. The journal's opening and its calls have to be readable: a
-/// value that a Rust program passed in may be too deep, and its call refused.
+/// wrote is taken back, given memory. The guardian that is made of it has all of that journal. The
+/// journal's opening and its calls have to be readable: a value that a Rust program passed in may be
+/// too deep, and its call refused.
 pub fn listings_are_taken_back()
-    ensures { ListingsAreTakenBack }
+    ensures taken { ListingsAreTakenBack }
+    ensures whole { GuardiansAreWhole }
 {}
 
 /// The same for a reader: [`resume`](crate::resume) makes a guardian with a listing's journal from

@@ -2,6 +2,7 @@
 
 ghost use Rattle.std.specs.Prelude.{IfErr, IfOk, drop, false, length, take, ◌+◌, ◌++◌, ◌≡◌, ◌≤◌};
 ghost use Rattle.argus_resume.specs.JournalText.{journal_text};
+ghost use Rattle.argus_resume.specs.Laws.{IsListable};
 ghost use Rattle.argus_resume.specs.Resumed.{IsResumed};
 ghost use Rattle.argus_resume.specs.Taking.{EndsChunk, HasNoFeed, TakesFrom, early_end};
 ghost use Rattle.argus_resume.specs.Taking.{end_behind, line_count};
@@ -26,7 +27,7 @@ const MOST_READS: u64 = 562_949_953_421_312;
 
 /// The guardian of the longest prefix of the reader's whole lines that is the listing of a journal:
 /// each entry's call was made, and its reply is the line's. It says how many bytes and lines that
-/// was, and why it took no more.
+/// was, and why it took no more. Its listing can be taken again.
 ///
 /// Besides the guardian it holds what was read and not taken yet, at most a line and 16 KiB, in a list
 /// whose room is at most twice that; and 16 KiB on the stack. If a line has another reply than its call
@@ -39,8 +40,9 @@ const MOST_READS: u64 = 562_949_953_421_312;
 /// ```
 pub fn resume<R: Read + Drop>(heap: Heap, reader: &mut FailStop<R>) -> Result<Resumed, OutOfMemory>
     requires { has_failed reader.old ≡ false }
-    ensures { IfOk result (λ resumed. IsResumed (R.remaining (inner_of reader.old))
+    ensures resumed { IfOk result (λ resumed. IsResumed (R.remaining (inner_of reader.old))
         (R.remaining (inner_of reader.new)) (has_failed reader.new) resumed) }
+    ensures listable { IfOk result (λ resumed. IsListable resumed.guardian) }
 {
     let mut resuming = Resuming::new(heap);
     let TakenFrom { bytes, lines, end } = resuming.take_from(reader);

@@ -6,12 +6,14 @@ ghost use Rattle.std.specs.Prelude.{◌++◌, ◌-◌, ◌==◌, ◌∷◌, ◌�
 ghost use Rattle.argus_journal.specs.JournalView.{next_entry};
 ghost use Rattle.argus_resume.specs.FrontLine.{end_of_error};
 ghost use Rattle.argus_resume.specs.JournalText.{IsReadableJournal, journal_text, no_journal};
+ghost use Rattle.argus_resume.specs.Laws.{IsListable};
 ghost use Rattle.argus_resume.specs.Lines.{IsLineError};
 ghost use Rattle.argus_resume.specs.SoundFront.{sound_front};
 ghost use Rattle.argus_resume.specs.Stage.{IsCounted, lines_of, opened_alone, opening_read};
 ghost use Rattle.argus_resume.specs.Taking.{EndsTaking, IsFirstLine, line_count};
 
 use crate::entry_lines::EntryLines;
+use crate::laws::guardians_are_listable;
 use crate::line_error::LineError;
 use crate::line_fault::LineFault;
 use crate::opened::Opened;
@@ -189,7 +191,7 @@ impl Resuming {
 
     /// The guardian of what was taken. An opening without entries gives a guardian with as many of
     /// its objects as make a sound opening, and the number of bytes that were dropped with the
-    /// others.
+    /// others. Its listing can be taken again.
     ///
     /// `Err` is out of memory: it has what was passed in, unchanged.
     ///
@@ -202,13 +204,17 @@ impl Resuming {
             ≡ take (length (journal_text self) - opened.dropped) (journal_text self)) }
         ensures dropped { IfOk result (λ opened. opened.dropped
             + length (journal_text opened.guardian) ≡ length (journal_text self)) }
+        ensures listable { IfOk result (λ opened. IsListable opened.guardian) }
         ensures err { IfErr result (λ resuming. resuming ≡ self) }
         ensures readable { IsReadableJournal self }
     {
         let Resuming { heap, stage } = self;
         match stage {
             Stage::Opening(lines) => match guardian_of(heap, &lines) {
-                Ok(opened) => Ok(opened),
+                Ok(opened) => {
+                    guardians_are_listable(&opened.guardian);
+                    Ok(opened)
+                }
                 Err(OutOfMemory) => Err(Resuming {
                     heap,
                     stage: Stage::Opening(lines),
@@ -221,6 +227,7 @@ impl Resuming {
                         guardian,
                         is_ahead: _,
                     } = entries;
+                    guardians_are_listable(&guardian);
                     Ok(Opened {
                         guardian,
                         dropped: 0,

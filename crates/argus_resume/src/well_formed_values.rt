@@ -1,14 +1,29 @@
-//! `content_is_well_formed`: the parts of a content, read for the proof alone.
+//! `object_is_well_formed`, `content_is_well_formed`: the parts of objects and contents, read for the
+//! proof alone.
 
 ghost use Rattle.std.specs.Prelude.{◌<◌, ◌^◌};
 ghost use Rattle.argus_contents.specs.Content.{plain_content};
 ghost use Rattle.argus_contents.specs.Value.{listed, plain_list, plain_value};
 ghost use Rattle.argus_texts.specs.Spelling.{IsI64};
+ghost use Rattle.argus_journal.specs.Opening.{plain_object};
 ghost use Rattle.argus_resume.specs.WellFormed.{AreWellFormedValues, IsWellFormedValue, IsWellFormedContent};
+ghost use Rattle.argus_resume.specs.WellFormed.{IsWellFormedObject};
 
-use argus_contents::{Content, Value};
+use argus_contents::{Content, Shape, Value};
 use argus_memory::Room;
 use std::collections::VecDeque;
+
+/// Reads the shape, and the parts of the content if there is one.
+pub(crate) fn object_is_well_formed(object: &(Shape, Option<Content>))
+    ensures { IsWellFormedObject (plain_object object.now) }
+{
+    let (shape, content) = object;
+    shape.limits_are_kept();
+    match content {
+        Some(content) => content_is_well_formed(content),
+        None => {}
+    }
+}
 
 /// Reads the parts of the content.
 pub(crate) fn content_is_well_formed(content: &Content)

@@ -5,10 +5,10 @@ use argus_commands::{checked_runs_are_runs, levels_tell_unmatched_lines, lines_s
 use argus_entries::laws::{entry_lines_are_unambiguous, suiting_changes_keep_the_depth};
 use argus_guardian::reading_laws::{entries_are_read_back, texts_have_one_error};
 use argus_guardian::resume_laws::{
-    listings_are_resumed, listings_are_taken_back, longest_listing_is_resumed,
-    no_longer_front_is_a_listing,
+    listings_are_resumed, listings_are_taken_back, listings_have_no_fault,
+    longest_listing_is_resumed, no_longer_front_is_a_listing, openings_are_readable,
 };
-use argus_objects::laws::{ancestors_stay, discards_in_turn, lawful_stays, members_after_inherit};
+use argus_objects::laws::{ancestors_stay, lawful_stays, members_after_inherit};
 use argus_values::{
     content_texts_are_unambiguous, contents_are_read_back, fitting_contents_are_read_back,
     shape_texts_are_unambiguous, shapes_are_read_back, value_texts_are_unambiguous,
@@ -27,12 +27,13 @@ pub(crate) fn call_laws() {
     ancestors_stay();
     lawful_stays();
     members_after_inherit();
-    discards_in_turn();
     entry_lines_are_unambiguous();
     suiting_changes_keep_the_depth();
     entries_are_read_back();
     texts_have_one_error();
     no_longer_front_is_a_listing();
+    openings_are_readable(&[]);
+    listings_have_no_fault();
     listings_are_taken_back();
     listings_are_resumed();
     longest_listing_is_resumed();

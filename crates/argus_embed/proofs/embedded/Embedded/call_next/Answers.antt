@@ -5,6 +5,7 @@ use Rattle.argus_journal.specs.Reply.{PlainReply, plain_reply}
 use Rattle.argus_embed.specs.CallEach.{IsUnreadAfter, IsUnreadWith, action_by, demand_of}
 use Rattle.argus_embed.specs.declared.embed_error.EmbedError.TheVariants as error
 use Rattle.argus_embed.proofs.Listed.{unread_for_memory}
+use Rattle.argus_embed.proofs.Listings.{call_read}
 use Rattle.argus_embed.proofs.embedded.Embedded.call_next.Goals as goal
 
 pub returns-in_err-reply-clause-unread : goal.returns-in_err-reply-clause-unread
@@ -21,3 +22,8 @@ returns-in_err-reply-clause-unread c =
     c.in_ok-call.ensures.says) in
     let unread : IsUnreadAfter replies each error.OutOfMemory = inr (there, memory) in
     search rules
+
+pub invariant_of-self-2 : goal.invariant_of-self-2
+invariant_of-self-2 c =
+    call_read c.self.inside.guardian c.call.new.self (plain_call c.in_ok-call.call) c.in_ok-reply.ensures.ok
+    c.self.invariant c.in_ok-call.ensures.readable

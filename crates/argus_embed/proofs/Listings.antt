@@ -1,0 +1,180 @@
+-- Each call that a host makes can be read, and a listing of such calls is taken back.
+use Rattle.std.proofs.Common.{Bool, List, [], ap, append_assoc, append-nil, arith, cond, drop, false, filter, inl, inr}
+use Rattle.std.proofs.Common.{refl, subst, sym, take, true, ℕ, ◌++◌, ◌+◌, ◌-◌, ◌<◌, ◌^◌, ◌∙◌, ◌∷◌, ◌≡◌, ◌≢◌, ◌≤◌}
+use Rattle.std.proofs.lemmas.List.{take-append-drop}
+use Rattle.argus_values.specs.contents_declared.limits.TheConstants.{MAX_VALUE_DEPTH}
+use Rattle.argus_guardian.specs.AbortingLive.{IsPartlyAborted, after_aborts, live_topactions, live_without_parent}
+use Rattle.argus_guardian.specs.Calls.{IsReadableCall}
+use Rattle.argus_guardian.specs.JournalText.{journal_text}
+use Rattle.argus_guardian.specs.ResumeLaws.{GuardiansAreWhole, IsListable, ListingsAreTakenBack, ListingsHaveNoFault}
+use Rattle.argus_guardian.specs.SoundFront.{sound_front}
+use Rattle.argus_guardian.specs.Taking.{IsFaulty, IsTorn}
+use Rattle.argus_guardian.specs.resume_declared.line_fault.LineFault.{LineFault}
+use Rattle.argus_guardian.specs.resume_declared.line_fault.LineFault.TheVariants as fault
+use Rattle.argus_guardian.specs.resume_declared.taken_end.TakenEnd.TheVariants as taken_end
+use Rattle.argus_journal.proofs.Within.{actions_within}
+use Rattle.argus_journal.specs.Call.{PlainCall, abort}
+use Rattle.argus_journal.specs.Events.{history}
+use Rattle.argus_journal.specs.JournalView.{JournalView, after}
+use Rattle.argus_journal.specs.Legal.{Legal}
+use Rattle.argus_journal.specs.Numbering.{all_in_program}
+use Rattle.argus_journal.specs.Opening.{KeepsNumbers}
+use Rattle.argus_model.specs.Event.{Aborted, Accessed, Began, Committed}
+use Rattle.argus_model.specs.History.{History, Opened, begun_actions, next_action, ◌▹◌}
+use Rattle.argus_embed.specs.Embedded.{EmbeddedState}
+use Rattle.argus_embed.specs.Listed.{CanBeRead, IsNoFault, IsTakenBack, IsWhole}
+use Rattle.argus_embed.specs.Resuming.{IsEndOf, IsTextTaken}
+use Rattle.argus_embed.specs.declared.text_end.TextEnd.{TextEnd}
+use Rattle.argus_embed.specs.declared.text_end.TextEnd.TheVariants as text_end
+use Rattle.argus_embed.specs.declared.text_taken.TextTaken.{TextTaken}
+
+-- EACH CALL CAN BE READ
+
+one_read : (journal : JournalView) (call : PlainCall) → CanBeRead journal → IsReadableCall call
+    → CanBeRead (after journal call)
+one_read journal call can readable = record {
+  opening = can.opening;
+  calls = (
+    record { well_formed = ((MAX_VALUE_DEPTH, readable.0), readable.1); depth = λ why is. readable.0 },
+    can.calls,
+  );
+}
+
+-- a call more
+pub call_read : (old new : JournalView) (call : PlainCall) → new ≡ after old call → CanBeRead old → IsReadableCall call
+    → CanBeRead new
+call_read old new call is can readable = subst CanBeRead (sym is) (one_read old call can readable)
+
+-- ABORTS
+
+-- each of the numbers is below this one
+abbrev AreBelow : ℕ → List ℕ → Type 0
+AreBelow n [] = Unit {0}
+AreBelow n (x ∷ xs) = (x < n) × AreBelow n xs
+
+below_append : (n : ℕ) (xs ys : List ℕ) → AreBelow n xs → AreBelow n ys → AreBelow n (xs ++ ys)
+below_append n [] ys h k = k
+below_append n (x ∷ xs) ys h k = (h.0, below_append n xs ys h.1 k)
+
+below_front : (n : ℕ) (xs ys : List ℕ) → AreBelow n (xs ++ ys) → AreBelow n xs
+below_front n [] ys h = tt
+below_front n (x ∷ xs) ys h = (h.0, below_front n xs ys h.1)
+
+below_if : (n : ℕ) (b : Bool) (x : ℕ) (xs : List ℕ) → x < n → AreBelow n xs → AreBelow n (cond b (x ∷ xs) xs)
+below_if n true x xs lt h = (lt, h)
+below_if n false x xs lt h = h
+
+below_filter : (n : ℕ) (p : ℕ → Bool) (xs : List ℕ) → AreBelow n xs → AreBelow n (filter p xs)
+below_filter n p [] h = tt
+below_filter n p (x ∷ xs) h = below_if n (p x) x (filter p xs) h.0 (below_filter n p xs h.1)
+
+below_program : (n : ℕ) (xs : List ℕ) → AreBelow n xs → AreBelow n (all_in_program xs)
+below_program n [] h = tt
+below_program n (x ∷ xs) h = let lt = h.0 in (omega (arith, lt), below_program n xs h.1)
+
+begun_below : {V : Type 0} (n : ℕ) (h : History V) → next_action h ≤ n → AreBelow n (begun_actions h)
+begun_below n (Opened k) le = tt
+begun_below n (Began from ▹ h) le =
+    below_append n (begun_actions h) (next_action h ∷ []) (begun_below n h (omega (arith, le))) (omega (arith, le), tt)
+begun_below n (Committed a ▹ h) le = begun_below n h le
+begun_below n (Aborted actions ▹ h) le = begun_below n h le
+begun_below n (Accessed a o v ▹ h) le = begun_below n h le
+
+aborts_read : (journal : JournalView) (actions : List ℕ) → CanBeRead journal → AreBelow (2 ^ 32) actions
+    → CanBeRead (after_aborts journal actions)
+aborts_read journal [] can below = can
+aborts_read journal (a ∷ actions) can below =
+    aborts_read (after journal (abort a)) actions (one_read journal (abort a) can (below.0, tt)) below.1
+
+module _ (old : JournalView) (can : CanBeRead old) (legal : Legal old.opening old.entries)
+    (limits : KeepsNumbers old.opening) where
+  live_below : AreBelow (2 ^ 32) (live_topactions old)
+  live_below =
+      let h = history old.opening old.entries in
+      let most = actions_within old.opening old.entries limits.actions legal in
+      below_program (2 ^ 32) (live_without_parent h)
+      (below_filter (2 ^ 32) _ (begun_actions h) (begun_below (2 ^ 32) h (omega (arith, most))))
+
+  -- all live actions were aborted
+  pub all_aborted_read : (new : JournalView) → new ≡ after_aborts old (live_topactions old) → CanBeRead new
+  all_aborted_read new is = subst CanBeRead (sym is) (aborts_read old (live_topactions old) can live_below)
+
+  -- some of them
+  pub part_aborted_read : (new : JournalView) → IsPartlyAborted old new → CanBeRead new
+  part_aborted_read new part =
+      let below = subst (AreBelow (2 ^ 32)) part.in_turn live_below in
+      subst CanBeRead (sym part.journal)
+      (aborts_read old part.ended can (below_front (2 ^ 32) part.ended (live_topactions new) below))
+
+-- THE LISTING
+
+-- an end that isn't out of memory
+data Ended (end : TextEnd) (journal : JournalView) (left : List ℕ) : Type 0 where
+  whole : end ≡ text_end.Whole → left ≡ [] → Ended end journal left
+  torn : end ≡ text_end.Torn → IsTorn left → Ended end journal left
+  faulty : (f : LineFault) → IsFaulty journal left f → Ended end journal left
+
+ended : (end : TextEnd) (old new : EmbeddedState) (left : List ℕ) → IsEndOf end old new left
+    → end ≢ text_end.OutOfMemory → Ended end new.taken left
+ended text_end.Whole old new left is n = whole refl is.0
+ended text_end.Torn old new left is n = torn refl is.0
+ended text_end.OutOfMemory old new left is n = absurd (n refl)
+ended (text_end.NoText at) old new left is n = faulty (fault.NoText at) is.0
+ended text_end.NotAnOpening old new left is n = faulty fault.NotAnOpening is.0
+ended (text_end.NoLine at) old new left is n = faulty (fault.NoLine at) is.0
+ended (text_end.NotNext wanted) old new left is n = faulty fault.NotNext is.0.faulty
+ended text_end.NotSound old new left is n = faulty fault.NotSound is.0
+ended text_end.NotTheReply old new left is n = faulty (fault.NotTheReply is.reply) is.faulty
+
+module _ (back : ListingsAreTakenBack) (sound : GuardiansAreWhole) (none : ListingsHaveNoFault)
+    (journal : JournalView) (listable : IsListable journal) where
+  -- the listing is what was taken, what is left of the piece, and the rest
+  parts : (old new : EmbeddedState) (piece rest : List ℕ) (taken : TextTaken)
+      → journal_text journal ≡ journal_text old.taken ++ (piece ++ rest) → IsTextTaken old new piece taken
+      → journal_text journal ≡ journal_text new.taken ++ (drop taken.bytes piece ++ rest)
+  parts old new piece rest taken listing is =
+      let first = take taken.bytes piece in
+      let left = drop taken.bytes piece in
+      listing
+      ∙ ap (λ (x : List ℕ). journal_text old.taken ++ (x ++ rest)) (sym (take-append-drop taken.bytes piece))
+      ∙ ap (λ (x : List ℕ). journal_text old.taken ++ x) (append_assoc first left rest)
+      ∙ sym (append_assoc (journal_text old.taken) first (left ++ rest))
+      ∙ ap (λ (x : List ℕ). x ++ (left ++ rest)) (sym is.longer)
+
+  module _ (old new : EmbeddedState) (piece rest : List ℕ) (taken : TextTaken)
+      (listing : journal_text journal ≡ journal_text old.taken ++ (piece ++ rest))
+      (is : IsTextTaken old new piece taken) where
+    abbrev left : List ℕ
+    left = drop taken.bytes piece
+
+    all : rest ≡ [] → journal_text journal ≡ journal_text new.taken ++ left
+    all end =
+        parts old new piece rest taken listing is
+        ∙ ap (λ (x : List ℕ). journal_text new.taken ++ (left ++ x)) end
+        ∙ ap (λ (x : List ℕ). journal_text new.taken ++ x) (append-nil left)
+
+    told : Ended taken.end new.taken left
+        → IsNoFault taken.end × (rest ≡ [] → IsWhole journal taken.end new)
+    told (whole end nothing) = (
+      inl end,
+      λ last.
+          let same = (back new.taken left taken_end.Whole is.readable nothing (λ e. cc) journal listable (all last)).1 in
+          record {
+            whole = end;
+            taken = same;
+            resumed = ap (λ (j : JournalView). sound_front j) same ∙ sound journal listable;
+          },
+    )
+    told (torn end part) = (
+      inr end,
+      λ last.
+          let same = (back new.taken left taken_end.Torn is.readable part (λ e. cc) journal listable (all last)).0 in
+          absurd cc,
+    )
+    told (faulty f at) =
+        absurd (none new.taken left f is.readable at journal rest listable (parts old new piece rest taken listing is))
+
+  -- the journal's listing is taken back, in whatever pieces
+  pub taken_back : IsTakenBack journal
+  taken_back old new piece rest taken listing is n =
+      told old new piece rest taken listing is (ended taken.end old new (drop taken.bytes piece) is.end n)
