@@ -1,10 +1,9 @@
 -- The walk over the siblings of an action: which of them were ended so far, and how many live ones are left.
 use Rattle.std.proofs.Common.{Bool, List, None, Option, Some, [], ap, arith, cond, false, inl, inr, length, refl, subst}
 use Rattle.std.proofs.Common.{sym, true, ℕ, ◌+◌, ◌-◌, ◌<◌, ◌≤◌, ◌∙◌, ◌∷◌, ◌≡◌, eqb, ◌||◌}
-use Rattle.std.specs.List.{filter}
 use Rattle.std.specs.Option.{option_and_then, option_map_or}
 use Rattle.std.specs.Prelude.{nat_le, not, slice_index_or, ◌&&◌, ◌==◌}
-use Rattle.std.proofs.lemmas.Bool.{and_from, and_parts, and_right, cases_Bool, cases_eq, cases_lt, eq-eqb, false≢true}
+use Rattle.std.proofs.lemmas.Bool.{and_from, and_parts, and_right, cases_Bool, cases_eq, cases_lt, eq-eqb}
 use Rattle.std.proofs.lemmas.Bool.{le-leb, lt-leb, ne_eqb, or_left, or_right}
 use Rattle.std.proofs.lemmas.List.Elements.{filter_agree}
 use Rattle.argus_actions.proofs.Counted.{count}
@@ -21,14 +20,11 @@ use Rattle.argus_actions.specs.Tree.{older_sibling_of}
 use Rattle.argus_actions.specs.declared.action_id.ActionId.{ActionId}
 use Rattle.argus_actions.specs.declared.origin.Origin as tree_origin
 use Rattle.argus_actions.specs.declared.origin.Origin.TheVariants as begun
-use Rattle.argus_core.proofs.Sweeps.{ended_both, named_none, named_some, steps_left}
-use Rattle.argus_core.specs.Moving.{AreLawful, is_listed}
-use Rattle.argus_core.specs.Sweeping.{AreCovered, AreEnded}
+use Rattle.argus_core.proofs.Sweeps.{all_both, named_none, named_some, none_ended, steps_left}
+use Rattle.argus_core.specs.Moving.{AreLawful}
+use Rattle.argus_core.specs.Sweeping.{AreEnded}
 use Rattle.argus_core.specs.declared.engine.atomic_object.AtomicObject.{AtomicObject}
-use Rattle.argus_objects.proofs.Later.{filter_all}
-use Rattle.argus_refinement.proofs.CellLists.{has_filtered}
 use Rattle.argus_objects.specs.Holdings.{objects_held_by}
-use Rattle.argus_objects.specs.CellChanges.{has_version, is_reader}
 use Rattle.argus_objects.specs.Object.{Object}
 use Rattle.argus_objects.specs.declared.holdings.Holdings.{Holdings}
 
@@ -116,46 +112,6 @@ has_none n (r ∷ rows) y = at (λ m. has_none n rows m) (eqb y (n + length rows
     at older true = up older r.origin
     at older false = older y
 
--- nothing was ended yet
-none_ended : (t : Tree) (ended : ℕ → Bool) → ((x : ℕ) → ended x ≡ false)
-    → (objects : List AtomicObject) (held : Holdings) → AreLawful t objects → AreEnded t ended objects objects held held
-none_ended t ended none objects held l = record {
-  count = refl;
-  shape = λ o d lt. refl;
-  cell = λ o d lt.
-      let c : Object = (slice_index_or objects o d).cell in
-      record {
-        base = refl;
-        readers = sym (filter_all (λ x. not (ended x.0)) (λ x. ap not (none x.0)) c.readers);
-        versions = sym (filter_all (λ v. not (ended v.holder.0)) (λ v. ap not (none v.holder.0)) c.versions);
-        lawful = l o d lt;
-      };
-  lists = λ x. sym (ap (λ b. cond b [] (objects_held_by held x)) (none x.0));
-}
-
--- two endings of all objects, one after the other
-all_both : (t : Tree) (p q both : ℕ → Bool) → ((x : ℕ) → both x ≡ (p x || q x))
-    → (old mid new : List AtomicObject) (held hm hn : Holdings) → AreEnded t p old mid held hm
-    → AreEnded t q mid new hm hn → AreEnded t both old new held hn
-all_both t p q both split old mid new held hm hn k m = record {
-  count = m.count ∙ k.count;
-  shape = λ o d lt. m.shape o d (subst (λ n. o < n) (sym k.count) lt) ∙ k.shape o d lt;
-  cell = λ o d lt.
-      ended_both t p q both split (slice_index_or old o d).cell (slice_index_or mid o d).cell
-      (slice_index_or new o d).cell (k.cell o d lt)
-      (m.cell o d (subst (λ n. o < n) (sym k.count) lt));
-  lists = λ x.
-      m.lists x ∙ ap (λ list. cond (q x.0) [] list) (k.lists x) ∙ join x (p x.0) (q x.0)
-      ∙ ap (λ b. cond b [] (objects_held_by held x)) (sym (split x.0));
-}
-  where
-    join : (x : ActionId) (b c : Bool) → cond c [] (cond b [] (objects_held_by held x)) ≡ cond (b || c) []
-        (objects_held_by held x)
-    join x true true = refl
-    join x true false = refl
-    join x false true = refl
-    join x false false = refl
-
 -- the same ending, told by another test
 all_same : (t : Tree) (p q : ℕ → Bool) → ((x : ℕ) → q x ≡ p x) → (old new : List AtomicObject) (held held' : Holdings)
     → AreEnded t p old new held held' → AreEnded t q old new held held'
@@ -175,69 +131,6 @@ all_same t p q same old new held held' k = record {
       };
   lists = λ x. k.lists x ∙ ap (λ b. cond b [] (objects_held_by held x)) (sym (same x.0));
 }
-
--- who holds an object after an ending has it on its list
-pub covered_more : (t : Tree) (ended : ℕ → Bool) (old new : List AtomicObject) (held held' : Holdings)
-    → AreEnded t ended old new held held' → AreCovered old held → AreCovered new held'
-covered_more t ended old new held held' k cover = λ x o d lt e.
-    let low : o < length old = subst (λ n. o < n) k.count lt in
-    let c = k.cell o d low in
-    let was : Object = (slice_index_or old o d).cell in
-    let now : Object = (slice_index_or new o d).cell in
-    let kept : ((is_reader x was.readers || has_version x was.versions) && not (ended x.0)) ≡ true =
-    sym (ap (λ rs. is_reader x rs || has_version x now.versions) c.readers
-    ∙ ap (λ vs. is_reader x (filter (λ y. not (ended y.0)) was.readers) || has_version x vs) c.versions
-    ∙ ap (λ b. b || has_version x (filter (λ v. not (ended v.holder.0)) was.versions)) (reader_filtered x was.readers)
-    ∙ ap (λ b. (is_reader x was.readers && not (ended x.0)) || b) (has_filtered (λ n. not (ended n)) was.versions x)
-    ∙ join (is_reader x was.readers) (has_version x was.versions) (not (ended x.0))) ∙ e in
-    let q = and_parts (is_reader x was.readers || has_version x was.versions) (not (ended x.0)) kept in
-    ap (λ list. is_listed list o) (k.lists x ∙ ap (λ b. cond b [] (objects_held_by held x)) (off (ended x.0) q.1))
-    ∙ cover x o d low q.0
-  where
-    off : (b : Bool) → not b ≡ true → b ≡ false
-    off true e = absurd (false≢true e)
-    off false e = refl
-
-    join : (a b c : Bool) → ((a && c) || (b && c)) ≡ ((a || b) && c)
-    join true true true = refl
-    join true true false = refl
-    join true false true = refl
-    join true false false = refl
-    join false b c = refl
-
-    reader_filtered : (x : ActionId) (rs : List ActionId)
-        → is_reader x (filter (λ y. not (ended y.0)) rs) ≡ (is_reader x rs && not (ended x.0))
-    reader_filtered x [] = refl
-    reader_filtered x (y ∷ rs) = at (ended y.0) refl (reader_filtered x rs)
-      where
-        at : (b : Bool) → ended y.0 ≡ b → is_reader x (filter (λ z. not (ended z.0)) rs)
-            ≡ (is_reader x rs && not (ended x.0)) → is_reader x
-            (cond (not b) (y ∷ filter (λ z. not (ended z.0)) rs) (filter (λ z. not (ended z.0)) rs))
-            ≡ ((eqb y.0 x.0 || is_reader x rs) && not (ended x.0))
-        at true e ih =
-            ih
-            ∙ elim (cases_eq y.0 x.0) [
-              | inl same ↦
-                  let gone : not (ended x.0) ≡ false = ap not (ap ended (sym same) ∙ e) in
-                  and_right (is_reader x rs) (not (ended x.0)) gone
-                  ∙ sym (and_right (eqb y.0 x.0 || is_reader x rs) (not (ended x.0)) gone)
-              | inr ne ↦ ap (λ b. (b || is_reader x rs) && not (ended x.0)) (sym (ne_eqb y.0 x.0 ne))
-            ]
-        at false e ih =
-            ap (λ b. eqb y.0 x.0 || b) ih
-            ∙ elim (cases_eq y.0 x.0) [
-              | inl same ↦
-                  let stays : not (ended x.0) ≡ true = ap not (ap ended (sym same) ∙ e) in
-                  ap (λ b. b || (is_reader x rs && not (ended x.0))) (eq-eqb y.0 x.0 same)
-                  ∙ sym (ap (λ b. (b || is_reader x rs) && not (ended x.0)) (eq-eqb y.0 x.0 same) ∙ stays)
-              | inr ne ↦
-                  ap (λ b. b || (is_reader x rs && not (ended x.0))) (ne_eqb y.0 x.0 ne)
-                  ∙ sym (ap (λ b. (b || is_reader x rs) && not (ended x.0)) (ne_eqb y.0 x.0 ne))
-            ]
-
-pub ended_lawful : (t : Tree) (ended : ℕ → Bool) (old new : List AtomicObject) (held held' : Holdings)
-    → AreEnded t ended old new held held' → AreLawful t new
-ended_lawful t ended old new held held' k = λ o d lt. (k.cell o d (subst (λ n. o < n) k.count lt)).lawful
 
 -- a live sibling whose number is the bound or greater
 abbrev pub is_seen : Tree → ℕ → ℕ → ℕ → Bool

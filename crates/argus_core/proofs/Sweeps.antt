@@ -1,12 +1,12 @@
--- The walk over an action and those under it: what was handled so far.
+-- Actions that were ended, in all objects and lists; and the walk over those under an action: which were ended so far.
 use Rattle.std.proofs.Common.{Bool, List, None, Option, Some, [], ap, arith, cond, false, inl, inr, length, refl, subst}
-use Rattle.std.proofs.Common.{sym, true, ℕ, ◌+◌, ◌<◌, ◌≤◌, ◌∙◌, ◌∷◌, ◌≡◌, ◌≢◌, ⊎_elim, eqb, ◌||◌}
+use Rattle.std.proofs.Common.{sym, true, ℕ, ◌+◌, ◌<◌, ◌≤◌, ◌∙◌, ◌∷◌, ◌≡◌, ◌≢◌, eqb, ◌||◌}
 use Rattle.std.specs.List.{filter}
 use Rattle.std.specs.Prelude.{not, slice_index_or, ◌&&◌, ◌==◌}
-use Rattle.std.proofs.lemmas.Bool.{both_ways, cases_Bool, cases_lt, eq-eqb, eqb-true, false≢true, le-ltb, lt-ltb}
-use Rattle.std.proofs.lemmas.Bool.{ne_eqb, or_left, or_right}
+use Rattle.std.proofs.lemmas.Bool.{and_parts, and_right, both_ways, cases_Bool, cases_eq, cases_lt, eq-eqb, eqb-true}
+use Rattle.std.proofs.lemmas.Bool.{false≢true, le-ltb, lt-ltb, ne_eqb, or_left, or_right}
 use Rattle.argus_actions.proofs.RowsLemmas.{is_above_low, is_above_past, numbered_low}
-use Rattle.argus_actions.proofs.Walks.{above_via, is_handled, is_via, newest_sub_is, via_all, via_low, via_more}
+use Rattle.argus_actions.proofs.Walks.{above_via, is_via, newest_sub_is, via_all, via_low, via_more}
 use Rattle.argus_actions.proofs.Walks.{via_past, via_unbegun}
 use Rattle.argus_actions.specs.Nodes.{AreLinked}
 use Rattle.argus_actions.specs.Rows.{is_above, is_live_at, newest_below}
@@ -19,10 +19,10 @@ use Rattle.argus_actions.specs.declared.status.Status.TheVariants.{Folded}
 use Rattle.argus_actions.specs.declared.action_id.ActionId.{ActionId}
 use Rattle.argus_contents.specs.declared.obj_id.ObjId.{ObjId}
 use Rattle.argus_core.specs.Moving.{AreChanged, AreLawful, ChangedIf, IsEnded, is_listed}
-use Rattle.argus_core.specs.Sweeping.{AreAllThere, AreCleared, AreCovered, AreEnded, AreSwept, IsSweptCell}
-use Rattle.argus_core.specs.Sweeping.{IsUntouched}
+use Rattle.argus_core.specs.Sweeping.{AreAllThere, AreCleared, AreCovered, AreEnded}
 use Rattle.argus_core.specs.declared.engine.atomic_object.AtomicObject.{AtomicObject}
-use Rattle.argus_objects.proofs.Later.{filter_twice}
+use Rattle.argus_objects.proofs.Later.{filter_all, filter_twice}
+use Rattle.argus_refinement.proofs.CellLists.{has_filtered}
 use Rattle.argus_objects.specs.Holdings.{Lists, objects_held_by}
 use Rattle.argus_objects.specs.CellChanges.{has_version, is_reader}
 use Rattle.argus_objects.specs.Object.{Object, PlainVersion}
@@ -49,15 +49,6 @@ ended_both t p q both split a b c f g = record {
     neither : (x : ℕ) → (not (p x) && not (q x)) ≡ not (both x)
     neither x = not_either (p x) (q x) ∙ ap not (sym (split x))
 
--- ending the same holders twice is ending them once
-ended_twice : (t : Tree) (ended : ℕ → Bool) (a b c : Object) → IsEnded t ended a b → IsEnded t ended b c
-    → IsEnded t ended a c
-ended_twice t ended = ended_both t ended ended ended (λ x. once (ended x))
-  where
-    once : (b : Bool) → b ≡ (b || b)
-    once true = refl
-    once false = refl
-
 -- nothing is on an empty list, and what stays stays
 cleared_less : (b : Bool) (list : List ObjId) (o : ℕ) → is_listed (cond b [] list) o ≡ true → is_listed list o ≡ true
 cleared_less true list o e = absurd (false≢true e)
@@ -68,153 +59,108 @@ pub there_less : (ended : ℕ → Bool) (held held' : Holdings) (n : ℕ) → Ar
 there_less ended held held' n c k =
     λ x o e. k x o (cleared_less (ended x.0) (objects_held_by held x) o (sym (ap (λ list. is_listed list o) (c x)) ∙ e))
 
--- each cell stays lawful
-pub swept_lawful : (t : Tree) (top : ℕ) (handled : ℕ → Bool) (old new : List AtomicObject) (held held' : Holdings)
-    → AreSwept t top handled old new held held' → AreLawful t old → AreLawful t new
-swept_lawful t top handled old new held held' k l = λ o d lt.
-    let low : o < length old = subst (λ n. o < n) k.count lt in
-    ⊎_elim (λ e. e.lawful) (λ e. ap (is_lawful t) e.0 ∙ l o d low) (k.cell o d low)
-
--- two walks, one after the other
-module _ (t : Tree) (top : ℕ) (one two both : ℕ → Bool) (split : (x : ℕ) → both x ≡ (one x || two x))
-    (old mid new : List AtomicObject) (held hm hn : Holdings) (k : AreSwept t top one old mid held hm)
-    (m : AreSwept t top two mid new hm hn) where
-  untouched : (o : ℕ) → IsUntouched one held o → IsUntouched two hm o → IsUntouched both held o
-  untouched o f g = λ x e.
-      elim (cases_Bool (one x.0)) [
-        | inl h ↦ f x h
-        | inr h ↦
-            sym (ap (λ list. is_listed list o) (k.lists x ∙ ap (λ b. cond b [] (objects_held_by held x)) h))
-            ∙ g x (sym (split x.0 ∙ ap (λ b. b || two x.0) h) ∙ e)
-      ]
-
-  cell_more : (o : ℕ) (a b c : Object) → IsSweptCell t top one held o a b → IsSweptCell t top two hm o b c
-      → IsSweptCell t top both held o a c
-  cell_more o a b c (inl f) (inl g) = inl (ended_twice t (is_ancestor t top) a b c f g)
-  cell_more o a b c (inl f) (inr g) = inl (subst (IsEnded t (is_ancestor t top) a) (sym g.0) f)
-  cell_more o a b c (inr f) (inl g) = inl (subst (λ z. IsEnded t (is_ancestor t top) z c) f.0 g)
-  cell_more o a b c (inr f) (inr g) = inr (g.0 ∙ f.0, untouched o f.1 g.1)
-
-  lists_more : (x : ActionId) → objects_held_by hn x ≡ cond (both x.0) [] (objects_held_by held x)
-  lists_more x =
-      m.lists x ∙ ap (λ list. cond (two x.0) [] list) (k.lists x) ∙ join (one x.0) (two x.0)
-      ∙ ap (λ b. cond b [] (objects_held_by held x)) (sym (split x.0))
-    where
-      join : (b c : Bool) → cond c [] (cond b [] (objects_held_by held x)) ≡ cond (b || c) [] (objects_held_by held x)
-      join true true = refl
-      join true false = refl
-      join false true = refl
-      join false false = refl
-
-  pub swept_more : AreSwept t top both old new held hn
-  swept_more = record {
-    count = m.count ∙ k.count;
-    shape = λ o d lt. m.shape o d (subst (λ n. o < n) (sym k.count) lt) ∙ k.shape o d lt;
-    cell = λ o d lt.
-        cell_more o (slice_index_or old o d).cell (slice_index_or mid o d).cell (slice_index_or new o d).cell
-        (k.cell o d lt)
-        (m.cell o d (subst (λ n. o < n) (sym k.count) lt));
-    lists = lists_more;
-  }
-
--- the same walk, told by another test
-pub swept_same : (t : Tree) (top : ℕ) (one two : ℕ → Bool) → ((x : ℕ) → one x ≡ two x)
-    → (old new : List AtomicObject) (held held' : Holdings) → AreSwept t top one old new held held'
-    → AreSwept t top two old new held held'
-swept_same t top one two same old new held held' k = record {
-  count = k.count;
-  shape = k.shape;
-  cell = λ o d lt. ⊎_elim (λ e. inl e) (λ e. inr (e.0, λ x i. e.1 x (same x.0 ∙ i))) (k.cell o d lt);
-  lists = λ x. k.lists x ∙ ap (λ b. cond b [] (objects_held_by held x)) (same x.0);
+-- nothing was ended yet
+pub none_ended : (t : Tree) (ended : ℕ → Bool) → ((x : ℕ) → ended x ≡ false)
+    → (objects : List AtomicObject) (held : Holdings) → AreLawful t objects → AreEnded t ended objects objects held held
+none_ended t ended none objects held l = record {
+  count = refl;
+  shape = λ o d lt. refl;
+  cell = λ o d lt.
+      let c : Object = (slice_index_or objects o d).cell in
+      record {
+        base = refl;
+        readers = sym (filter_all (λ x. not (ended x.0)) (λ x. ap not (none x.0)) c.readers);
+        versions = sym (filter_all (λ v. not (ended v.holder.0)) (λ v. ap not (none v.holder.0)) c.versions);
+        lawful = l o d lt;
+      };
+  lists = λ x. sym (ap (λ b. cond b [] (objects_held_by held x)) (none x.0));
 }
 
--- the action's own list
-pub swept_own : (t : Tree) (top : ℕ) (a : ActionId) (old new : List AtomicObject) (held held' : Holdings)
-    → AreChanged (IsEnded t (is_ancestor t top)) (objects_held_by held a) old new → Lists held a [] held'
-    → AreSwept t top (λ x. x == a.0) old new held held'
-swept_own t top a old new held held' moved cleared = record {
-  count = moved.count;
-  shape = λ o d lt. (moved.each o d lt).shape;
-  cell = λ o d lt. at o (slice_index_or old o d).cell (slice_index_or new o d).cell (is_listed
-      (objects_held_by held a) o) refl
-      (moved.each o d lt).cell;
-  lists = cleared;
+-- two endings of all objects, one after the other
+pub all_both : (t : Tree) (p q both : ℕ → Bool) → ((x : ℕ) → both x ≡ (p x || q x))
+    → (old mid new : List AtomicObject) (held hm hn : Holdings) → AreEnded t p old mid held hm
+    → AreEnded t q mid new hm hn → AreEnded t both old new held hn
+all_both t p q both split old mid new held hm hn k m = record {
+  count = m.count ∙ k.count;
+  shape = λ o d lt. m.shape o d (subst (λ n. o < n) (sym k.count) lt) ∙ k.shape o d lt;
+  cell = λ o d lt.
+      ended_both t p q both split (slice_index_or old o d).cell (slice_index_or mid o d).cell
+      (slice_index_or new o d).cell (k.cell o d lt)
+      (m.cell o d (subst (λ n. o < n) (sym k.count) lt));
+  lists = λ x.
+      m.lists x ∙ ap (λ list. cond (q x.0) [] list) (k.lists x) ∙ join x (p x.0) (q x.0)
+      ∙ ap (λ b. cond b [] (objects_held_by held x)) (sym (split x.0));
 }
   where
-    same_id : (x : ActionId) → (x.0 == a.0) ≡ true → x ≡ a
-    same_id x e = ap (λ n. let y : ActionId = record { 0 = n } in y) (eqb-true x.0 a.0 e)
+    join : (x : ActionId) (b c : Bool) → cond c [] (cond b [] (objects_held_by held x)) ≡ cond (b || c) []
+        (objects_held_by held x)
+    join x true true = refl
+    join x true false = refl
+    join x false true = refl
+    join x false false = refl
 
-    at : (o : ℕ) (c c' : Object) (b : Bool) → is_listed (objects_held_by held a) o ≡ b
-        → ChangedIf b (IsEnded t (is_ancestor t top)) c c' → IsSweptCell t top (λ x. x == a.0) held o c c'
-    at o c c' true e r = inl r
-    at o c c' false e r = inr (r, λ x i. ap (λ y. is_listed (objects_held_by held y) o) (same_id x i) ∙ e)
+pub ended_lawful : (t : Tree) (ended : ℕ → Bool) (old new : List AtomicObject) (held held' : Holdings)
+    → AreEnded t ended old new held held' → AreLawful t new
+ended_lawful t ended old new held held' k = λ o d lt. (k.cell o d (subst (λ n. o < n) k.count lt)).lawful
 
-module _ (t : Tree) (linked : AreLinked t.folded t.rows) (a : ℕ) where
-  -- before the first subaction
-  pub handled_first : a < next t → t.folded ≤ a → (x : ℕ) → (x == a) ≡ is_handled t.folded t.rows a (next t) x
-  handled_first begun held x =
-      or_none (x == a)
-      ∙ ap (λ b. x == a || b)
-      (sym (elim (cases_lt x (next t)) [
-        | inl lt ↦ via_past t.folded t.rows a (next t) x (omega arith) lt
-        | inr ge ↦ via_unbegun t.folded t.rows a (next t) x ge
-      ]))
-    where
-      or_none : (b : Bool) → b ≡ (b || false)
-      or_none true = refl
-      or_none false = refl
+-- who holds an object after an ending has it on its list
+pub covered_more : (t : Tree) (ended : ℕ → Bool) (old new : List AtomicObject) (held held' : Holdings)
+    → AreEnded t ended old new held held' → AreCovered old held → AreCovered new held'
+covered_more t ended old new held held' k cover = λ x o d lt e.
+    let low : o < length old = subst (λ n. o < n) k.count lt in
+    let c = k.cell o d low in
+    let was : Object = (slice_index_or old o d).cell in
+    let now : Object = (slice_index_or new o d).cell in
+    let kept : ((is_reader x was.readers || has_version x was.versions) && not (ended x.0)) ≡ true =
+    sym (ap (λ rs. is_reader x rs || has_version x now.versions) c.readers
+    ∙ ap (λ vs. is_reader x (filter (λ y. not (ended y.0)) was.readers) || has_version x vs) c.versions
+    ∙ ap (λ b. b || has_version x (filter (λ v. not (ended v.holder.0)) was.versions)) (reader_filtered x was.readers)
+    ∙ ap (λ b. (is_reader x was.readers && not (ended x.0)) || b) (has_filtered (λ n. not (ended n)) was.versions x)
+    ∙ join (is_reader x was.readers) (has_version x was.versions) (not (ended x.0))) ∙ e in
+    let q = and_parts (is_reader x was.readers || has_version x was.versions) (not (ended x.0)) kept in
+    ap (λ list. is_listed list o) (k.lists x ∙ ap (λ b. cond b [] (objects_held_by held x)) (off (ended x.0) q.1))
+    ∙ cover x o d low q.0
+  where
+    off : (b : Bool) → not b ≡ true → b ≡ false
+    off true e = absurd (false≢true e)
+    off false e = refl
 
-  -- one subaction more
-  pub handled_more : (bound c : ℕ) → newest_below t.folded t.rows a bound ≡ Some c → (x : ℕ)
-      → is_handled t.folded t.rows a c x ≡ (is_handled t.folded t.rows a bound x || is_ancestor t c x)
-  handled_more bound c e x =
-      elim (cases_lt x t.folded) [
-        | inl low ↦
-            ap (λ b. x == a || b) (via_low t.folded t.rows a c x low)
-            ∙ sym (ap (λ b. (x == a || b) || is_above t.folded t.rows c x) (via_low t.folded t.rows a bound x low)
-            ∙ ap (λ b. (x == a || false) || b) (is_above_low t.folded t.rows c x low)
-            ∙ or_off (x == a || false))
-        | inr ge ↦ elim (cases_lt x (next t)) [
-          | inl lt ↦
-              ap (λ b. x == a || b) (sym (via_more t.folded t.rows a bound c x linked e ge lt))
-              ∙ assoc (x == a) (is_via t.folded t.rows a bound x) (is_above t.folded t.rows c x)
-          | inr past ↦
-              ap (λ b. x == a || b) (via_unbegun t.folded t.rows a c x past)
-              ∙ sym (ap (λ b. (x == a || b) || is_above t.folded t.rows c x)
-              (via_unbegun t.folded t.rows a bound x past)
-              ∙ ap (λ b. (x == a || false) || b) (is_above_past t.folded t.rows c x past)
-              ∙ or_off (x == a || false))
-        ]
-      ]
-    where
-      or_off : (b : Bool) → (b || false) ≡ b
-      or_off true = refl
-      or_off false = refl
+    join : (a b c : Bool) → ((a && c) || (b && c)) ≡ ((a || b) && c)
+    join true true true = refl
+    join true true false = refl
+    join true false true = refl
+    join true false false = refl
+    join false b c = refl
 
-      assoc : (p q r : Bool) → (p || (q || r)) ≡ ((p || q) || r)
-      assoc true q r = refl
-      assoc false q r = refl
-
-  -- no subaction left
-  pub handled_all : a < next t → t.folded ≤ a → (bound : ℕ) → newest_below t.folded t.rows a bound ≡ None → (x : ℕ)
-      → is_handled t.folded t.rows a bound x ≡ is_ancestor t a x
-  handled_all begun held bound e x =
-      elim (cases_lt x t.folded) [
-        | inl low ↦
-            ap (λ b. x == a || b) (via_low t.folded t.rows a bound x low)
-            ∙ other x (λ i. omega (arith, low, i)) ∙ sym (is_above_low t.folded t.rows a x low)
-        | inr ge ↦ elim (cases_lt x (next t)) [
-          | inl lt ↦
-              ap (λ b. x == a || b) (via_all t.folded t.rows a bound x linked e ge lt)
-              ∙ above_via t.folded t.rows a x linked ge lt
-          | inr past ↦
-              ap (λ b. x == a || b) (via_unbegun t.folded t.rows a bound x past)
-              ∙ other x (λ i. omega (arith, past, i)) ∙ sym (is_above_past t.folded t.rows a x past)
-        ]
-      ]
-    where
-      other : (x : ℕ) → x ≢ a → (x == a || false) ≡ false
-      other x ne = ap (λ b. b || false) (ne_eqb x a ne)
+    reader_filtered : (x : ActionId) (rs : List ActionId)
+        → is_reader x (filter (λ y. not (ended y.0)) rs) ≡ (is_reader x rs && not (ended x.0))
+    reader_filtered x [] = refl
+    reader_filtered x (y ∷ rs) = at (ended y.0) refl (reader_filtered x rs)
+      where
+        at : (b : Bool) → ended y.0 ≡ b → is_reader x (filter (λ z. not (ended z.0)) rs)
+            ≡ (is_reader x rs && not (ended x.0)) → is_reader x
+            (cond (not b) (y ∷ filter (λ z. not (ended z.0)) rs) (filter (λ z. not (ended z.0)) rs))
+            ≡ ((eqb y.0 x.0 || is_reader x rs) && not (ended x.0))
+        at true e ih =
+            ih
+            ∙ elim (cases_eq y.0 x.0) [
+              | inl same ↦
+                  let gone : not (ended x.0) ≡ false = ap not (ap ended (sym same) ∙ e) in
+                  and_right (is_reader x rs) (not (ended x.0)) gone
+                  ∙ sym (and_right (eqb y.0 x.0 || is_reader x rs) (not (ended x.0)) gone)
+              | inr ne ↦ ap (λ b. (b || is_reader x rs) && not (ended x.0)) (sym (ne_eqb y.0 x.0 ne))
+            ]
+        at false e ih =
+            ap (λ b. eqb y.0 x.0 || b) ih
+            ∙ elim (cases_eq y.0 x.0) [
+              | inl same ↦
+                  let stays : not (ended x.0) ≡ true = ap not (ap ended (sym same) ∙ e) in
+                  ap (λ b. b || (is_reader x rs && not (ended x.0))) (eq-eqb y.0 x.0 same)
+                  ∙ sym (ap (λ b. (b || is_reader x rs) && not (ended x.0)) (eq-eqb y.0 x.0 same) ∙ stays)
+              | inr ne ↦
+                  ap (λ b. b || (is_reader x rs && not (ended x.0))) (ne_eqb y.0 x.0 ne)
+                  ∙ sym (ap (λ b. (b || is_reader x rs) && not (ended x.0)) (ne_eqb y.0 x.0 ne))
+            ]
 
 -- readers and versions of whom none is ended stay
 readers_spared : (ended : ℕ → Bool) (rs : List ActionId) → ((x : ActionId) → is_reader x rs ≡ true → ended x.0 ≡ false)
@@ -233,44 +179,106 @@ versions_spared ended (v ∷ vs) f =
     (f v.holder (or_left (eqb v.holder.0 v.holder.0) (has_version v.holder vs) (eq-eqb v.holder.0 v.holder.0 refl)))
     ∙ ap (λ ys. v ∷ ys) (versions_spared ended vs (λ x e. f x (or_right (eqb v.holder.0 x.0) (has_version x vs) e)))
 
--- the walk has ended all that stand under the action
-pub all_ended : (t : Tree) (a : ℕ) (old new : List AtomicObject) (held held' : Holdings)
-    → AreSwept t a (is_ancestor t a) old new held held' → AreLawful t old → AreCovered old held
-    → AreEnded t (is_ancestor t a) old new held held'
-all_ended t a old new held held' k l cover = record {
-  count = k.count;
-  shape = k.shape;
-  cell = λ o d lt. at o d lt (slice_index_or new o d).cell (k.cell o d lt);
-  lists = k.lists;
+-- the action's own list is handled: it isn't a holder of the other objects
+pub own_ended : (t : Tree) (a : ActionId) (old new : List AtomicObject) (held held' : Holdings)
+    → AreChanged (IsEnded t (λ x. x == a.0)) (objects_held_by held a) old new → Lists held a [] held' → AreLawful t old
+    → AreCovered old held → AreEnded t (λ x. x == a.0) old new held held'
+own_ended t a old new held held' moved cleared l cover = record {
+  count = moved.count;
+  shape = λ o d lt. (moved.each o d lt).shape;
+  cell = λ o d lt. at o d lt (slice_index_or new o d).cell (is_listed (objects_held_by held a) o) refl
+      (moved.each o d lt).cell;
+  lists = cleared;
 }
   where
-    untouched : (o : ℕ) (d : AtomicObject) → o < length old → IsUntouched (is_ancestor t a) held o → (x : ActionId)
+    same_id : (x : ActionId) → (x.0 == a.0) ≡ true → x ≡ a
+    same_id x e = ap (λ n. let y : ActionId = record { 0 = n } in y) (eqb-true x.0 a.0 e)
+
+    other : (o : ℕ) (d : AtomicObject) → o < length old → is_listed (objects_held_by held a) o ≡ false → (x : ActionId)
         → (is_reader x (slice_index_or old o d).cell.readers || has_version x (slice_index_or old o d).cell.versions)
-        ≡ true → is_ancestor t a x.0 ≡ false
-    untouched o d lt u x e =
-        elim (cases_Bool (is_ancestor t a x.0)) [
-          | inl up ↦ absurd (both_ways (is_listed (objects_held_by held x) o) (u x up) (cover x o d lt e))
-          | inr off ↦ off
+        ≡ true → (x.0 == a.0) ≡ false
+    other o d lt off x e =
+        elim (cases_Bool (x.0 == a.0)) [
+          | inl same ↦ absurd (both_ways (is_listed (objects_held_by held x) o)
+              (ap (λ y. is_listed (objects_held_by held y) o) (same_id x same) ∙ off) (cover x o d lt e))
+          | inr ne ↦ ne
         ]
 
-    at : (o : ℕ) (d : AtomicObject) → o < length old → (c : Object)
-        → IsSweptCell t a (is_ancestor t a) held o (slice_index_or old o d).cell c
-        → IsEnded t (is_ancestor t a) (slice_index_or old o d).cell c
-    at o d lt c (inl e) = e
-    at o d lt c (inr e) =
+    at : (o : ℕ) (d : AtomicObject) → o < length old → (c : Object) (b : Bool)
+        → is_listed (objects_held_by held a) o ≡ b
+        → ChangedIf b (IsEnded t (λ x. x == a.0)) (slice_index_or old o d).cell c
+        → IsEnded t (λ x. x == a.0) (slice_index_or old o d).cell c
+    at o d lt c true on r = r
+    at o d lt c false off r =
         let was : Object = (slice_index_or old o d).cell in
         record {
-          base = ap (λ (z : Object). z.base) e.0;
+          base = ap (λ (z : Object). z.base) r;
           readers =
-              ap (λ (z : Object). z.readers) e.0
-              ∙ sym (readers_spared (is_ancestor t a) was.readers
-              (λ x i. untouched o d lt e.1 x (or_left (is_reader x was.readers) (has_version x was.versions) i)));
+              ap (λ (z : Object). z.readers) r
+              ∙ sym (readers_spared (λ x. x == a.0) was.readers
+              (λ x i. other o d lt off x (or_left (is_reader x was.readers) (has_version x was.versions) i)));
           versions =
-              ap (λ (z : Object). z.versions) e.0
-              ∙ sym (versions_spared (is_ancestor t a) was.versions
-              (λ x i. untouched o d lt e.1 x (or_right (is_reader x was.readers) (has_version x was.versions) i)));
-          lawful = ap (is_lawful t) e.0 ∙ l o d lt;
+              ap (λ (z : Object). z.versions) r
+              ∙ sym (versions_spared (λ x. x == a.0) was.versions
+              (λ x i. other o d lt off x (or_right (is_reader x was.readers) (has_version x was.versions) i)));
+          lawful = ap (is_lawful t) r ∙ l o d lt;
         }
+
+-- below the action, by one of the subactions that were handled
+module _ (t : Tree) (linked : AreLinked t.folded t.rows) (a : ℕ) where
+  -- before the first subaction
+  via_first : (x : ℕ) → is_via t.folded t.rows a (next t) x ≡ false
+  via_first x =
+      elim (cases_lt x (next t)) [
+        | inl lt ↦ via_past t.folded t.rows a (next t) x (omega arith) lt
+        | inr ge ↦ via_unbegun t.folded t.rows a (next t) x ge
+      ]
+
+  -- one subaction more
+  via_next : (bound c : ℕ) → newest_below t.folded t.rows a bound ≡ Some c → (x : ℕ)
+      → is_via t.folded t.rows a c x ≡ (is_via t.folded t.rows a bound x || is_ancestor t c x)
+  via_next bound c e x =
+      elim (cases_lt x t.folded) [
+        | inl low ↦
+            via_low t.folded t.rows a c x low
+            ∙ sym (ap (λ b. b || is_above t.folded t.rows c x) (via_low t.folded t.rows a bound x low)
+            ∙ is_above_low t.folded t.rows c x low)
+        | inr ge ↦ elim (cases_lt x (next t)) [
+          | inl lt ↦ sym (via_more t.folded t.rows a bound c x linked e ge lt)
+          | inr past ↦
+              via_unbegun t.folded t.rows a c x past
+              ∙ sym (ap (λ b. b || is_above t.folded t.rows c x) (via_unbegun t.folded t.rows a bound x past)
+              ∙ is_above_past t.folded t.rows c x past)
+        ]
+      ]
+
+  -- no subaction left: then comes the action itself
+  via_end : a < next t → t.folded ≤ a → (bound : ℕ) → newest_below t.folded t.rows a bound ≡ None → (x : ℕ)
+      → is_ancestor t a x ≡ (is_via t.folded t.rows a bound x || x == a)
+  via_end begun held bound e x =
+      sym (or_comm (is_via t.folded t.rows a bound x) (x == a)
+      ∙ elim (cases_lt x t.folded) [
+        | inl low ↦
+            ap (λ b. x == a || b) (via_low t.folded t.rows a bound x low)
+            ∙ other x (λ i. omega (arith, low, i)) ∙ sym (is_above_low t.folded t.rows a x low)
+        | inr ge ↦ elim (cases_lt x (next t)) [
+          | inl lt ↦
+              ap (λ b. x == a || b) (via_all t.folded t.rows a bound x linked e ge lt)
+              ∙ above_via t.folded t.rows a x linked ge lt
+          | inr past ↦
+              ap (λ b. x == a || b) (via_unbegun t.folded t.rows a bound x past)
+              ∙ other x (λ i. omega (arith, past, i)) ∙ sym (is_above_past t.folded t.rows a x past)
+        ]
+      ])
+    where
+      or_comm : (p q : Bool) → (p || q) ≡ (q || p)
+      or_comm true true = refl
+      or_comm true false = refl
+      or_comm false true = refl
+      or_comm false false = refl
+
+      other : (x : ℕ) → x ≢ a → (x == a || false) ≡ false
+      other x ne = ap (λ b. b || false) (ne_eqb x a ne)
 
 -- the subaction that comes next before this one
 older_is : (t : Tree) (a bound c : ℕ) → AreLinked t.folded t.rows → newest_below t.folded t.rows a bound ≡ Some c
@@ -283,13 +291,13 @@ older_is t a bound c linked e =
     ∙ ap (λ o. named (at_parent None o (λ parent. newest_below t.folded t.rows parent c)))
     ((newest_sub_is t.folded t.rows a bound c linked e).under row at.1.1.1.1.0)
 
--- in the midst of the loop: the action itself and its subactions from the bound on were handled, and the next is the
--- newest below it
-pub record IsWalked (t : Tree) (top a : ℕ) (old new : List AtomicObject) (held held' : Holdings)
+-- in the midst of the loop: all below the action by its subactions from the bound on were ended, and the next
+-- subaction is the newest below it
+pub record IsWalked (t : Tree) (a : ℕ) (old new : List AtomicObject) (held held' : Holdings)
     (sub : Option ActionId) : Type 0 where
   pub bound : ℕ
   pub next_sub : sub ≡ named (newest_below t.folded t.rows a bound)
-  pub swept : AreSwept t top (is_handled t.folded t.rows a bound) old new held held'
+  pub ended : AreEnded t (is_via t.folded t.rows a bound) old new held held'
 
 -- a bound on the steps that are left
 abbrev pub steps_left : Option ActionId → ℕ
@@ -304,20 +312,20 @@ pub named_none : (o : Option ℕ) → None ≡ named o → o ≡ None
 named_none None e = refl
 named_none (Some n) e = cc
 
-module _ (t : Tree) (linked : AreLinked t.folded t.rows) (top a : ℕ) (old new : List AtomicObject)
-    (held held' : Holdings) where
-  -- before the first step
-  pub walk_start : (sub : Option ActionId) → a < next t → t.folded ≤ a → sub ≡ newest_sub_of t a
-      → AreSwept t top (λ x. x == a) old new held held' → IsWalked t top a old new held held' sub
-  walk_start sub begun low is k = record {
-    bound = next t;
-    next_sub = is;
-    swept = swept_same t top (λ x. x == a) (is_handled t.folded t.rows a (next t)) (handled_first t linked a begun low)
-        old new held held' k;
-  }
+-- before the first step
+pub walk_start : (t : Tree) → AreLinked t.folded t.rows → (a : ℕ) (objects : List AtomicObject) (held : Holdings)
+    (sub : Option ActionId) → sub ≡ newest_sub_of t a → AreLawful t objects
+    → IsWalked t a objects objects held held sub
+walk_start t linked a objects held sub is l = record {
+  bound = next t;
+  next_sub = is;
+  ended = none_ended t (is_via t.folded t.rows a (next t)) (via_first t linked a) objects held l;
+}
 
+module _ (t : Tree) (linked : AreLinked t.folded t.rows) (a : ℕ) (old new : List AtomicObject)
+    (held held' : Holdings) where
   -- the subaction that comes next is a newer action, and has begun
-  pub walk_next : (below : ActionId) → IsWalked t top a old new held held' (Some below)
+  pub walk_next : (below : ActionId) → IsWalked t a old new held held' (Some below)
       → (a < below.0) × (below.0 < next t) × (t.folded ≤ below.0)
   walk_next below k =
       let q = newest_sub_is t.folded t.rows a k.bound below.0 linked
@@ -325,7 +333,7 @@ module _ (t : Tree) (linked : AreLinked t.folded t.rows) (top a : ℕ) (old new 
       (q.newer, q.begun, q.low)
 
   -- the steps get fewer
-  pub walk_fewer : (below : ActionId) → IsWalked t top a old new held held' (Some below)
+  pub walk_fewer : (below : ActionId) → IsWalked t a old new held held' (Some below)
       → steps_left (older_sub_of t below.0) < below.0 + 1
   walk_fewer below k =
       let e = named_some (newest_below t.folded t.rows a k.bound) below k.next_sub in
@@ -338,25 +346,26 @@ module _ (t : Tree) (linked : AreLinked t.folded t.rows) (top a : ℕ) (old new 
 
   -- one step more
   pub walk_step : (below : ActionId) (more : List AtomicObject) (held2 : Holdings)
-      → IsWalked t top a old new held held' (Some below) → AreSwept t top (is_ancestor t below.0) new more held' held2
-      → IsWalked t top a old more held held2 (older_sub_of t below.0)
+      → IsWalked t a old new held held' (Some below) → AreEnded t (is_ancestor t below.0) new more held' held2
+      → IsWalked t a old more held held2 (older_sub_of t below.0)
   walk_step below more held2 k m =
       let e = named_some (newest_below t.folded t.rows a k.bound) below k.next_sub in
       record {
         bound = below.0;
         next_sub = older_is t a k.bound below.0 linked e;
-        swept = swept_more t top (is_handled t.folded t.rows a k.bound) (is_ancestor t below.0)
-            (is_handled t.folded t.rows a below.0) (handled_more t linked a k.bound below.0 e)
-            old new more held held' held2 k.swept m;
+        ended = all_both t (is_via t.folded t.rows a k.bound) (is_ancestor t below.0)
+            (is_via t.folded t.rows a below.0) (via_next t linked a k.bound below.0 e)
+            old new more held held' held2 k.ended m;
       }
 
-  -- no step left
-  pub walk_end : a < next t → t.folded ≤ a → IsWalked t top a old new held held' None
-      → AreSwept t top (is_ancestor t a) old new held held'
-  walk_end begun low k =
-      swept_same t top (is_handled t.folded t.rows a k.bound) (is_ancestor t a)
-      (handled_all t linked a begun low k.bound (named_none (newest_below t.folded t.rows a k.bound) k.next_sub))
-      old new held held' k.swept
+  -- no subaction left, and then the action itself
+  pub walk_end : a < next t → t.folded ≤ a → (last : List AtomicObject) (held2 : Holdings)
+      → IsWalked t a old new held held' None → AreEnded t (λ x. x == a) new last held' held2
+      → AreEnded t (is_ancestor t a) old last held held2
+  walk_end begun low last held2 k m =
+      all_both t (is_via t.folded t.rows a k.bound) (λ x. x == a) (is_ancestor t a)
+      (via_end t linked a begun low k.bound (named_none (newest_below t.folded t.rows a k.bound) k.next_sub))
+      old new last held held' held2 k.ended m
 
 -- a live status
 abbrev pub has_live_status : Option Status → Bool

@@ -1,43 +1,22 @@
 -- What happens to objects and lists when actions are ended.
-use Rattle.std.specs.Prelude.{Bool, List, [], false, if◌then◌else◌, length, slice_index_or, true, ℕ}
-use Rattle.std.specs.Prelude.{◌<◌, ◌||◌, ◌≡◌, ◌⊎◌}
-use Rattle.argus_actions.specs.Tree.{Tree, is_ancestor}
+use Rattle.std.specs.Prelude.{Bool, List, [], if◌then◌else◌, length, slice_index_or, true, ℕ}
+use Rattle.std.specs.Prelude.{◌<◌, ◌||◌, ◌≡◌}
+use Rattle.argus_actions.specs.Tree.{Tree}
 use Rattle.argus_actions.specs.declared.action_id.ActionId.{ActionId}
 use Rattle.argus_core.specs.Moving.{IsEnded, is_listed}
 use Rattle.argus_core.specs.declared.engine.atomic_object.AtomicObject.{AtomicObject}
 use Rattle.argus_objects.specs.Holdings.{objects_held_by}
 use Rattle.argus_objects.specs.CellChanges.{has_version, is_reader}
-use Rattle.argus_objects.specs.Object.{Object}
 use Rattle.argus_objects.specs.declared.holdings.Holdings.{Holdings}
 
 -- each number on a list has an object
 abbrev pub AreAllThere : Holdings → ℕ → Type 0
 AreAllThere held n = (x : ActionId) (o : ℕ) → is_listed (objects_held_by held x) o ≡ true → o < n
 
--- none of those that were handled has the object on its list
-abbrev pub IsUntouched : (ℕ → Bool) → Holdings → ℕ → Type 0
-IsUntouched handled held o =
-    (x : ActionId) → handled x.0 ≡ true → is_listed (objects_held_by held x) o ≡ false
-
--- the cell without the holders under top; or unchanged, if none of those that were handled lists it
-abbrev pub IsSweptCell : Tree → ℕ → (ℕ → Bool) → Holdings → ℕ → Object → Object → Type 0
-IsSweptCell t top handled held o old new =
-    IsEnded t (is_ancestor t top) old new ⊎ ((new ≡ old) × IsUntouched handled held o)
-
 -- the lists of those that pass the test are empty, all others stay
 abbrev pub AreCleared : (ℕ → Bool) → Holdings → Holdings → Type 0
 AreCleared ended held held' =
     (x : ActionId) → objects_held_by held' x ≡ (if ended x.0 then [] else objects_held_by held x)
-
--- in the middle of the walk: these actions were handled
-pub record AreSwept (t : Tree) (top : ℕ) (handled : ℕ → Bool) (old new : List AtomicObject)
-    (held held' : Holdings) : Type 0 where
-  pub count : length new ≡ length old
-  pub shape : (o : ℕ) (d : AtomicObject) → o < length old
-      → (slice_index_or new o d).shape ≡ (slice_index_or old o d).shape
-  pub cell : (o : ℕ) (d : AtomicObject) → o < length old
-      → IsSweptCell t top handled held o (slice_index_or old o d).cell (slice_index_or new o d).cell
-  pub lists : AreCleared handled held held'
 
 -- those that pass the test hold nothing, in no object and on no list
 pub record AreEnded (t : Tree) (ended : ℕ → Bool) (old new : List AtomicObject)

@@ -25,6 +25,13 @@ ascending_filter keep (x ∷ xs) up =
       | inr k ↦ ap (λ b. is_ascending (cond b (x ∷ filter keep xs) (filter keep xs))) k ∙ rest
     ]
 
+-- what holds of all holds at each place
+pub all_at : (p : ActionId → Bool) (ys : List ActionId) (i : ℕ) (e : ActionId) → list_all p ys ≡ true → i < length ys
+    → p (get_or ys i e) ≡ true
+all_at p [] i e all b = absurd (omega arith)
+all_at p (y ∷ ys) zero e all b = (and_parts (p y) (list_all p ys) all).0
+all_at p (y ∷ ys) (suc i) e all b = all_at p ys i e (and_parts (p y) (list_all p ys) all).1 (omega arith)
+
 -- those before a place have lower numbers
 pub lower_before : (ids : List ActionId) (k : ℕ) (d : ActionId) → is_ascending ids ≡ true → k < length ids
     → list_all (λ x. ltb x.0 (get_or ids k d).0) (take k ids) ≡ true
@@ -34,12 +41,18 @@ lower_before (x ∷ xs) (suc k) d up below =
     let parts : (list_all (λ y. ltb x.0 y.0) xs ≡ true) × (is_ascending xs ≡ true) =
     and_parts (list_all (λ y. ltb x.0 y.0) xs) (is_ascending xs) up in
     and_from _ _ (all_at (λ y. ltb x.0 y.0) xs k d parts.0 (omega arith)) (lower_before xs k d parts.1 (omega arith))
-  where
-    all_at : (p : ActionId → Bool) (ys : List ActionId) (i : ℕ) (e : ActionId) → list_all p ys ≡ true → i < length ys
-        → p (get_or ys i e) ≡ true
-    all_at p [] i e all b = absurd (omega arith)
-    all_at p (y ∷ ys) zero e all b = (and_parts (p y) (list_all p ys) all).0
-    all_at p (y ∷ ys) (suc i) e all b = all_at p ys i e (and_parts (p y) (list_all p ys) all).1 (omega arith)
+
+-- of two places the one behind has the greater number
+pub rising : (ids : List ActionId) (i j : ℕ) (d : ActionId) → is_ascending ids ≡ true → i < j → j < length ids
+    → (get_or ids i d).0 < (get_or ids j d).0
+rising [] i j d up lt below = absurd (omega arith)
+rising (x ∷ xs) i zero d up lt below = absurd (omega arith)
+rising (x ∷ xs) zero (suc j) d up lt below =
+    let all : list_all (λ y. ltb x.0 y.0) xs ≡ true =
+    (and_parts (list_all (λ y. ltb x.0 y.0) xs) (is_ascending xs) up).0 in
+    ltb-true x.0 (get_or xs j d).0 (all_at (λ y. ltb x.0 y.0) xs j d all (omega arith))
+rising (x ∷ xs) (suc i) (suc j) d up lt below =
+    rising xs i j d (and_parts (list_all (λ y. ltb x.0 y.0) xs) (is_ascending xs) up).1 (omega arith) (omega arith)
 
 -- if y is above z, then of the lower numbers the same are above y as are above z
 same_above : (t : Tree) (y z : ActionId) (ids : List ActionId) → is_ancestor t y.0 z.0 ≡ true

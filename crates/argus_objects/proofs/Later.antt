@@ -1,5 +1,5 @@
 -- A cell as actions begin and end.
-use Rattle.std.proofs.Common.{◌≡◌, Bool, true, false, not, eqb, ◌&&◌, ◌||◌, List, [], ◌∷◌, filter, refl, ap, inl, inr}
+use Rattle.std.proofs.Common.{◌≡◌, Bool, true, not, eqb, ◌&&◌, List, [], ◌∷◌, filter, refl, ap, inl, inr}
 use Rattle.std.specs.List.{list_all}
 use Rattle.std.proofs.lemmas.Bool.{cases_Bool, and_parts, and_from, or_cases, or_left, or_right}
 use Rattle.argus_actions.specs.declared.action_id.ActionId.{ActionId}
@@ -65,9 +65,3 @@ filter_twice p q r same (x ∷ xs) =
 pub filter_all : {X : Type 0} (p : X → Bool) → ((x : X) → p x ≡ true) → (xs : List X) → filter p xs ≡ xs
 filter_all p all [] = refl
 filter_all p all (x ∷ xs) = rw (all x) (ap (λ ys. x ∷ ys) (filter_all p all xs))
-
-pub not_or : (a b : Bool) → (not b && not a) ≡ not (a || b)
-not_or true true = refl
-not_or true false = refl
-not_or false true = refl
-not_or false false = refl

@@ -7,6 +7,7 @@ pub mod InOrder
 pub mod Parted
 pub mod Moved
 pub mod Stacks
+pub mod Searched
 pub mod Changes
 pub mod Later
 pub mod Members

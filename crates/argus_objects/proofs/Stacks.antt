@@ -152,17 +152,6 @@ without_none a (v ∷ vs) lacks =
     ap (λ b. cond (not b) (v ∷ without_version a vs) (without_version a vs)) parts.0
     ∙ ap (λ ws. v ∷ ws) (without_none a vs parts.1)
 
--- one more from the top that is another's
-pub none_more : (a : ActionId) (vs : List Version) (k : ℕ) (d : Version) → k < length vs
-    → has_version a (versions_newest_first (drop (k + 1) vs)) ≡ false → (get_or vs k d).holder.0 ≢ a.0
-    → has_version a (versions_newest_first (drop k vs)) ≡ false
-none_more a vs k d below lacks ne =
-    has_newest a (drop k vs)
-    ∙ (ap (list_any (λ (v : Version). eqb v.holder.0 a.0)) (drop_more vs k d below)
-    ∙ (ap (λ b. b || list_any (λ (v : Version). eqb v.holder.0 a.0) (drop (k + 1) vs))
-    (ne_eqb (get_or vs k d).holder.0 a.0 ne)
-    ∙ (sym (has_newest a (drop (k + 1) vs)) ∙ lacks)))
-
 -- lower holders are all other actions
 pub without_lower : (a : ActionId) (vs : List PlainVersion) → list_all (λ x. ltb x.0 a.0) (holders vs) ≡ true
     → without_version a vs ≡ vs

@@ -3,7 +3,7 @@ use Rattle.std.specs.Prelude.{Bool, not, ◌&&◌, ◌||◌, ◌==◌, nat_lt, i
 use Rattle.std.specs.Prelude.{map, Option, Some, None}
 use Rattle.std.specs.List.{list_any, filter}
 use Rattle.argus_actions.specs.declared.action_id.ActionId.{ActionId}
-use Rattle.argus_actions.specs.Tree.{Tree, is_ancestor}
+use Rattle.argus_actions.specs.Tree.{Tree}
 use Rattle.argus_contents.specs.Content.{PlainContent}
 use Rattle.argus_contents.specs.Change.{PlainChange, Outcome, outcome}
 use Rattle.argus_objects.specs.Object.{Object, PlainVersion}
@@ -60,27 +60,6 @@ versions_inherited s parent versions =
     if has_version s versions then map (version_inherited s parent)
     (without_version parent versions) else
     versions
-
--- the readers that don't have the action as an ancestor
-abbrev pub readers_discarded : Tree → ActionId → List ActionId → List ActionId
-readers_discarded tree a readers = filter (λ x. not (is_ancestor tree a.0 x.0)) readers
-
--- the versions whose holders don't have the action as an ancestor
-abbrev pub versions_discarded : Tree → ActionId → List PlainVersion → List PlainVersion
-versions_discarded tree a versions = filter (λ v. not (is_ancestor tree a.0 v.holder.0)) versions
-
--- one of these actions is an ancestor of x
-abbrev pub is_under_any : Tree → List ActionId → ActionId → Bool
-is_under_any tree actions x = list_any (λ a. is_ancestor tree a.0 x.0) actions
-
--- the readers that are under none of these actions, which are aborted
-abbrev pub readers_left : Tree → List ActionId → List ActionId → List ActionId
-readers_left tree actions readers = filter (λ x. not (is_under_any tree actions x)) readers
-
--- the versions whose holders are under none of these actions
-abbrev pub versions_left : Tree → List ActionId → List PlainVersion → List PlainVersion
-versions_left tree actions versions =
-    filter (λ v. not (is_under_any tree actions v.holder)) versions
 
 -- x is among the holders after s has handed what it has to its parent
 abbrev pub is_holder_inherited : ActionId → ActionId → ActionId → Bool → Bool → Bool

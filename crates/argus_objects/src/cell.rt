@@ -11,10 +11,10 @@ ghost use Rattle.argus_contents.specs.Content.{KeepsLimits, plain_option};
 ghost use Rattle.argus_objects.specs.Object.{versions_newest_first, SameLocks};
 ghost use Rattle.argus_objects.specs.Rules.{is_lawful, may_read, may_write, visible_content};
 ghost use Rattle.argus_objects.specs.CellChanges.{changed, has_version, is_reader, newest_content};
-ghost use Rattle.argus_objects.specs.CellChanges.{readers_discarded, readers_inherited};
+ghost use Rattle.argus_objects.specs.CellChanges.{readers_inherited};
 ghost use Rattle.argus_objects.specs.CellChanges.{version_of, with_reader};
 ghost use Rattle.argus_objects.specs.CellChanges.{without_reader};
-ghost use Rattle.argus_objects.specs.CellChanges.{versions_discarded, versions_inherited};
+ghost use Rattle.argus_objects.specs.CellChanges.{versions_inherited};
 ghost use Rattle.argus_objects.specs.CellChanges.{with_version};
 ghost use Rattle.argus_objects.specs.CellChanges.{without_version};
 
@@ -22,8 +22,8 @@ use crate::changing::{change_version, change_version_by_reference, content_on_to
 use crate::readers::{Readers, all_readers_above};
 use crate::version::Version;
 use crate::versions::{
-    all_writers_above, are_all_related, are_chained, discard_versions, has_version,
-    inherit_version, is_newest, is_newest_above, put_version, reserve_version, settle_version,
+    all_writers_above, are_all_related, are_chained, has_version, inherit_version, is_newest,
+    is_newest_above, put_version, reserve_version, settle_version, take_version,
 };
 use argus_actions::{ActionId, ActionTree};
 use argus_contents::{Answer, Change, Content, Signal};
@@ -377,19 +377,21 @@ impl Cell {
         settle_version(&mut self.base, &mut self.versions, t);
     }
 
-    /// Discards the locks and versions of `a`, and of all actions that have `a` as an ancestor.
+    /// Discards the locks and the version of `a`, if it has any. Those of all other actions stay,
+    /// also of the actions under `a`. The reader is found by halving; of the versions the newest is
+    /// looked at first.
     ///
     /// Condition: the cell is lawful.
-    pub fn discard(&mut self, tree: &ActionTree, a: ActionId)
+    pub fn release(&mut self, tree: &ActionTree, a: ActionId)
         requires lawful { is_lawful tree.now self.old ≡ true }
         ensures base { self.new.base ≡ self.old.base }
-        ensures readers { self.new.readers ≡ readers_discarded tree.now a self.old.readers }
-        ensures versions { self.new.versions ≡ versions_discarded tree.now a self.old.versions }
+        ensures readers { self.new.readers ≡ without_reader a self.old.readers }
+        ensures versions { self.new.versions ≡ without_version a self.old.versions }
         ensures lawful { is_lawful tree.now self.new ≡ true }
         ensures reader_room { self.old.reader_room ≤ self.new.reader_room }
         ensures version_room { self.old.version_room ≤ self.new.version_room }
     {
-        self.readers.discard(tree, a);
-        discard_versions(&mut self.versions, tree, a);
+        self.readers.remove(a);
+        let _ = take_version(&mut self.versions, a);
     }
 }

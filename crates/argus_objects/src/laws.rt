@@ -1,7 +1,7 @@
 //! What follows for cells as actions begin and end. These functions do nothing: each contract is a
 //! law for proofs.
 
-ghost use Rattle.std.specs.Prelude.{◌≡◌, ◌≢◌, true, List, [], ◌∷◌};
+ghost use Rattle.std.specs.Prelude.{◌≡◌, ◌≢◌, true, List};
 ghost use Rattle.argus_actions.specs.declared.action_id.ActionId.{ActionId};
 ghost use Rattle.argus_actions.specs.declared.origin.Origin.{Origin};
 ghost use Rattle.argus_actions.specs.Tree.{Tree, after_begin, after_commit, after_abort};
@@ -11,9 +11,6 @@ ghost use Rattle.argus_objects.specs.Rules.{is_lawful, may_read, may_write, Keep
 ghost use Rattle.argus_objects.specs.CellChanges.{is_reader, has_version, version_of};
 ghost use Rattle.argus_objects.specs.CellChanges.{is_holder_inherited};
 ghost use Rattle.argus_objects.specs.CellChanges.{readers_inherited, versions_inherited};
-ghost use Rattle.argus_objects.specs.CellChanges.{readers_discarded, versions_discarded};
-ghost use Rattle.argus_objects.specs.CellChanges.{readers_left};
-ghost use Rattle.argus_objects.specs.CellChanges.{versions_left};
 
 /// Ancestors stay ancestors, whatever begins or ends.
 pub fn ancestors_stay()
@@ -50,20 +47,4 @@ pub fn members_after_inherit()
     ensures others { (s parent x : ActionId) (versions : List PlainVersion)
         → x.0 ≢ s.0 → x.0 ≢ parent.0
         → version_of x (versions_inherited s parent versions) ≡ version_of x versions }
-{}
-
-/// What is left when several actions are discarded, one after another: what none of them takes with
-/// it.
-pub fn discards_in_turn()
-    ensures none { (tree : Tree) (readers : List ActionId)
-        → readers_left tree [] readers ≡ readers }
-    ensures no_more { (tree : Tree) (versions : List PlainVersion)
-        → versions_left tree [] versions ≡ versions }
-    ensures readers { (tree : Tree) (a : ActionId) (actions readers : List ActionId)
-        → readers_discarded tree a (readers_left tree actions readers)
-        ≡ readers_left tree (a ∷ actions) readers }
-    ensures versions { (tree : Tree) (a : ActionId) (actions : List ActionId)
-        (versions : List PlainVersion)
-        → versions_discarded tree a (versions_left tree actions versions)
-        ≡ versions_left tree (a ∷ actions) versions }
 {}

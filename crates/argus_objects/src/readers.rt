@@ -1,14 +1,13 @@
 //! `Readers`: the actions that hold read locks on an object.
 
 ghost use Rattle.std.specs.Prelude.{◌≡◌, ◌<◌, ◌≤◌, ◌+◌, ◌-◌, ◌∷◌, ◌++◌, [], true, false, length};
-ghost use Rattle.std.specs.Prelude.{take, drop};
-ghost use Rattle.std.specs.Prelude.{nat_lt, slice_index_or, vec_len, OnOk, IfOk, IfErr};
-ghost use Rattle.std.specs.List.{copy_within, list_all};
+ghost use Rattle.std.specs.Prelude.{take, drop, slice_index_or, vec_len, OnOk, IfOk, IfErr};
+ghost use Rattle.std.specs.List.{copy_within};
 ghost use Rattle.std.specs.Vec.{vec_capacity};
 ghost use Rattle.argus_actions.specs.declared.action_id.ActionId.{ActionId};
 ghost use Rattle.argus_objects.specs.Rules.{all_above, is_ascending};
 ghost use Rattle.argus_objects.specs.CellChanges.{is_reader, with_reader, without_reader};
-ghost use Rattle.argus_objects.specs.CellChanges.{readers_inherited, readers_discarded};
+ghost use Rattle.argus_objects.specs.CellChanges.{readers_inherited};
 ghost use Rattle.argus_objects.specs.Readers.{StandsAt, GoesTo};
 
 use argus_actions::{ActionId, ActionTree};
@@ -206,16 +205,6 @@ impl Readers {
             self.add(parent);
         }
     }
-
-    /// Takes out the readers that have `a` as an ancestor.
-    pub fn discard(&mut self, tree: &ActionTree, a: ActionId)
-        ensures items { self.new.items ≡ readers_discarded tree.now a self.old.items }
-        ensures room { self.old.room ≤ self.new.room }
-    {
-        move_down(&mut self.list, self.front);
-        self.front = 0;
-        self.list.retain(|x| !tree.is_ancestor(a, *x));
-    }
 }
 
 /// Whether all readers are ancestors of `a`. Each climb goes on where the last one ended, so all
@@ -238,41 +227,13 @@ pub(crate) fn all_readers_above(readers: &[ActionId], tree: &ActionTree, a: Acti
     true
 }
 
-// The place of `a` among the readers: those before it are older, and none behind it is.
-fn place_of(readers: &[ActionId], a: ActionId) -> usize
-    requires { is_ascending readers.now ≡ true }
-    ensures bound { result ≤ length readers.now }
-    ensures older { list_all (λ x. nat_lt x.0 a.0) (take result readers.now) ≡ true }
-    ensures newer { (next : ActionId) → result < length readers.now
-        → a.0 ≤ (slice_index_or readers.now result next).0 }
-{
-    let mut low = 0;
-    let mut high = readers.len();
-    while low < high {
-        let middle = low + (high - low) / 2;
-        if readers[middle].0 < a.0 {
-            low = middle + 1;
-        } else {
-            high = middle;
-        }
-    }
-    low
-}
-
 // Where `a` stands among the readers, or else where it would be put.
 fn find(readers: &[ActionId], a: ActionId) -> Result<usize, usize>
     requires { is_ascending readers.now ≡ true }
     ensures found { IfOk result (StandsAt a readers.now) }
     ensures missing { IfErr result (GoesTo a readers.now) }
 {
-    let place = place_of(readers, a);
-    if place == readers.len() {
-        return Err(place);
-    }
-    if readers[place].0 == a.0 {
-        return Ok(place);
-    }
-    Err(place)
+    readers.binary_search(&a)
 }
 
 #[inline(never)]
@@ -280,10 +241,7 @@ fn is_among(readers: &[ActionId], a: ActionId) -> bool
     requires { is_ascending readers.now ≡ true }
     ensures { result ≡ is_reader a readers.now }
 {
-    match find(readers, a) {
-        Ok(_) => true,
-        Err(_) => false,
-    }
+    find(readers, a).is_ok()
 }
 
 // Moves what is behind the first places to the beginning.

@@ -12,7 +12,7 @@ ghost use Rattle.argus_objects.specs.Rules.{all_above, are_related, are_up_to, i
 ghost use Rattle.argus_objects.specs.Rules.{is_chain, is_strictly_above};
 ghost use Rattle.argus_objects.specs.CellChanges.{version_inherited, version_of, with_version};
 ghost use Rattle.argus_objects.specs.CellChanges.{without_version};
-ghost use Rattle.argus_objects.specs.CellChanges.{versions_inherited, versions_discarded};
+ghost use Rattle.argus_objects.specs.CellChanges.{versions_inherited};
 
 use crate::version::Version;
 use argus_actions::{ActionId, ActionTree};
@@ -123,7 +123,7 @@ pub(crate) fn put_version(versions: &mut Vec<Version, Room>, a: ActionId, conten
     }
 }
 
-// Looks for the version of `t`, takes it out, and returns its content.
+// Looks for the version of `t` by halving, takes it out, and returns its content.
 fn remove_version(versions: &mut Vec<Version, Room>, t: ActionId) -> Option<Option<Content>>
     requires { is_ascending (writers versions.old.items) ≡ true }
     ensures content { option_map plain_option result
@@ -133,14 +133,10 @@ fn remove_version(versions: &mut Vec<Version, Room>, t: ActionId) -> Option<Opti
     ensures room { vec_capacity versions.old - vec_len versions.old
         ≤ vec_capacity versions.new - vec_len versions.new }
 {
-    let mut at = versions.len();
-    while at > 0 {
-        at -= 1;
-        if versions[at].holder.0 == t.0 {
-            return Some(versions.remove(at).content);
-        }
+    match versions.binary_search_by_key(&t.0, |version| version.holder.0) {
+        Ok(at) => Some(versions.remove(at).content),
+        Err(_) => None,
     }
-    None
 }
 
 /// Makes room for one more version, the first time for exactly one: most objects never have two
@@ -159,9 +155,12 @@ pub(crate) fn reserve_version(versions: &mut Vec<Version, Room>) -> Result<(), O
     Ok(())
 }
 
-// Takes the version of `t` out, and returns its content. It looks at the newest first.
+/// Takes the version of `t` out, and returns its content. It looks at the newest first.
 #[inline(always)]
-fn take_version(versions: &mut Vec<Version, Room>, t: ActionId) -> Option<Option<Content>>
+pub(crate) fn take_version(
+    versions: &mut Vec<Version, Room>,
+    t: ActionId,
+) -> Option<Option<Content>>
     requires { is_ascending (writers versions.old.items) ≡ true }
     ensures content { option_map plain_option result
         ≡ version_of t (versions_newest_first versions.old.items) }
@@ -265,13 +264,4 @@ pub(crate) fn inherit_version(versions: &mut Vec<Version, Room>, s: ActionId, pa
     } else {
         hand_over(versions, s, parent);
     }
-}
-
-pub(crate) fn discard_versions(versions: &mut Vec<Version, Room>, tree: &ActionTree, a: ActionId)
-    ensures versions { versions_newest_first versions.new.items ≡ versions_discarded tree.now a
-        (versions_newest_first versions.old.items) }
-    ensures room { vec_capacity versions.old - vec_len versions.old
-        ≤ vec_capacity versions.new - vec_len versions.new }
-{
-    versions.retain(|version| !tree.is_ancestor(a, version.holder));
 }

@@ -9,40 +9,16 @@ ghost use Rattle.argus_actions.specs.Rows.{has_ancestor, is_live_at, under_at};
 ghost use Rattle.argus_actions.specs.Tree.{is_ancestor, is_live_sibling, next};
 ghost use Rattle.argus_actions.specs.declared.action_id.ActionId.{ActionId};
 ghost use Rattle.argus_core.specs.Moving.{AreLawful};
-ghost use Rattle.argus_core.specs.Sweeping.{AreAllThere, AreCovered, AreEnded, AreSwept};
+ghost use Rattle.argus_core.specs.Sweeping.{AreAllThere, AreCovered, AreEnded};
 
 use crate::engine::atomic_object::AtomicObject;
-use crate::engine::moving::discard_all;
+use crate::engine::moving::release_all;
 use argus_actions::{ActionId, ActionTree, Status};
 use argus_objects::Holdings;
 
-/// Discards what `top` and all actions under it hold, in the objects on the lists of `a` and of the
-/// actions under `a`, and clears these lists.
-fn sweep_under(
-    objects: &mut [AtomicObject],
-    holdings: &mut Holdings,
-    tree: &ActionTree,
-    top: ActionId,
-    a: ActionId,
-)
-    requires linked { AreLinked tree.now.folded tree.now.rows }
-    requires held { tree.now.folded ≤ a.0 }
-    requires begun { a.0 < next tree.now }
-    requires lawful { AreLawful tree.now objects.old }
-    requires there { AreAllThere holdings.old (length objects.old) }
-    ensures { AreSwept tree.now top.0 (is_ancestor tree.now a.0)
-        objects.old objects.new holdings.old holdings.new }
-{
-    discard_all(objects, holdings.of(a), tree, top);
-    holdings.clear(a);
-    let mut sub = tree.newest_sub(a);
-    while let Some(below) = sub {
-        sweep_under(objects, holdings, tree, top, below);
-        sub = tree.older_sub(below);
-    }
-}
-
-/// Discards what an action and all actions under it hold, and clears their lists.
+/// Discards what an action and all actions under it hold, and clears their lists. Each list says
+/// where its action is among the holders. The newest actions go first, since a cell has its newest
+/// holders last.
 pub(crate) fn discard_under(
     objects: &mut [AtomicObject],
     holdings: &mut Holdings,
@@ -58,7 +34,13 @@ pub(crate) fn discard_under(
     ensures { AreEnded tree.now (is_ancestor tree.now a.0)
         objects.old objects.new holdings.old holdings.new }
 {
-    sweep_under(objects, holdings, tree, a, a);
+    let mut sub = tree.newest_sub(a);
+    while let Some(below) = sub {
+        discard_under(objects, holdings, tree, below);
+        sub = tree.older_sub(below);
+    }
+    release_all(objects, holdings.of(a), tree, a);
+    holdings.clear(a);
 }
 
 /// For a live action that was begun under this one: discards what its live siblings and all actions

@@ -4,7 +4,7 @@
 ghost use Rattle.std.specs.Prelude.{◌≡◌, ◌==◌, length};
 ghost use Rattle.std.specs.List.{IsDistinct};
 ghost use Rattle.argus_actions.specs.Refusals.{commit_refusal};
-ghost use Rattle.argus_actions.specs.Tree.{is_ancestor, parent_of};
+ghost use Rattle.argus_actions.specs.Tree.{parent_of};
 ghost use Rattle.std.specs.Prelude.{None, Some};
 ghost use Rattle.argus_core.specs.Moving.{AreChanged, AreLawful, AreThere};
 ghost use Rattle.argus_core.specs.Moving.{IsEnded, IsInherited, IsSettled};
@@ -55,21 +55,20 @@ pub(crate) fn settle_all(
     }
 }
 
-/// Discards what `top` and all actions under it hold, in each object on the list.
-pub(crate) fn discard_all(
+/// Discards what an action holds, in each object on the list.
+pub(crate) fn release_all(
     objects: &mut [AtomicObject],
     listed: &[ObjId],
     tree: &ActionTree,
-    top: ActionId,
+    a: ActionId,
 )
     requires lawful { AreLawful tree.now objects.old }
     requires there { AreThere listed.now (length objects.old) }
     requires once { IsDistinct (λ x y. x.0 == y.0) listed.now }
-    ensures { AreChanged (IsEnded tree.now (is_ancestor tree.now top.0))
-        listed.now objects.old objects.new }
+    ensures { AreChanged (IsEnded tree.now (λ x. x == a.0)) listed.now objects.old objects.new }
 {
     for o in listed {
         let object = &mut objects[o.0 as usize];
-        object.cell.discard(tree, top);
+        object.cell.release(tree, a);
     }
 }

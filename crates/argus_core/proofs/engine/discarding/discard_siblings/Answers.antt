@@ -3,10 +3,9 @@ use Rattle.std.proofs.Common.{ap, arith, eqb, length, not, subst, sym, ◌<◌, 
 use Rattle.std.proofs.lemmas.Bool.{and_from, and_left, and_right, eq-eqb, ne_eqb}
 use Rattle.argus_actions.specs.Rows.{is_live_at}
 use Rattle.argus_actions.specs.declared.action_id.ActionId.{ActionId}
-use Rattle.argus_core.proofs.Sweeps.{there_less}
-use Rattle.argus_core.proofs.SweepSiblings.{IsSwung, covered_more, ended_lawful, sibling_here, swing_end}
-use Rattle.argus_core.proofs.SweepSiblings.{first_left, swing_done, swing_fewer, swing_next, swing_pass, swing_start}
-use Rattle.argus_core.proofs.SweepSiblings.{swing_step}
+use Rattle.argus_core.proofs.Sweeps.{covered_more, ended_lawful, there_less}
+use Rattle.argus_core.proofs.SweepSiblings.{IsSwung, first_left, sibling_here, swing_done, swing_end, swing_fewer}
+use Rattle.argus_core.proofs.SweepSiblings.{swing_next, swing_pass, swing_start, swing_step}
 use Rattle.argus_core.proofs.engine.discarding.discard_siblings.Goals.{then-sibling-a+then-is_live, else-sibling-a}
 use Rattle.argus_core.proofs.engine.discarding.discard_siblings.Goals.{else-sibling-a-via-then-sibling-a+else-is_live}
 use Rattle.argus_core.proofs.engine.discarding.discard_siblings.Goals.{else-sibling-a-via-else-sibling-a}
