@@ -15,17 +15,22 @@ ghost use Rattle.argus_cli.specs.Ranges.{KeepsRanges};
 use argus_cli::{CliFault, NoOptions, Options, options, run, words_given};
 use argus_commands::FailStop;
 use argus_values::Heap;
-use std::alloc::Global;
-use std::io::{Read, Write};
 use std::process::ExitCode;
 use std::rt::Env;
-use std::sync::Wait;
-use std::thread::Threads;
 
 fn main(rt: HostRuntime) -> ExitCode {
-    match options_given(&rt) {
-        Ok(options) => run_script(&rt, rt.alloc(), rt.stdin(), rt.stdout(), options),
-        Err(refused) => ExitCode::from(refused.show(&rt)),
+    let options = match options_given(&rt) {
+        Ok(options) => options,
+        Err(refused) => return ExitCode::from(refused.show(&rt)),
+    };
+    let Ok(heap) = Heap::new(rt.alloc()) else {
+        return end_with_fault(&rt, CliFault::Memory);
+    };
+    let mut reader = FailStop::new(rt.stdin());
+    let mut writer = FailStop::new(rt.stdout());
+    match run(&rt, heap, &mut reader, &mut writer, options) {
+        Ok(()) => ExitCode::SUCCESS,
+        Err(fault) => end_with_fault(&rt, fault),
     }
 }
 
@@ -34,29 +39,6 @@ fn options_given(rt: &(impl Env + AllocGlobal)) -> Result<Options, NoOptions>
     ensures { IfOk result KeepsRanges }
 {
     options(rt.alloc(), words_given(rt)?)
-}
-
-// Runs the script that the reader has, and lists to the writer.
-fn run_script<
-    T: Threads + Wait + Eprint + Copy + Drop + Send + Sync,
-    R: Read + Drop,
-    W: Write + Drop,
->(rt: &T, alloc: Global, reader: R, writer: W, options: Options) -> ExitCode
-    requires { KeepsRanges options }
-{
-    let Ok(heap) = Heap::new(alloc) else {
-        return end_with_fault(rt, CliFault::Memory);
-    };
-    match run(
-        rt,
-        heap,
-        &mut FailStop::new(reader),
-        &mut FailStop::new(writer),
-        options,
-    ) {
-        Ok(()) => ExitCode::SUCCESS,
-        Err(fault) => end_with_fault(rt, fault),
-    }
 }
 
 // If standard error can't be written, only the status says so.

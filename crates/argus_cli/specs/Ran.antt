@@ -93,10 +93,3 @@ RunFailed options limit before after fault.Read =
     HasReaderFailed after × Unlisted limit before after
 RunFailed options limit before after fault.Write =
     HasWriterFailed after × CutShort options limit before after
-
--- why bytes weren't run to their end: the fault of their script, or out of memory
-abbrev pub IsRunFault : List ℕ → CliFault → Type 0
-IsRunFault bytes (fault.Script f) = IsFaultOf (lines_of bytes) f
-IsRunFault bytes fault.Memory = Unit {0}
-IsRunFault bytes fault.Read = ⊥
-IsRunFault bytes fault.Write = ⊥

@@ -1,26 +1,23 @@
 //! `run`: from the bytes of a script to the listing of the guardian on which it was run.
 
-ghost use Rattle.std.specs.Prelude.{IfErr, IfOk, OnOk, false, ◌+◌, ◌<◌, ◌≡◌};
-ghost use Rattle.argus_commands.specs.Script.{plain_script};
+ghost use Rattle.std.specs.Prelude.{IfErr, OnErr, OnOk, false, take, ℕ, ◌+◌, ◌≡◌};
+ghost use Rattle.std.specs.Io.KnownBytes.{Appends};
 ghost use Rattle.argus_commands.specs.language_declared.limits.TheConstants.{MAX_SCRIPT_BYTES};
-ghost use Rattle.argus_cli.specs.ByWorkers.{IsLeftByWorkers};
-ghost use Rattle.argus_cli.specs.Ran.{IsRunFault, Ran, RunFailed, RunsTo, checkpointed};
-ghost use Rattle.argus_cli.specs.Ran.{new_journal};
+ghost use Rattle.argus_cli.specs.Ran.{Ran, RunFailed, checkpointed};
 ghost use Rattle.argus_cli.specs.Streams.{streams};
-ghost use Rattle.argus_cli.specs.Ranges.{IsTeam, KeepsRanges};
-ghost use Rattle.argus_commands.specs.Played.{IsPlay};
-ghost use Rattle.argus_commands.specs.FailStop.{has_failed};
+ghost use Rattle.argus_cli.specs.Ranges.{KeepsRanges};
+ghost use Rattle.argus_cli.specs.Status.{IsListingFault};
+ghost use Rattle.argus_commands.specs.FailStop.{has_failed, inner_of};
+ghost use Rattle.argus_guardian.specs.Listing.{listing_of};
 
 use crate::cli_fault::CliFault;
 use crate::listing::list;
 use crate::run_options::Options;
 use crate::running_by_workers::run_by_workers;
 use argus_commands::limits::MAX_SCRIPT_BYTES;
-use argus_commands::{
-    FailStop, InputError, ParseError, Script, parse, read_up_to, run_without_output,
-};
+use argus_commands::{FailStop, InputError, ParseError, parse, read_up_to, run_without_output};
 use argus_guardian::{CheckpointError, Guardian};
-use argus_values::{Heap, OutOfMemory};
+use argus_values::{Heap, Name, OutOfMemory};
 use std::io::{Read, Write};
 use std::sync::Wait;
 use std::thread::Threads;
@@ -76,53 +73,40 @@ pub fn run<T: Threads + Wait + Copy + Drop + Send + Sync, R: Read + Drop, W: Wri
         Err(InputError::Read) => return Err(CliFault::Read),
         Err(InputError::OutOfMemory) => return Err(CliFault::Memory),
     };
-    match run_bytes(rt, heap, bytes.as_slice(), options) {
-        Ok((script, guardian)) => list(heap, &guardian, script.names(), options.listing, writer),
-        Err(fault) => Err(fault),
-    }
-}
-
-// The script that the bytes spell, and the guardian on which it was run.
-fn run_bytes<T: Threads + Wait + Copy + Drop + Send + Sync>(
-    rt: &T,
-    heap: Heap,
-    bytes: &[u8],
-    options: Options,
-) -> Result<(Script, Guardian), CliFault>
-    requires { KeepsRanges options }
-    ensures ran { IfOk result (λ r. RunsTo bytes.now options (plain_script r.0) r.1) }
-    ensures fault { IfErr result (IsRunFault bytes.now) }
-{
-    let script = match parse(heap, bytes) {
+    let script = match parse(heap, bytes.as_slice()) {
         Ok(script) => script,
         Err(ParseError::Fault(fault)) => return Err(CliFault::Script(fault)),
         Err(ParseError::Memory) => return Err(CliFault::Memory),
     };
-    let mut guardian = run_script(rt, heap, &script, options.workers, options.patience)?;
-    fold_if(options.checkpoint, &mut guardian)?;
-    Ok((script, guardian))
-}
-
-// A new guardian on which the script was run.
-fn run_script<T: Threads + Wait + Copy + Drop + Send + Sync>(
-    rt: &T,
-    heap: Heap,
-    script: &Script,
-    workers: u32,
-    patience: u32,
-) -> Result<Guardian, OutOfMemory>
-    requires { IsTeam workers }
-    ensures alone { IfOk result (λ guardian. workers ≡ 1
-        → IsPlay new_journal (plain_script script.now) guardian) }
-    ensures together { IfOk result (λ guardian. 1 < workers
-        → IsLeftByWorkers (plain_script script.now) guardian) }
-{
-    if workers > 1 {
-        return run_by_workers(rt, heap, script, workers, patience);
+    if options.workers > 1 {
+        let mut guardian = run_by_workers(rt, heap, &script, options.workers, options.patience)?;
+        return fold_and_list(heap, &mut guardian, script.names(), options, writer);
     }
     let mut guardian = Guardian::new(heap);
-    run_without_output(heap, &mut guardian, script)?;
-    Ok(guardian)
+    run_without_output(heap, &mut guardian, &script)?;
+    fold_and_list(heap, &mut guardian, script.names(), options, writer)
+}
+
+// Lists the guardian, after a checkpoint if one is asked for.
+fn fold_and_list<W: Write + Drop>(
+    heap: Heap,
+    guardian: &mut Guardian,
+    names: &[Name],
+    options: Options,
+    writer: &mut FailStop<W>,
+) -> Result<(), CliFault>
+    requires { has_failed writer.old ≡ false }
+    ensures written { OnOk result (Appends (W.contents (inner_of writer.old))
+        (W.contents (inner_of writer.new))
+        (listing_of options.listing names.now (checkpointed options.checkpoint guardian.old))) }
+    ensures fine { OnOk result (has_failed writer.new ≡ false) }
+    ensures cut { OnErr result ((n : ℕ) × Appends (W.contents (inner_of writer.old))
+        (W.contents (inner_of writer.new)) (take n
+        (listing_of options.listing names.now (checkpointed options.checkpoint guardian.old)))) }
+    ensures failed { IfErr result (λ e. IsListingFault e (has_failed writer.new)) }
+{
+    fold_if(options.checkpoint, guardian)?;
+    list(heap, guardian, names, options.listing, writer)
 }
 
 // Makes a checkpoint if one is asked for; if there can't be one, the guardian is unchanged.

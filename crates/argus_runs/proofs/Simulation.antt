@@ -14,8 +14,8 @@ use Rattle.argus_runs.specs.RunOutcome.{RunOutcome, finished, ◌>>=◌}
 use Rattle.argus_runs.specs.Replies.{begin_call, begun_by, flow_after, goes_on, is_over, object_number_at, object_of}
 use Rattle.argus_runs.specs.Replies.{test_call}
 use Rattle.argus_runs.specs.Running.{after_commit, after_others, begin_all, begin_arm, begin_one, commit_block}
-use Rattle.argus_runs.specs.Running.{finish, give_up, run_arms, run_arms_by_runner, run_deed, run_step, run_steps}
-use Rattle.argus_runs.specs.Running.{run_top, run_tops, then_on}
+use Rattle.argus_runs.specs.Running.{declare_next, finish, give_up, is_declaration, run_arms, run_arms_by_runner}
+use Rattle.argus_runs.specs.Running.{run_deed, run_step, run_steps, run_top, run_tops, then_on}
 use Rattle.argus_runs.specs.declared.flow.Flow.{Flow}
 use Rattle.argus_runs.specs.declared.flow.Flow.TheVariants as flow
 
@@ -218,17 +218,22 @@ module _ (S T : Type 0) (reply : Reply S) (told : Reply T)
     declare_related ns None s = stays ns s
     declare_related ns (Some shape) s = called (declare shape) s (λ r. ns ++ object_of r ∷ [])
 
+    by_declaration : (b : Bool) (shapes : List PlainShape) (ns : List ObjId) (p : PlainStep) (s : S)
+        → Related (List ObjId) s (elim b [
+          | true ↦ declare_next S reply hand shapes ns s
+          | false ↦ run_step S reply hand ns p None s >>= λ x t. finished ns t
+        ]) (λ u. elim b [
+          | true ↦ declare_next T told None shapes ns u
+          | false ↦ run_step T told None ns p None u >>= λ x t. finished ns t
+        ])
+    by_declaration true shapes ns p s = declare_related ns (slice_get shapes (length ns)) s
+    by_declaration false shapes ns p s = is.on Flow (List ObjId) s (run_step S reply hand ns p None s)
+        (run_step T told None ns p None) (λ x t. finished ns t) (λ x t. finished ns t) (part_related ns p None s)
+        (λ x t. stays ns t)
+
     pub top_related : (shapes : List PlainShape) (ns : List ObjId) (p : PlainStep) (s : S)
         → Related (List ObjId) s (run_top S reply hand shapes ns p s) (run_top T told None shapes ns p)
-    top_related shapes ns (simple part.declare) s = declare_related ns (slice_get shapes (length ns)) s
-    top_related shapes ns (simple (part.ask x q)) s = stays ns s
-    top_related shapes ns (simple (part.alter x c)) s = stays ns s
-    top_related shapes ns (simple part.leave) s = stays ns s
-    top_related shapes ns (simple part.abort_leave) s = stays ns s
-    top_related shapes ns (simple part.leave_all) s = stays ns s
-    top_related shapes ns (block o ps) s = is.on Flow (List ObjId) s (run_step S reply hand ns (block o ps) None s)
-        (run_step T told None ns (block o ps) None) (λ x t. finished ns t) (λ x t. finished ns t)
-        (part_related ns (block o ps) None s) (λ x t. stays ns t)
+    top_related shapes ns p s = by_declaration (is_declaration p) shapes ns p s
 
     pub tops_related : (shapes : List PlainShape) (ns : List ObjId) (ps : PlainSteps) (s : S)
         → Related (List ObjId) s (run_tops S reply hand shapes ns ps s) (run_tops T told None shapes ns ps)

@@ -1,11 +1,11 @@
 -- If a run stops before its end, its state is a prefix of what the run comes to.
-use Rattle.std.proofs.Common.{◌≡◌, ℕ, suc, Bool, true, ◌<◌, List, ◌∷◌, ◌++◌, length, get_or, drop, Option, None, Result}
+use Rattle.std.proofs.Common.{◌≡◌, ℕ, suc, Bool, false, true, ◌<◌, List, ◌∷◌, ◌++◌, length, get_or, drop, Option, None, Result}
 use Rattle.std.proofs.Common.{Some, Vec, rules}
 use Rattle.std.specs.declared.alloc.Global.{Global}
 use Rattle.argus_memory.specs.declared.limited.Limited.{Limited}
-use Rattle.std.proofs.Common.{Ok, Err, OnErr, sym, ◌∙◌, ap, drop-cons}
+use Rattle.std.proofs.Common.{Ok, Err, OnErr, refl, subst, sym, ◌∙◌, ap, drop-cons}
 use Rattle.argus_actions.specs.declared.action_id.ActionId.{ActionId}
-use Rattle.argus_language.specs.PlainStep.{PlainSteps, block, more, plain_step, plain_steps}
+use Rattle.argus_language.specs.PlainStep.{PlainStep, PlainSteps, block, more, plain_step, plain_steps}
 use Rattle.argus_language.specs.declared.action_kind.ActionKind.{ActionKind}
 use Rattle.argus_language.specs.declared.block_kind.BlockKind.TheVariants as opening
 use Rattle.argus_language.specs.declared.block_kind.BlockKind.{BlockKind}
@@ -15,9 +15,9 @@ use Rattle.argus_contents.specs.Shape.{PlainShape}
 use Rattle.argus_contents.specs.declared.obj_id.ObjId.{ObjId}
 use Rattle.argus_entries.specs.Call.{PlainCall}
 use Rattle.argus_entries.specs.Reply.{PlainReply}
-use Rattle.argus_runs.specs.RunOutcome.{RunOutcome, finished}
-use Rattle.argus_runs.specs.Running.{begin_all, begin_arm, begin_one, finish, run_arm, run_arms, run_step, run_steps}
-use Rattle.argus_runs.specs.Running.{run_top, run_tops, with_front}
+use Rattle.argus_runs.specs.RunOutcome.{RunOutcome, finished, ◌>>=◌}
+use Rattle.argus_runs.specs.Running.{begin_all, begin_arm, begin_one, declare_next, finish, is_declaration}
+use Rattle.argus_runs.specs.Running.{run_arm, run_arms, run_step, run_steps, run_top, run_tops, with_front}
 use Rattle.argus_runs.specs.RunPrefix.{IsRunPrefix}
 use Rattle.argus_runs.proofs.Growth.{ExtendingCalls, arms_grow, begin_on, begin_on_grows, finish_grows, go_on}
 use Rattle.argus_runs.proofs.Growth.{go_on_grows, parts_grow, tops_grow, within_then}
@@ -37,6 +37,16 @@ plain-block o v = search (rules, S.the_lemmas)
 pub is_block : (x : Step) (o k : BlockKind) (v : Vec Step (Limited Global)) → x ≡ S.Block o v → o ≡ k
     → plain_step x ≡ block k (plain_steps v.items)
 is_block x o k v e d = ap plain_step e ∙ plain-block o v ∙ ap (λ h. block h (plain_steps v.items)) d
+
+-- a step at top level is a declaration, or a step of no action
+module _ (S : Type 0) (reply : PlainCall → S → RunOutcome S PlainReply) (arm_runner : ArmRunner S) where
+  pub declared : (shapes : List PlainShape) (ns : List ObjId) (p : PlainStep) (s : S) → is_declaration p ≡ true
+      → run_top S reply arm_runner shapes ns p s ≡ declare_next S reply arm_runner shapes ns s
+  declared shapes ns p s d = rw (run_top, d) refl
+
+  pub stepped : (shapes : List PlainShape) (ns : List ObjId) (p : PlainStep) (s : S) → is_declaration p ≡ false
+      → run_top S reply arm_runner shapes ns p s ≡ (run_step S reply arm_runner ns p None s >>= λ x t. finished ns t)
+  stepped shapes ns p s d = rw (run_top, d) refl
 
 module _ (S : Type 0) (is_prefix : S → S → Type 0) (reply : PlainCall → S → RunOutcome S PlainReply)
     (arm_runner : ArmRunner S)
@@ -85,6 +95,20 @@ module _ (S : Type 0) (is_prefix : S → S → Type 0) (reply : PlainCall → S 
   arm_early ns k ps a s u q = within_then S is_prefix reply arm_runner l u
       (run_steps S reply arm_runner ns ps (Some a) s) (finish S reply arm_runner a) q
       (finish_grows S is_prefix reply arm_runner l a)
+
+  pub declaration_early : (shapes : List PlainShape) (ns : List ObjId) (p : PlainStep) (u t : S)
+      → is_declaration p ≡ true → IsRunPrefix is_prefix t (declare_next S reply arm_runner shapes ns u)
+      → IsRunPrefix is_prefix t (run_top S reply arm_runner shapes ns p u)
+  declaration_early shapes ns p u t d q =
+      subst (λ m. IsRunPrefix is_prefix t m) (sym (declared S reply arm_runner shapes ns p u d)) q
+
+  pub top_early : (shapes : List PlainShape) (ns : List ObjId) (p : PlainStep) (u t : S)
+      → is_declaration p ≡ false → IsRunPrefix is_prefix t (run_step S reply arm_runner ns p None u)
+      → IsRunPrefix is_prefix t (run_top S reply arm_runner shapes ns p u)
+  top_early shapes ns p u t d q =
+      subst (λ m. IsRunPrefix is_prefix t m) (sym (stepped S reply arm_runner shapes ns p u d))
+      (within_then S is_prefix reply arm_runner l t (run_step S reply arm_runner ns p None u) (λ x v. finished ns v) q
+      (λ x v. l.same v))
 
   pub tops_early : (shapes : List PlainShape) (ns : List ObjId) (steps : List Step) (i : ℕ) (x : Step) (m : RunOutcome S
       (List ObjId)) (u t : S)

@@ -1,5 +1,5 @@
 -- The run of a script: which call comes next, after the replies so far.
-use Rattle.std.specs.Prelude.{List, None, Option, Some, false, length, slice_get, true}
+use Rattle.std.specs.Prelude.{Bool, List, None, Option, Some, false, length, slice_get, true}
 use Rattle.std.specs.Prelude.{[], ◌++◌, ◌∷◌}
 use Rattle.argus_actions.specs.declared.action_id.ActionId.{ActionId}
 use Rattle.argus_language.specs.PlainStep.{SimpleStep, PlainStep, PlainSteps, block, simple, more}
@@ -20,6 +20,16 @@ use Rattle.argus_runs.specs.Replies.{object_number_at}
 use Rattle.argus_runs.specs.Replies.{object_of, test_call}
 use Rattle.argus_runs.specs.declared.flow.Flow.{Flow}
 use Rattle.argus_runs.specs.declared.flow.Flow.TheVariants as flow
+
+-- whether the step declares an object
+abbrev pub is_declaration : PlainStep → Bool
+is_declaration (simple part.declare) = true
+is_declaration (simple (part.ask x q)) = false
+is_declaration (simple (part.alter x c)) = false
+is_declaration (simple part.leave) = false
+is_declaration (simple part.abort_leave) = false
+is_declaration (simple part.leave_all) = false
+is_declaration (block o ps) = false
 
 -- Parametrised by a state, by what a call comes to in it, and by how the arms of a coenter are run,
 -- if not one after another.
@@ -164,16 +174,13 @@ module _ (S : Type 0) (reply : PlainCall → S → RunOutcome S PlainReply)
     | Some shape ↦ reply (declare shape) s >>= λ r t. finished (numbers ++ object_of r ∷ []) t
   ]
 
-  -- a step at top level; its answer is the numbers that the names stand for so far
+  -- A step at top level: a declaration is made, and any other step is run as one of no action. Its
+  -- answer is the numbers that the names stand for so far.
   abbrev pub run_top : List PlainShape → List ObjId → PlainStep → S → RunOutcome S (List ObjId)
-  run_top shapes numbers (simple part.declare) s = declare_next shapes numbers s
-  run_top shapes numbers (simple (part.ask x q)) s = finished numbers s
-  run_top shapes numbers (simple (part.alter x c)) s = finished numbers s
-  run_top shapes numbers (simple part.leave) s = finished numbers s
-  run_top shapes numbers (simple part.abort_leave) s = finished numbers s
-  run_top shapes numbers (simple part.leave_all) s = finished numbers s
-  run_top shapes numbers (block o ps) s =
-      run_step numbers (block o ps) None s >>= λ x t. finished numbers t
+  run_top shapes numbers p s = elim (is_declaration p) [
+    | true ↦ declare_next shapes numbers s
+    | false ↦ run_step numbers p None s >>= λ x t. finished numbers t
+  ]
 
   -- the steps at top level
   abbrev pub run_tops : List PlainShape → List ObjId → PlainSteps → S → RunOutcome S (List ObjId)

@@ -1,9 +1,10 @@
 //! The run of a whole script.
 
+ghost use Rattle.std.specs.Prelude.{◌≡◌};
 ghost use Rattle.argus_language.specs.PlainStep.{plain_step};
 ghost use Rattle.argus_language.specs.Script.{plain_script};
 ghost use Rattle.argus_runs.specs.RunOutcome.{Finishes};
-ghost use Rattle.argus_runs.specs.Running.{declare_next, run_script, run_top};
+ghost use Rattle.argus_runs.specs.Running.{declare_next, is_declaration, run_script};
 ghost use Rattle.argus_runs.specs.RunPrefix.{StopsEarly};
 
 use crate::caller::Caller;
@@ -38,37 +39,27 @@ pub fn run_script<C: Caller>(
 {
     let mut numbers = Vec::new(heap.room());
     for step in script.steps() {
-        run_at_top(heap, caller, script.shapes(), &mut numbers, step)?;
+        if is_declaration(step) {
+            declare(heap, caller, script.shapes(), &mut numbers)?;
+        } else {
+            run_step(heap, caller, numbers.as_slice(), step, None)?;
+        }
     }
     Ok(numbers)
 }
 
-fn run_at_top<C: Caller>(
-    heap: Heap,
-    caller: &mut C,
-    shapes: &[Shape],
-    numbers: &mut Vec<ObjId, Room>,
-    step: &Step,
-) -> Result<(), Stopped>
-    requires ready { C.ready caller.old }
-    ensures ready { C.ready caller.new }
-    ensures kept { C.preserved caller.old caller.new }
-    ensures told { Finishes C.is_determined result (λ _. numbers.new.items)
-        (run_top C.State C.reply C.arm_runner shapes.now numbers.old.items (plain_step step.now)
-        (C.state caller.old)) (C.state caller.new) }
-    ensures early { StopsEarly C.is_determined C.calls_extend C.is_prefix result
-        (run_top C.State C.reply C.arm_runner shapes.now numbers.old.items (plain_step step.now)
-        (C.state caller.old)) (C.state caller.new) }
+// Whether the step declares an object.
+fn is_declaration(step: &Step) -> bool
+    ensures { result ≡ is_declaration (plain_step step.now) }
 {
     match step {
-        Step::Declare => declare(heap, caller, shapes, numbers),
-        Step::Block(_, _) => {
-            run_step(heap, caller, numbers.as_slice(), step, None)?;
-            Ok(())
-        }
-        Step::Ask(_, _) | Step::Alter(_, _) | Step::Leave | Step::AbortLeave | Step::LeaveAll => Ok(
-            (),
-        ),
+        Step::Declare => true,
+        Step::Ask(_, _)
+        | Step::Alter(_, _)
+        | Step::Leave
+        | Step::AbortLeave
+        | Step::LeaveAll
+        | Step::Block(_, _) => false,
     }
 }
 
