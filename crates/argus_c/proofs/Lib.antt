@@ -1,4 +1,4 @@
-pub mod AsBox
-pub mod AsReadyBox
-pub mod AsParsedBox
+pub mod Steps
+pub mod Boxes
+pub mod Entering
 pub mod Crossing

@@ -151,12 +151,12 @@ pub extern "C" fn argus_c_call(
         first,
         second,
     };
-    let (status, told) = match guardian.call(&request, text) {
+    let (status, value) = match guardian.call(&request, text) {
         Ok(outcome) => outcome.codes(),
         Err(error) => error.codes(),
     };
     *slot = Slot::opened(guardian);
-    *number = told;
+    *number = value;
     status
 }
 
@@ -223,12 +223,12 @@ pub extern "C" fn argus_c_tell(
     let Some(mut guardian) = slot.take(alloc) else {
         return NOT_OPEN;
     };
-    let (status, told) = match guardian.answer_question(question) {
+    let (status, value) = match guardian.answer_question(question) {
         Ok(outcome) => outcome.codes(),
         Err(error) => error.codes(),
     };
     *slot = Slot::opened(guardian);
-    *number = told;
+    *number = value;
     status
 }
 
@@ -321,10 +321,10 @@ pub extern "C" fn argus_c_resume(
     };
     let taken = guardian.resume(text);
     *slot = Slot::opened(guardian);
-    let (status, told) = taken.end.codes();
+    let (status, value) = taken.end.codes();
     *bytes = taken.bytes;
     *lines = taken.lines;
-    *number = told;
+    *number = value;
     status
 }
 
@@ -380,9 +380,9 @@ pub extern "C" fn argus_c_lines(
     let Some(guardian) = slot.take(alloc) else {
         return NOT_OPEN;
     };
-    let told = guardian.lines(from, room);
+    let lines = guardian.lines(from, room);
     *slot = Slot::opened(guardian);
-    match told {
+    match lines {
         Ok(lines) => {
             *size = lines.size;
             *count = lines.count;
@@ -424,9 +424,9 @@ pub extern "C" fn argus_c_reply(
     let Some(guardian) = slot.take(alloc) else {
         return NOT_OPEN;
     };
-    let told = guardian.reply(room);
+    let needed = guardian.reply(room);
     *slot = Slot::opened(guardian);
-    match told {
+    match needed {
         Ok(Some(needed)) => {
             *size = needed;
             if needed <= room.len() {

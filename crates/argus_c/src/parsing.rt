@@ -69,8 +69,8 @@ pub extern "C" fn argus_c_parse(
     let call = match read {
         Ok(call) => call,
         Err(error) => {
-            let (status, told) = error.codes();
-            *number = told;
+            let (status, value) = error.codes();
+            *number = value;
             return status;
         }
     };
@@ -119,12 +119,12 @@ pub extern "C" fn argus_c_call_parsed(
         *slot = Slot::opened(guardian);
         return NOT_THERE;
     };
-    let (status, told) = match guardian.call_parsed(Box::into_inner(call)) {
+    let (status, value) = match guardian.call_parsed(Box::into_inner(call)) {
         Ok(outcome) => outcome.codes(),
         Err(_) => (NO_MEMORY, 0),
     };
     *slot = Slot::opened(guardian);
-    *number = told;
+    *number = value;
     status
 }
 

@@ -72,9 +72,9 @@ pub extern "C" fn argus_c_ready_line(
     let Some(commit) = ready.take(alloc) else {
         return NOT_OPEN;
     };
-    let told = commit.line(room);
+    let needed = commit.line(room);
     *ready = ReadySlot::filled(commit);
-    match told {
+    match needed {
         Ok(needed) => {
             *size = needed;
             if needed <= room.len() {
@@ -112,9 +112,9 @@ pub extern "C" fn argus_c_make_ready(
         return OCCUPIED;
     }
     let (guardian, outcome) = Box::into_inner(commit).make();
-    let (status, told) = outcome.codes();
+    let (status, value) = outcome.codes();
     *slot = Slot::opened(guardian);
-    *number = told;
+    *number = value;
     status
 }
 

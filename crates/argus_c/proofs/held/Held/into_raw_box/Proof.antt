@@ -1,85 +1,46 @@
 -- `into_raw_box` moves two fields, and what they own goes with them.
-use mathlib.Core.Path.{refl, sym, subst}
-use mathlib.Core.List.{List, [], ◌∷◌, ◌++◌}
-use seplogic.Ra.Ura.{Ura}
-use mir.Val.{Val}
-use base.Logic.{SProp, ent, id⊢}
-use base.Fml.{ftrue, fsep}
-use prog.Memory.{Memory}
-use prog.Routine.{Routine}
-use prog.Wp.{WpFn, Tables}
-use types.Logic.{Logic}
-use contract.Monad.{Fun}
-use contract.Running.{tables, tables_of}
-use sound.WpLaws.{WpFn-mono}
-use types.Kit.{Item, ‵, raw, ◌⊛◌, ◌$◌, ◌∵◌, !, qed, by, move, drop, use1, join, split, rewrite, fsplit, fjoin, suffices}
-use types.Kit.{done}
-use types.Part.{whole, sub, agg}
-use types.Run.{stop, fld, no_more, and_then, of_opd, returns, enter}
-use types.ByLocal.{alloc_all, pass_all, free_all, look_at, get, get_in, sets}
-use Rattle.std.specs.Prelude.{IsSome, Option}
-use Rattle.argus_c.proofs.AsBox.{E, FromSeal as From, some_of}
-use contract.Monad.{fact}
-use denote.RattleType.{RattleType}
-use denote.Exit.{yes}
-use denote.Signature.{type_at}
-use denote.Steps.{nothing, heard}
-use denote.Triple.Spec.{triple_of}
-use denote.Triple.Table.{entered}
-use denote.Triple.Walked.{says, Stays, stay_dropped, walk_of, ends_at, Goes-dropped, walk_Meets}
-use Rattle.std_alloc.proofs.BoxSteps.Form.{B, D, box_typed, word}
-use Rattle.std_alloc.proofs.BoxSteps.Steps.{box_in, box_out}
+use Rattle.argus_c.proofs.Boxes.{some_of, guardian_box as E}
+use Rattle.argus_c.proofs.Entering.{at_word}
+use Rattle.argus_c.proofs.Steps.{ !, B, D, Goes-dropped, IsSome, Option, Slot, Stays, [], agg, alloc_all, and_then, box_typed}
+use Rattle.argus_c.proofs.Steps.{by, done, drop, ends_at, enter, fact, fjoin, fld, free_all, fsep, fsplit, ftrue, get, get_in}
+use Rattle.argus_c.proofs.Steps.{heard, id⊢, join, look_at, move, no_more, nothing, of_opd, pass_all, plain, proved_at, qed}
+use Rattle.argus_c.proofs.Steps.{raw, refl, returns, rewrite, says, sets, split, stay_dropped, stop, sub, suffices, sym}
+use Rattle.argus_c.proofs.Steps.{tables, type_at, use1, walk_of, whole, word, yes, ‵, ◌$◌, ◌∵◌, ◌∷◌, ◌⊛◌}
 use Rattle.argus_c.specs.contracts.held.Held as C
 use Rattle.argus_c.specs.contracts.held.Held.into_raw_box as F
-use Rattle.argus_c.specs.contracts.held.Held.into_raw_box.Key.{name as #self}
-use Rattle.argus_c.proofs.held.Held.into_raw_box.Statement as stated
+use Rattle.argus_c.proofs.held.Held.into_raw_box.Statement.{statement}
 use Rattle.argus_c.proofs.held.Held.into_raw_box.Code as code
 
-abbrev stayed : Stays (F.ended).signature.params (F.ended).kept
+abbrev From : Slot 0
+From = plain (λ _. C.the_row)
+
+abbrev stayed : Stays F.ended.signature.params F.ended.kept
 stayed = (stay_dropped From yes, tt)
 
-module _ {M : Type 1} {𝓤 : Ura M} (𝓛 : Logic 𝓤) (at_mem : Memory → SProp 𝓤) (run : Routine → Fun 𝓤)
-    (𝓣 : Tables 𝓤 𝓛.H) where
-  open 𝓛 use {H}
-
-  walk : (z : (walk_of 𝓛 F.ended stayed (F.clauses 𝓛 at_mem run)).Ghost)
-      → ent 𝓤 ((walk_of 𝓛 F.ended stayed (F.clauses 𝓛 at_mem run)).pre z) (WpFn 𝓤 H 𝓣.C 𝓣.Λ code.function
-      (z.0.4.0 ++ []) ((walk_of 𝓛 F.ended stayed (F.clauses 𝓛 at_mem run)).post z))
-  walk z =
-      let Post = (walk_of 𝓛 F.ended stayed (F.clauses 𝓛 at_mem run)).post z in
-      let held = z.0.3.0 in
-      let To = type_at (F.signature).result tt in
-      let R : RattleType = C.the_row in
-      qed 𝓛 ((‵ ftrue ⊛ ‵ (fsep (R.own_val held z.0.4.0) ftrue)) ∷ raw (fact 𝓤 (IsSome held.store)) ∷ []) ∵ move !
-      (1 ∷ []) $ heard ! (IsSome held.store) (λ is.
-      let found = some_of held.store is in
-      let v : D E = record { ptr = held.at; alloc = held.alloc; value = found.0 } in
-      let made : To.Denot = record { ptr = v.ptr; alloc = v.alloc; value = v.value } in
-      split ! $ drop ! $ fsplit ! $ rewrite ! 0 (λ (s : Option E.row.Denot). ‵ (R.own_val
-      (record { at = held.at; alloc = held.alloc; store = s }) z.0.4.0)) found.1 refl $
-      use1 𝓛 (‵ ((B E).own_val v z.0.4.0)) (id⊢ 𝓤 _) $
-      box_out E ! v z.0.4.0 (λ b o hv e ws fa. box_in E ! v b o v.value e refl $
-      use1 𝓛 (‵ (To.own_val made (word E hv b o ∷ []))) (id⊢ 𝓤 _) $ move ! (1 ∷ 2 ∷ []) $ drop ! $ drop ! $
-      let w = word E hv b o in
-      let Γ : List (Item 𝓤) = ‵ (To.own_val made (w ∷ [])) ∷ [] in
-      by ! (subst (λ (us : List Val). ent 𝓤 (types.Kit.⋆ 𝓛 Γ) (WpFn 𝓤 H 𝓣.C 𝓣.Λ code.function (us ++ []) Post)) (sym ws)
-      (qed 𝓛 Γ ∵ enter ! 𝓣.C 𝓣.Λ code.function (w ∷ []) _ $
-      alloc_all ! (λ ls. pass_all ! refl (box_typed E hv b o fa, tt) $
-      sets ! (of_opd ! (get_in ! (fld ! refl (stop !)) (sub ! 0 refl (whole !)))) refl (tt, tt) $
-      sets ! (of_opd ! (get_in ! (fld ! refl (stop !)) (sub ! 1 refl (whole !)))) refl fa $
-      sets ! (of_opd ! (get ! refl)) refl (tt, tt) $
-      sets ! (agg ! (and_then ! (get ! refl) (and_then ! (get ! refl) (no_more !)))) refl
-      (box_typed E hv b o fa) $ returns ! (look_at ! 0 refl) $ free_all ! refl $
-      suffices ! _ (ends_at 𝓛 F.ended stayed (F.clauses 𝓛 at_mem run) z w made (tt, tt) (tt, tt)) $
-      says ! (sym found.1) $
-      nothing ! $ nothing ! $ fjoin ! $ join ! $ nothing ! $ join ! $ done !)))))
-
-pub into_raw_box_spec : {M : Type 1} → stated.statement M
-unfolding tables_of
+pub into_raw_box_spec : {M : Type 1} → statement M
 into_raw_box_spec 𝓤 𝓛 𝓜 𝓡 wired =
-    let 𝓣 : Tables 𝓤 𝓛.H = tables_of 𝓤 𝓛.H 𝓜 (tables 𝓤 𝓛.H 𝓜 𝓡 𝓡.env) in
-    entered 𝓤 𝓛.H (triple_of 𝓛 F.signature (F.spec 𝓛 𝓜.mem 𝓡.returns)) 𝓣.C 𝓣.Λ #self code.function
-    (code.unfolded 𝓤 𝓛.H 𝓜 𝓡 wired)
-    (walk_Meets 𝓛 F.ended stayed (Goes-dropped 𝓛 0 From yes (λ κs x f. refl), tt) (F.clauses 𝓛 𝓜.mem 𝓡.returns)
-    (WpFn 𝓤 𝓛.H 𝓣.C 𝓣.Λ code.function) (WpFn-mono 𝓤 𝓛.H 𝓛.laws 𝓣 code.function)
-    (walk 𝓛 𝓜.mem 𝓡.returns 𝓣))
+    let c = F.clauses 𝓛 𝓜.mem 𝓡.returns in let 𝓣 = tables 𝓤 𝓛.H 𝓜 𝓡 𝓡.env in
+    proved_at 𝓛 F.ended stayed c 𝓜 𝓡 (Goes-dropped 𝓛 0 From yes (λ κs x f. refl), tt) F.Key.name code.function
+    (code.unfolded 𝓤 𝓛.H 𝓜 𝓡 wired) (λ z are.
+    let held = z.0.3.0 in
+    let To = type_at F.signature.result tt in
+    qed 𝓛 ((‵ ftrue ⊛ ‵ (fsep (C.the_row.own_val held z.0.4.0) ftrue)) ∷ raw (fact 𝓤 (IsSome held.store)) ∷ []) ∵
+    move ! (1 ∷ []) $ heard ! (IsSome held.store) (λ is.
+    let found = some_of held.store is in
+    let v : D E = record { ptr = held.at; alloc = held.alloc; value = found.0 } in
+    let made : To.Denot = record { ptr = v.ptr; alloc = v.alloc; value = v.value } in
+    split ! $ drop ! $ fsplit ! $ move ! (1 ∷ 2 ∷ []) $ drop ! $ drop ! $
+    rewrite ! 0 (λ (s : Option E.row.Denot). ‵ (C.the_row.own_val
+    (record { at = held.at; alloc = held.alloc; store = s }) z.0.4.0)) found.1 refl $
+    use1 𝓛 (‵ ((B E).own_val v z.0.4.0)) (id⊢ 𝓤 _) $
+    by ! (at_word 𝓛 𝓣.C 𝓣.Λ E v z.0.4.0 code.function ((walk_of 𝓛 F.ended stayed c).post z) (λ b o h fits.
+    let w = word E h b o in
+    qed 𝓛 (‵ ((B E).own_val v (w ∷ [])) ∷ []) ∵ use1 𝓛 (‵ (To.own_val made (w ∷ []))) (id⊢ 𝓤 _) $
+    enter ! 𝓣.C 𝓣.Λ code.function (w ∷ []) _ $ alloc_all ! (λ ls. pass_all ! refl (box_typed E h b o fits, tt) $
+    sets ! (of_opd ! (get_in ! (fld ! refl (stop !)) (sub ! 0 refl (whole !)))) refl (tt, tt) $
+    sets ! (of_opd ! (get_in ! (fld ! refl (stop !)) (sub ! 1 refl (whole !)))) refl fits $
+    sets ! (of_opd ! (get ! refl)) refl (tt, tt) $
+    sets ! (agg ! (and_then ! (get ! refl) (and_then ! (get ! refl) (no_more !)))) refl (box_typed E h b o fits) $
+    returns ! (look_at ! 0 refl) $ free_all ! refl $
+    suffices ! _ (ends_at 𝓛 F.ended stayed c z w made (tt, tt) (tt, tt)) $ says ! (sym found.1) $
+    nothing ! $ nothing ! $ fjoin ! $ join ! $ nothing ! $ join ! $ done !)))))

@@ -1,90 +1,47 @@
 -- `none` makes a closed handle, which owns nothing.
-use mathlib.Core.Path.{refl, sym, subst}
-use mathlib.Core.List.{List, [], ◌∷◌, ◌++◌}
-use lib.Dec.{lit<}
-use seplogic.Ra.Ura.{Ura}
-use mir.Val.{Val, vstruct, of_list, has_ty}
-use base.Logic.{SProp, ent, emp, id⊢}
-use base.Fml.{ftrue, fsep}
-use prog.Memory.{Memory}
-use prog.Routine.{Routine}
-use prog.Wp.{WpFn, Tables}
-use types.Logic.{Logic}
-use contract.Monad.{Fun}
-use contract.Running.{tables, tables_of}
-use sound.WpLaws.{WpFn-mono}
-use types.Kit.{Item, ‵, raw, ◌⊛◌, ◌$◌, ◌∵◌, !, qed, by, move, drop, use1, join, split, fsplit, fjoin, feq_i, fpack}
-use types.Kit.{suffices, done}
-use types.Part.{agg}
-use types.Run.{lit, no_more, and_then, returns, enter}
-use types.ByLocal.{alloc_all, pass_all, free_all, look_at, get, sets}
-use denote.RawPtr.{RawPtr, null_ptr, ptr_val}
-use denote.RattleType.{Valss}
-use denote.Struct.Struct.{within}
-use denote.Struct.Owning.{shape}
-use Rattle.std.specs.Prelude.{None}
-use denote.Exit.{yes}
-use denote.Signature.{Slot, type_at, plain}
-use denote.Steps.{nothing}
-use denote.Triple.Spec.{triple_of}
-use denote.Triple.Table.{entered}
-use denote.Triple.Walked.{says, Stays, stay_dropped, walk_of, ends_at, Goes-dropped, walk_Meets}
-use Rattle.core.proofs.alloc.Calls.{handle_tells, α}
-use Rattle.std_alloc.proofs.ResultValues.{and_tt}
-use Rattle.std_alloc.proofs.BoxSteps.Form.{P, owning}
-use Rattle.std_heap.specs.contracts.Global as Heap
-use Rattle.argus_c.proofs.AsParsedBox.{E}
+use Rattle.argus_c.proofs.Boxes.{parsed_box as E}
+use Rattle.argus_c.proofs.Steps.{ !, Goes-dropped, Item, List, None, P, RawPtr, Slot, Stays, Val, Valss, WpFn, [], agg}
+use Rattle.argus_c.proofs.Steps.{alloc_all, and_then, and_tt, by, done, drop, emp, ends_at, ent, enter, feq_i, fjoin, fpack}
+use Rattle.argus_c.proofs.Steps.{free_all, fsep, fsplit, ftrue, get, handle_tells, has_ty, id⊢, join, lit, lit<, look_at, move}
+use Rattle.argus_c.proofs.Steps.{no_more, nothing, null_ptr, of_list, owning, pass_all, plain, proved_at, ptr_val, qed, raw}
+use Rattle.argus_c.proofs.Steps.{refl, returns, says, sets, shape, split, stay_dropped, subst, suffices, sym, tables, type_at}
+use Rattle.argus_c.proofs.Steps.{use1, vstruct, walk_of, within, yes, α, ‵, ◌$◌, ◌++◌, ◌∵◌, ◌∷◌, ◌⊛◌}
 use Rattle.argus_c.specs.contracts.held_parsed.HeldParsed.none as F
-use Rattle.argus_c.specs.contracts.held_parsed.HeldParsed.none.Key.{name as #self}
-use Rattle.argus_c.proofs.held_parsed.HeldParsed.none.Statement as stated
+use Rattle.argus_c.proofs.held_parsed.HeldParsed.none.Statement.{statement}
 use Rattle.argus_c.proofs.held_parsed.HeldParsed.none.Code as code
 
 abbrev From : Slot 0
-From = plain (λ _. Heap.the_row)
+From = plain (λ _. E.al.row)
 
-abbrev stayed : Stays (F.ended).signature.params (F.ended).kept
+abbrev stayed : Stays F.ended.signature.params F.ended.kept
 stayed = (stay_dropped From yes, tt)
 
-module _ {M : Type 1} {𝓤 : Ura M} (𝓛 : Logic 𝓤) (at_mem : Memory → SProp 𝓤) (run : Routine
-    → Fun 𝓤) (𝓣 : Tables 𝓤 𝓛.H) where
-  open 𝓛 use {H}
-
-  walk : (z : (walk_of 𝓛 F.ended stayed (F.clauses 𝓛 at_mem run)).Ghost)
-      → ent 𝓤 ((walk_of 𝓛 F.ended stayed (F.clauses 𝓛 at_mem run)).pre z) (WpFn 𝓤 H 𝓣.C 𝓣.Λ code.function
-      (z.0.4.0 ++ []) ((walk_of 𝓛 F.ended stayed (F.clauses 𝓛 at_mem run)).post z))
-  walk z =
-      let Post = (walk_of 𝓛 F.ended stayed (F.clauses 𝓛 at_mem run)).post z in
-      let a = z.0.3.0 in
-      let To = type_at (F.signature).result tt in
-      let made : To.Denot = record { at = null_ptr; alloc = a; store = None } in
-      qed 𝓛 ((‵ ftrue ⊛ ‵ (fsep (Heap.the_row.own_val a z.0.4.0) ftrue)) ∷ raw (emp 𝓤) ∷ []) ∵ split ! $ drop ! $
-      fsplit ! $
-      handle_tells E.al ! a z.0.4.0 (λ h eh fits. move ! (1 ∷ 2 ∷ []) $ drop ! $ drop ! $
-      let w : Val = vstruct (of_list (ptr_val null_ptr ∷ h ∷ [])) in
-      let Γ : List (Item 𝓤) = ‵ (Heap.the_row.own_val a (h ∷ [])) ∷ [] in
-      by ! (subst (λ (us : List Val). ent 𝓤 (types.Kit.⋆ 𝓛 Γ) (WpFn 𝓤 H 𝓣.C 𝓣.Λ code.function (us ++ []) Post)) (sym eh)
-      (qed 𝓛 Γ ∵ enter ! 𝓣.C 𝓣.Λ code.function (h ∷ []) _ $ alloc_all ! (λ ls. pass_all ! refl (fits, tt) $
-      sets ! (agg ! (and_then ! (lit ! tt) (and_then ! (get ! refl) (no_more !)))) refl (
-        and_tt (has_ty
-            (α E.al) h) fits.0,
-        (record { fits = lit< tt }, (fits.1, tt)),
-      ) $
-      nothing ! $ nothing ! $ move ! (2 ∷ 0 ∷ []) $ fjoin ! $
-      feq_i ! (List Val) (ptr_val null_ptr ∷ []) (ptr_val null_ptr ∷ []) refl $ fjoin ! $
-      feq_i ! (List Val) (w ∷ []) (w ∷ []) refl $ fjoin ! $
-      fpack ! (Valss (RawPtr ∷ P E ∷ [])) (within (shape (owning E)) (null_ptr, (a, tt)) (w ∷ []))
-      (ptr_val null_ptr ∷ [], (h ∷ [], tt)) $ fjoin ! $
-      use1 𝓛 (‵ (To.own_val made (w ∷ []))) (id⊢ 𝓤 _) $
-      returns ! (look_at ! 0 refl) $ free_all ! refl $
-      suffices ! _ (ends_at 𝓛 F.ended stayed (F.clauses 𝓛 at_mem run) z w made (tt, tt) (tt, tt)) $ says ! refl $
-      nothing ! $ nothing ! $ fjoin ! $ join ! $ nothing ! $ join ! $ done !))))
-
-pub none_spec : {M : Type 1} → stated.statement M
-unfolding tables_of
+pub none_spec : {M : Type 1} → statement M
 none_spec 𝓤 𝓛 𝓜 𝓡 wired =
-    let 𝓣 : Tables 𝓤 𝓛.H = tables_of 𝓤 𝓛.H 𝓜 (tables 𝓤 𝓛.H 𝓜 𝓡 𝓡.env) in
-    entered 𝓤 𝓛.H (triple_of 𝓛 F.signature (F.spec 𝓛 𝓜.mem 𝓡.returns)) 𝓣.C 𝓣.Λ #self code.function
-    (code.unfolded 𝓤 𝓛.H 𝓜 𝓡 wired)
-    (walk_Meets 𝓛 F.ended stayed (Goes-dropped 𝓛 0 From yes (λ κs x f. refl), tt) (F.clauses 𝓛 𝓜.mem 𝓡.returns)
-    (WpFn 𝓤 𝓛.H 𝓣.C 𝓣.Λ code.function) (WpFn-mono 𝓤 𝓛.H 𝓛.laws 𝓣 code.function)
-    (walk 𝓛 𝓜.mem 𝓡.returns 𝓣))
+    let c = F.clauses 𝓛 𝓜.mem 𝓡.returns in let 𝓣 = tables 𝓤 𝓛.H 𝓜 𝓡 𝓡.env in
+    proved_at 𝓛 F.ended stayed c 𝓜 𝓡 (Goes-dropped 𝓛 0 From yes (λ κs x f. refl), tt) F.Key.name code.function
+    (code.unfolded 𝓤 𝓛.H 𝓜 𝓡 wired) (λ z are.
+    let Post = (walk_of 𝓛 F.ended stayed c).post z in
+    let a = z.0.3.0 in
+    let To = type_at F.signature.result tt in
+    let made : To.Denot = record { at = null_ptr; alloc = a; store = None } in
+    qed 𝓛 ((‵ ftrue ⊛ ‵ (fsep (E.al.row.own_val a z.0.4.0) ftrue)) ∷ raw (emp 𝓤) ∷ []) ∵ split ! $ drop ! $ fsplit ! $
+    handle_tells E.al ! a z.0.4.0 (λ h eh fits. move ! (1 ∷ 2 ∷ []) $ drop ! $ drop ! $
+    let w : Val = vstruct (of_list (ptr_val null_ptr ∷ h ∷ [])) in
+    let Γ : List (Item 𝓤) = ‵ (E.al.row.own_val a (h ∷ [])) ∷ [] in
+    by ! (subst (λ (us : List Val). ent 𝓤 (types.Kit.⋆ 𝓛 Γ) (WpFn 𝓤 𝓛.H 𝓣.C 𝓣.Λ code.function (us ++ []) Post)) (sym eh)
+    (qed 𝓛 Γ ∵ enter ! 𝓣.C 𝓣.Λ code.function (h ∷ []) _ $ alloc_all ! (λ ls. pass_all ! refl (fits, tt) $
+    sets ! (agg ! (and_then ! (lit ! tt) (and_then ! (get ! refl) (no_more !)))) refl (
+      and_tt (has_ty
+          (α E.al) h) fits.0,
+      (record { fits = lit< tt }, (fits.1, tt)),
+    ) $
+    nothing ! $ nothing ! $ move ! (2 ∷ 0 ∷ []) $ fjoin ! $
+    feq_i ! (List Val) (ptr_val null_ptr ∷ []) (ptr_val null_ptr ∷ []) refl $ fjoin ! $
+    feq_i ! (List Val) (w ∷ []) (w ∷ []) refl $ fjoin ! $
+    fpack ! (Valss (RawPtr ∷ P E ∷ [])) (within (shape (owning E)) (null_ptr, (a, tt)) (w ∷ []))
+    (ptr_val null_ptr ∷ [], (h ∷ [], tt)) $ fjoin ! $
+    use1 𝓛 (‵ (To.own_val made (w ∷ []))) (id⊢ 𝓤 _) $
+    returns ! (look_at ! 0 refl) $ free_all ! refl $
+    suffices ! _ (ends_at 𝓛 F.ended stayed c z w made (tt, tt) (tt, tt)) $ says ! refl $
+    nothing ! $ nothing ! $ fjoin ! $ join ! $ nothing ! $ join ! $ done !)))))
