@@ -62,6 +62,7 @@ LAYERS = [
     [
         ("surface", "argus_objects", "locks and versions of one object", []),
         ("surface", "argus_actions", "who stands under whom, and its fate", []),
+        ("surface", "argus_store", "a log in a database", []),
     ],
     [
         ("surface", "argus_values", "values, contents, texts, the heap", [

@@ -1,0 +1,262 @@
+-- What a statement that changed rows of a log has done.
+use Rattle.std.proofs.Common.{◌≡◌, ◌⊎◌, inl, inr, ℕ, ℤ, pos, List, [], ◌∷◌, ◌++◌, arith, map, length, Bool, true, false, ◌&&◌, cond, Some, None, Ok, Err, Result, refl, sym, ap, subst, ◌∙◌, Ordering, Less, Equal, Greater, is_eq, int_cmp, true≢false, unwrap_or, IsPermutation}
+use Rattle.std.proofs.lemmas.List.Sorted.{length_permutation}
+use Rattle.std.proofs.lemmas.Cmp.{int_ranked, tied_itself, int_cmp_total}
+use Rattle.sqlite.specs.declared.types.Value.{Value}
+use Rattle.sqlite.specs.declared.types.Value.TheVariants.{Null, Int, Text}
+use Rattle.sqlite.specs.Collation.TheVariants.{Binary}
+use Rattle.sqlite_sql.specs.declared.ops.BinaryOp.TheVariants.{Compare}
+use Rattle.sqlite_sql.specs.declared.ops.CompareOp.TheVariants.{Eq}
+use Rattle.sqlite.specs.Order.{Row}
+use Rattle.sqlite.specs.Ops.{unary, binary, is_true, from_truth}
+use Rattle.sqlite.specs.Kind.TheVariants.{Integer}
+use Rattle.sqlite.specs.Source.TheVariants.{Values}
+use Rattle.sqlite.specs.Command.TheVariants.{Insert, Update}
+use Rattle.sqlite.specs.Query.{inner, end, IsAnswer, output, Output, matches_as, page}
+use Rattle.sqlite.specs.Program.{overlay}
+use Rattle.sqlite.specs.Edit.{edit_of, edited, Applies}
+use Rattle.sqlite.specs.Cast.{cast}
+use Rattle.sqlite.specs.Rowids.TheVariants.{Chosen, Given}
+use Rattle.sqlite_schema.specs.declared.schema.Keys.TheVariants.{Enforced}
+use Rattle.sqlite_rules.specs.Calls.{ids_of}
+use Rattle.sqlite.specs.Does.{Tally, Does}
+use Rattle.sqlite.specs.Rows.{Written}
+use Rattle.sqlite.specs.Tree.{Trees, put_row}
+use Rattle.sqlite.specs.Effect.{Database}
+use Rattle.sqlite.specs.State.{State, mode_of, Executes}
+use Rattle.sqlite.specs.Listing.{understood}
+use Rattle.sqlite.proofs.Callers.{statement_of, runs_as, one_step, one_permutation}
+use Rattle.sqlite_value.proofs.OrderLemmas.{value_cmp-Int}
+use Rattle.argus_store.specs.Tables.{log_table, batch_table, log_schema}
+use Rattle.argus_store.specs.Journal.{Batch, Journal, ending_at, batch_row, shown_batch, log_row, HoldsRows, AreBelow}
+use Rattle.argus_store.specs.Appending.{move_text, put_text, move_row}
+use Rattle.argus_store.proofs.Statements.{move_query, move_program, move_is, move_plain, put_terms, put_is, put_plain}
+
+either : (b : Bool) (x : Value) → cond b x x ≡ x
+either true x = refl
+either false x = refl
+
+pub cast_int : (n : ℤ) → cast Integer (Int n) ≡ Int n
+unfolding unary
+cast_int n = either _ (Int n)
+
+pub cast_null : cast Integer Null ≡ Null
+unfolding unary
+cast_null = either _ Null
+
+-- a part that gave a value did not stop on the way
+pub went : {B E R : Type 0} {b : B} {Stops : E → Type 0} → ((stop : E) × Stops stop × (Ok b ≡ Err stop)) ⊎ R → R
+went (inl stopped) = absurd (let e = stopped.2 in cc)
+went (inr on) = on
+
+pub same_value : {B E : Type 0} {a b : B} → ◌≡◌ {A = Result B E} (Ok a) (Ok b) → a ≡ b
+same_value e = cc
+
+-- ---- a batch is put in
+
+put_last : (bs : List Batch) (b : Batch) → AreBelow b.first bs → put_row (batch_row b) (map batch_row bs)
+    ≡ map batch_row (bs ++ b ∷ [])
+put_last [] b h = refl
+put_last (c ∷ bs) b h = rw (value_cmp-Int c.first b.first ∙ h.0) (ap (λ xs. batch_row c ∷ xs) (put_last bs b h.1))
+
+-- the rows after a step on the batches
+put_rows : (db after : Trees) (j : Journal) (b : Batch) (all : List Row) → all
+    ≡ (Int b.first ∷ Null ∷ Text b.lines ∷ Int b.sum ∷ []) ∷ []
+    → HoldsRows db j → AreBelow b.first j.batches → Applies log_schema Enforced db
+    (edit_of db batch_table [] Chosen 0 all) after
+    → HoldsRows after (record j { batches = j.batches ++ b ∷ [] })
+put_rows db after j b all given rows below it =
+    let others = it.tables in
+    let edit : edited db (edit_of db batch_table [] Chosen 0 all) ≡ map batch_row (j.batches ++ b ∷ []) =
+    ap (λ all. edited db (edit_of db batch_table [] Chosen 0 all)) given
+    ∙ rw (cast_int b.first, cast_null, cast_int b.sum, rows.batches) (put_last j.batches b below) in
+    record {
+      log = others.0 (λ e. omega (arith, e)) ∙ rows.log;
+      opening = others.1.0 (λ e. omega (arith, e)) ∙ rows.opening;
+      batches = it.rows ∙ edit;
+      objects = others.1.1.1.0 (λ e. omega (arith, e)) ∙ rows.objects;
+    }
+
+pub puts : (old new : State) (j : Journal) (b : Batch) (count : ℕ) → old.now.schema ≡ log_schema
+    → HoldsRows old.now.trees j → AreBelow b.first j.batches
+    → Executes put_text (shown_batch b) old new (Ok count)
+    → (new.now.schema ≡ log_schema) × HoldsRows new.now.trees (record j { batches = j.batches ++ b ∷ [] })
+puts old new j b count has rows below h =
+    let db = old.now.trees in
+    let text = statement_of put_text (understood log_schema put_text) in
+    let w = runs_as put_text (shown_batch b) old new log_schema has (Insert 2 (Values put_terms 4)) put_is put_plain
+    count h in
+    let done = went (subst (λ s. Does old.step_limit (mode_of old) (shown_batch b) (record old.now { schema = s })
+    text None (Insert 2 (Values put_terms 4)) (Ok (w.tally, new.now))) has w.changed) in
+    let now = ap (λ (p : Tally × Database). p.1) (same_value (went (went done.2).2).2) in
+    let given = went done.1 in
+    let written = went (went given.2).2 in
+    let counted = went written.2 in
+    let trees : done.0.trees ≡ written.0 = ap (λ (it : Written). it.trees) (same_value counted.2)
+    ∙ same_value counted.1 in
+    let all : new.now.trees ≡ written.0 = ap (λ (d : Database). d.trees) now ∙ trees in
+    let applied = one_step log_schema _ db written.0 (edit_of db batch_table [] Chosen 0 given.0) refl written.1 in (
+      ap (λ (d : Database). d.schema) now,
+      subst (λ t. HoldsRows t (record j { batches = j.batches ++ b ∷ [] }))
+          (sym all) (put_rows db written.0 j b given.0 given.1.1 rows below applied),
+    )
+
+-- ---- the log's end is moved
+
+-- WHERE keeps the row whose next entry is this one
+equal_test : (m n : ℤ) → is_true (binary (Compare Eq Binary) (Int m) (Int n)) ≡ is_eq (int_cmp m n)
+unfolding binary
+equal_test m n = rw (value_cmp-Int m n) (read (is_eq (int_cmp m n)))
+  where
+    read : (b : Bool) → is_true (from_truth (Some b)) ≡ b
+    read true = refl
+    read false = refl
+
+-- the row of `log` as the UPDATE gives it, behind its old key
+abbrev moved_row : Journal → Batch → ℤ → Row
+moved_row j b next = Int (pos 0) ∷ Int (pos 0) ∷ Null ∷ Text j.name ∷ Text j.version ∷ Int j.epoch ∷ Int j.is_open ∷
+    Int next ∷ Int b.sum ∷ []
+
+abbrev moved_output : Journal → Batch → ℤ → Output
+moved_output j b next = ([], moved_row j b next)
+
+abbrev fits : Journal → Batch → Bool
+fits j b = is_eq (int_cmp j.next b.first)
+
+abbrev before : Journal → Batch → ℤ → List Row
+before j b next = move_row b.first b.sum next ∷ log_row j ∷ []
+
+outputs : (all : Trees) (j : Journal) (b : Batch) (next : ℤ) → all 0 ≡ log_row j ∷ []
+    → map (output move_query) (matches_as Null all move_query.filter (inner 0 end) (move_row b.first b.sum next ∷ []))
+    ≡ cond (fits j b) (moved_output j b next ∷ []) []
+outputs all j b next log =
+    rw (log, equal_test j.next b.first) (elim (fits j b) as (λ t. map (output move_query)
+    (cond (t && true) (before j b next ∷ []) [] ++ []) ≡ cond t (moved_output j b next ∷ []) [])
+    [ true ↦ refl | false ↦ refl ])
+
+one_or_none : (t : Bool) (o : Output) (kept ordered : List Output) → kept ≡ cond t (o ∷ []) []
+    → IsPermutation kept ordered → ordered ≡ cond t (o ∷ []) []
+one_or_none true o kept ordered is same = one_permutation o ordered (subst (λ k. IsPermutation k ordered) is same)
+one_or_none false o kept [] is same = refl
+one_or_none false o kept (x ∷ more) is same = absurd (omega (
+  arith,
+  length_permutation kept (x ∷ more) same,
+  ap length
+      is,
+))
+
+abbrev paged : Batch → ℤ → List Output → List Row
+paged b next os = page move_query (move_row b.first b.sum next) (map (λ (p : Output). p.1) os)
+
+found : (all : Trees) (j : Journal) (b : Batch) (next : ℤ) (given : List Row) → all 0 ≡ log_row j ∷ []
+    → IsAnswer move_query all (move_row b.first b.sum next) given
+    → given ≡ cond (fits j b) (moved_row j b next ∷ []) []
+found all j b next given log a =
+    let kept = a.distinct ∙ ap (map (output move_query)) a.grouped ∙ outputs all j b next log in
+    let ordered = one_or_none (fits j b) (moved_output j b next) a.kept a.ordered kept a.same in
+    a.shown ∙ ap (paged b next) ordered
+    ∙ elim (fits j b) as (λ t. paged b next (cond t (moved_output j b next ∷ []) [])
+    ≡ cond t (moved_row j b next ∷ []) []) [ true ↦ refl | false ↦ refl ]
+
+-- the rows after a step on `log`
+move_rows : (db after : Trees) (j : Journal) (b : Batch) (next : ℤ) (all : List Row) → all ≡ moved_row j b next ∷ []
+    → HoldsRows db j → Applies log_schema Enforced db (edit_of db log_table (ids_of all) Given 1 all) after
+    → HoldsRows after (ending_at j next b.sum)
+move_rows db after j b next all given rows it =
+    let others = it.tables in
+    let edit : edited db (edit_of db log_table (ids_of all) Given 1 all) ≡ log_row (ending_at j next b.sum) ∷ [] =
+    ap (λ all. edited db (edit_of db log_table (ids_of all) Given 1 all)) given
+    ∙ rw (
+      cast_int (pos 0),
+      cast_null,
+      cast_int j.epoch,
+      cast_int j.is_open,
+      cast_int next,
+      cast_int b.sum,
+      rows.log,
+      value_cmp-Int (pos 0) (pos 0),
+    ) refl in
+    record {
+      log = it.rows ∙ edit;
+      opening = others.1.0 (λ e. omega (arith, e)) ∙ rows.opening;
+      batches = others.1.1.0 (λ e. omega (arith, e)) ∙ rows.batches;
+      objects = others.1.1.1.0 (λ e. omega (arith, e)) ∙ rows.objects;
+    }
+
+equal_only : (o : Ordering) → is_eq o ≡ true → o ≡ Equal
+equal_only Less h = absurd (true≢false (sym h))
+equal_only Equal h = refl
+equal_only Greater h = absurd (true≢false (sym h))
+
+same_entry : (m n : ℤ) → is_eq (int_cmp m n) ≡ true → n ≡ m
+same_entry m n h = sym (int_ranked m n Equal (sym (equal_only (int_cmp m n) h)))
+
+-- what the UPDATE did, whatever it counted
+record Step (old new : State) (j : Journal) (b : Batch) (next : ℤ) (count : ℕ) : Type 0 where
+  given : List Row
+  is : given ≡ cond (fits j b) (moved_row j b next ∷ []) []
+  one : count ≡ length (edit_of old.now.trees log_table (ids_of given) Given 1 given).news
+  schema : new.now.schema ≡ log_schema
+  applies : Applies log_schema Enforced old.now.trees (edit_of old.now.trees log_table (ids_of given) Given 1 given)
+      new.now.trees
+
+steps : (old new : State) (j : Journal) (b : Batch) (next : ℤ) (count : ℕ) → old.now.schema ≡ log_schema
+    → HoldsRows old.now.trees j
+    → Executes move_text (move_row b.first b.sum next) old new (Ok count) → Step old new j b next count
+steps old new j b next count has rows h =
+    let db = old.now.trees in
+    let params = move_row b.first b.sum next in
+    let text = statement_of move_text (understood log_schema move_text) in
+    let w = runs_as move_text params old new log_schema has (Update 0 move_program) move_is move_plain count h in
+    let done = went (subst (λ s. Does old.step_limit (mode_of old) params (record old.now { schema = s }) text None
+    (Update 0 move_program) (Ok (w.tally, new.now))) has w.changed) in
+    let last = same_value (went (went done.2).2).2 in
+    let given = went done.1 in
+    let written = went given.2 in
+    let whole = same_value written.2 in
+    let edit = edit_of db log_table (ids_of given.0) Given 1 given.0 in
+    let all : new.now.trees ≡ written.0 = ap (λ (p : Tally × Database). p.1.trees) last
+    ∙ ap (λ (it : Written). it.trees) whole in
+    let applied = one_step log_schema _ db written.0 edit refl written.1 in
+    let counted : w.tally.rows ≡ Some (length edit.news) = ap (λ (p : Tally × Database). p.0.rows) last
+    ∙ ap (λ (it : Written). Some (length it.rows)) whole in
+    record {
+      given = given.0;
+      is = found (overlay db []) j b next given.0 rows.log (given.1.answer Null);
+      one = w.counted ∙ ap (λ o. unwrap_or o 0) counted;
+      schema = ap (λ (p : Tally × Database). p.1.schema) last;
+      applies = subst (Applies log_schema Enforced db edit) (sym all) applied;
+    }
+
+-- the row that was changed fits
+decided : (t : Bool) (old new : State) (j : Journal) (b : Batch) (next : ℤ) (it : Step old new j b next 1) → fits j b
+    ≡ t → it.given ≡ cond t (moved_row j b next ∷ []) []
+    → HoldsRows old.now.trees j → (b.first ≡ j.next) × HoldsRows new.now.trees (ending_at j next b.sum)
+decided true old new j b next it e is rows = (
+  same_entry j.next b.first e,
+  move_rows old.now.trees new.now.trees j b
+      next it.given is rows it.applies,
+)
+decided false old new j b next it e is rows =
+    let none : length (edit_of old.now.trees log_table (ids_of it.given) Given 1 it.given).news
+    ≡ 0 = ap (λ all. length (edit_of old.now.trees log_table (ids_of all) Given 1 all).news) is in
+    absurd (omega (arith, it.one, none))
+
+pub moves : (old new : State) (j : Journal) (b : Batch) (next : ℤ) → old.now.schema ≡ log_schema
+    → HoldsRows old.now.trees j
+    → Executes move_text (move_row b.first b.sum next) old new (Ok 1)
+    → (b.first ≡ j.next) × (new.now.schema ≡ log_schema) × HoldsRows new.now.trees (ending_at j next b.sum)
+moves old new j b next has rows h =
+    let it = steps old new j b next 1 has rows h in
+    let both = decided (fits j b) old new j b next it refl it.is rows in
+    (both.0, it.schema, both.1)
+
+-- the row that fits is changed
+pub counts : (old new : State) (j : Journal) (b : Batch) (next : ℤ) (count : ℕ) → old.now.schema ≡ log_schema
+    → HoldsRows old.now.trees j
+    → Executes move_text (move_row b.first b.sum next) old new (Ok count) → b.first ≡ j.next → count ≡ 1
+counts old new j b next count has rows h at =
+    let it = steps old new j b next count has rows h in
+    let fit : fits j b ≡ true = ap (λ n. is_eq (int_cmp j.next n)) at ∙ ap is_eq (tied_itself int_cmp_total j.next) in
+    let is : it.given ≡ moved_row j b next ∷ [] = it.is ∙ ap (λ t. cond t (moved_row j b next ∷ []) []) fit in
+    it.one ∙ ap (λ all. length (edit_of old.now.trees log_table (ids_of all) Given 1 all).news) is

@@ -1,0 +1,122 @@
+-- From one log to the next: what holds of a store after an append, whether it returned or a crash came first.
+use Rattle.std.proofs.Common.{◌≡◌, inl, inr, ℤ, List, [], ◌∷◌, ◌++◌, arith, IsTrue, Bool, true, false, Ok, Err, Result, IfOk, OnErr, ◌≢◌, int_le, refl, sym, ap, subst, ◌∙◌, Less, int_cmp}
+use Rattle.std.specs.List.{AllByRecursion}
+use Rattle.std.proofs.lemmas.Cmp.{int_cmp_total}
+use Rattle.std.proofs.lemmas.Int.{ints}
+use Rattle.sqlite.specs.declared.error.Error.{Error}
+use Rattle.sqlite.specs.Tree.{Trees}
+use Rattle.sqlite.specs.Store.{Ghosts}
+use Rattle.sqlite.specs.Effect.{Database}
+use Rattle.sqlite.specs.State.{State, HasCleanDisk, Survives}
+use Rattle.sqlite.specs.Held.{Held, state}
+use Rattle.sqlite_keyed.proofs.ListLemmas.{all_weaker}
+use Rattle.argus_store.specs.Tables.{log_schema}
+use Rattle.argus_store.specs.Journal.{Batch, Journal, ending_at, with_batch, HoldsRows, HoldsLog, AreBelow, AreRising}
+use Rattle.argus_store.specs.Store.{HasLog, Leaves, LeavesEither}
+use Rattle.argus_store.specs.Appending.{Appends, IsElsewhere, IsSettled, IsAsBefore}
+use Rattle.argus_store.proofs.Changes.{moves, puts, counts}
+
+all_last : {X : Type 0} (P : X → Type 0) (xs : List X) (x : X) → AllByRecursion P xs → P x
+    → AllByRecursion P (xs ++ x ∷ [])
+all_last P [] x all h = (h, tt)
+all_last P (y ∷ ys) x all h = (all.0, all_last P ys x all.1 h)
+
+rising_last : (bs : List Batch) (b : Batch) → AreRising bs → AreBelow b.first bs → AreRising (bs ++ b ∷ [])
+rising_last [] b up below = (tt, tt)
+rising_last (c ∷ bs) b up below = (all_last _ bs b up.0 below.0, rising_last bs b up.1 below.1)
+
+below_next : (bs : List Batch) (first next : ℤ) → int_cmp first next ≡ Less → AreBelow first bs → AreBelow next bs
+below_next bs first next more = all_weaker _ _ (λ b h. int_cmp_total.trans b.first first next h more) bs
+
+-- a batch at the log's end, which has an entry
+longer : (db : Trees) (j : Journal) (b : Batch) (next : ℤ) → b.first ≡ j.next → int_cmp b.first next ≡ Less
+    → AreRising j.batches → AreBelow j.next j.batches
+    → HoldsRows db (with_batch j b next) → HoldsLog db (with_batch j b next)
+longer db j b next at more up below rows =
+    let under : AreBelow b.first j.batches = subst (λ n. AreBelow n j.batches) (sym at) below in
+    record {
+      rows = rows;
+      rising = rising_last j.batches b up under;
+      below = all_last _ j.batches b
+          (below_next j.batches b.first next more under) more;
+    }
+
+module _ {S : Type 0} (g : Ghosts S) (old : Held S) (j : Journal) (b : Batch) (next : ℤ)
+    (was : HasLog (state g old) j) (more : int_cmp b.first next ≡ Less) where
+  -- the database that the transaction makes
+  pub appended : (db : Database) → Appends g b next old db → (b.first ≡ j.next) × (db.schema ≡ log_schema)
+      × HoldsLog db.trees (with_batch j b next)
+  appended db it =
+      let one = moves (state g (record old { in_transaction = true })) (state g it.mid) j b next was.schema
+      was.holds.rows it.moved in
+      let under : AreBelow b.first j.batches = subst (λ n. AreBelow n j.batches) (sym one.0) was.holds.below in
+      let two = puts (state g it.mid) (state g it.last) (ending_at j next b.sum) b it.count one.1 one.2 under it.put
+      in
+      let rows : HoldsRows db.trees (with_batch j b next) = subst
+      (λ (d : Database). HoldsRows d.trees (with_batch j b next)) (sym it.is) two.1 in (
+        one.0,
+        ap (λ (d : Database). d.schema) it.is ∙ two.0,
+        longer db.trees j b next one.0 more was.holds.rising
+            was.holds.below rows,
+      )
+
+  -- at `Ok`
+  pub acknowledged : (new : State) → Appends g b next old new.committed → IsSettled new → (b.first ≡ j.next)
+      × HasLog new (with_batch j b next)
+  acknowledged new it settled =
+      let made = appended new.committed it in
+      let same = settled.committed in (
+        made.0,
+        record {
+          is_open = settled.is_open;
+          autocommit = settled.autocommit;
+          schema = subst (λ (d : Database). d.schema ≡ log_schema) same made.1;
+          holds = subst (λ (d : Database). HoldsLog d.trees (with_batch j b next)) same made.2;
+          committed = same;
+        },
+      )
+
+  -- whatever was returned, a crash leaves the log from before, or the longer one
+  pub crashes : (new : State) → (HasCleanDisk (state g old) → Leaves (state g old) j) → HasCleanDisk new
+      → Survives (state g old) new (λ trees. (db : Database) × Appends g b next old db × (trees ≡ db.trees))
+      → LeavesEither new j (with_batch j b next)
+  crashes new kept clean s db left = elim (s.crash clean db left) [
+    | inl before ↦ inl (kept (omega (arith, s.clean)) db before)
+    | inr made ↦ inr (subst (λ t. HoldsLog t (with_batch j b next)) (sym made.2) (appended made.0 made.1).2)
+  ]
+
+-- while a store is open, a crash leaves its last commit
+pub settled : (s : State) (j : Journal) → ((db : Trees) → s.may_leave db → db ≡ s.committed.trees) → HasLog s j
+    → Leaves s j
+settled s j law has db left = subst (λ t. HoldsLog t j) (sym
+    (law db left ∙ ap (λ (d : Database). d.trees) has.committed)) has.holds
+
+-- a store that is as it was
+pub unchanged : (old new : State) (j : Journal) → HasLog old j → IsTrue new.is_open → new.in_transaction ≡ false
+    → new.now ≡ old.now → new.committed ≡ old.committed → HasLog new j
+unchanged old new j was is_open autocommit now committed = record {
+  is_open = is_open;
+  autocommit = autocommit;
+  schema = ap (λ (d : Database). d.schema) now ∙ was.schema;
+  holds = subst (λ (d : Database). HoldsLog d.trees j) (sym now) was.holds;
+  committed = committed ∙ was.committed ∙ sym now;
+}
+
+-- the same of an append that returned no `Ok(true)`
+pub kept_by : (old new : State) (j : Journal) (r : Result Bool Error) → HasLog old j → IsTrue new.is_open
+    → new.in_transaction ≡ false
+    → IfOk r (λ done. done ≡ false → IsAsBefore old new) → OnErr r (IsAsBefore old new) → r ≢ Ok true → HasLog new j
+kept_by old new j (Ok true) was is_open autocommit refused failed other = absurd (other refl)
+kept_by old new j (Ok false) was is_open autocommit refused failed other = unchanged old new j was is_open autocommit
+    (refused refl).now (refused refl).committed
+kept_by old new j (Err e) was is_open autocommit refused failed other = unchanged old new j was is_open autocommit
+    failed.now failed.committed
+
+pub has_entry : (first next : ℤ) → int_le next first ≡ false → int_cmp first next ≡ Less
+has_entry first next h = grind (arith, ints)
+
+-- the log's end stood elsewhere
+pub elsewhere : {S : Type 0} (g : Ghosts S) (old : Held S) (j : Journal) (b : Batch) (next : ℤ)
+    → HasLog (state g old) j → IsElsewhere g b next old → b.first ≢ j.next
+elsewhere g old j b next was it at = it.other (counts (state g (record old { in_transaction = true }))
+    (state g it.mid) j b next it.count was.schema was.holds.rows it.moved at)

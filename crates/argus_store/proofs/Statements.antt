@@ -1,0 +1,89 @@
+-- What the texts of the statements mean over the log's tables: the check runs SQL's meaning on each.
+use Rattle.std.proofs.Common.{◌≡◌, ℕ, pos, negsuc, List, [], ◌∷◌, codes, false, None, refl}
+use Rattle.sqlite.specs.Collation.TheVariants.{Binary}
+use Rattle.sqlite.specs.declared.types.Value.TheVariants.{Null, Int}
+use Rattle.sqlite.specs.Term.{Term, lit, col, op2}
+use Rattle.sqlite_sql.specs.declared.ops.BinaryOp.TheVariants.{Compare}
+use Rattle.sqlite_sql.specs.declared.ops.CompareOp.TheVariants.{Eq}
+use Rattle.sqlite.specs.Query.{Query, inner, end}
+use Rattle.sqlite_schema.specs.declared.program.Program.{Program}
+use Rattle.sqlite.specs.Source.TheVariants.{Values}
+use Rattle.sqlite.specs.Command.TheVariants.{Insert, Update, Select}
+use Rattle.sqlite_tied.specs.Compute.{everything}
+use Rattle.sqlite.specs.Listing.{understood, reads_listing}
+use Rattle.sqlite.proofs.Callers.{IsPlain, command_of}
+use Rattle.argus_store.specs.Tables.{log_schema}
+use Rattle.argus_store.specs.Appending.{move_text, put_text}
+
+-- ---- the log's end is moved
+
+abbrev pub move_query : Query
+move_query = record {
+  from = inner 0 end;
+  filter = op2 (Compare Eq Binary) (col 1 6) (col 0 2) ∷ [];
+  group = None;
+  project = col 1 0 ∷ col 1 0 ∷ lit Null ∷ col 1 2 ∷ col 1 3 ∷ col 1 4 ∷ col 1 5 ∷ col 0 0 ∷ col 0 1 ∷ [];
+  distinct = false;
+  collations = [];
+  order = [];
+  limit = lit (Int (negsuc 0));
+  offset = lit (Int (pos 0));
+}
+
+abbrev pub move_program : Program
+move_program = record { lets = []; body = move_query }
+
+pub move_is : command_of (understood log_schema move_text) ≡ Update 0 move_program
+unfolding understood everything
+move_is = refl
+
+pub move_plain : IsPlain (understood log_schema move_text)
+unfolding understood everything
+move_plain = (refl, refl)
+
+-- ---- a batch is put in
+
+abbrev pub put_terms : List Term
+put_terms = col 0 0 ∷ lit Null ∷ col 0 1 ∷ col 0 2 ∷ []
+
+pub put_is : command_of (understood log_schema put_text) ≡ Insert 2 (Values put_terms 4)
+unfolding understood everything
+put_is = refl
+
+pub put_plain : IsPlain (understood log_schema put_text)
+unfolding understood everything
+put_plain = (refl, refl)
+
+-- ---- the batches are read
+
+abbrev pub read_text : List ℕ
+read_text = codes "SELECT first, lines, sum FROM batch ORDER BY first"
+
+abbrev pub read_query : Query
+read_query = record {
+  from = inner 2 end;
+  filter = [];
+  group = None;
+  project = col 1 0 ∷ col 1 2 ∷ col 1 3 ∷ [];
+  distinct = false;
+  collations = [];
+  order = (col 1 0, record { collation = Binary; descending = false }) ∷ [];
+  limit = lit (Int (negsuc 0));
+  offset = lit (Int (pos 0));
+}
+
+abbrev pub read_program : Program
+read_program = record { lets = []; body = read_query }
+
+pub read_is : command_of (understood log_schema read_text)
+    ≡ Select read_program (codes "first" ∷ codes "lines" ∷ codes "sum" ∷ [])
+unfolding understood everything
+read_is = refl
+
+pub read_unlisted : reads_listing log_schema read_text ≡ false
+unfolding understood everything
+read_unlisted = refl
+
+pub read_plain : IsPlain (understood log_schema read_text)
+unfolding understood everything
+read_plain = (refl, refl)

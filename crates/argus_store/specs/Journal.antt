@@ -1,0 +1,93 @@
+-- What a log has, and when the trees of a database hold it.
+use Rattle.std.specs.Prelude.{◌≡◌, ℕ, ℤ, pos, ⊤, List, [], ◌∷◌, ◌++◌, map}
+use Rattle.std.specs.List.{AllByRecursion}
+use Rattle.std.specs.Ordering.{int_cmp}
+use Rattle.std.specs.declared.cmp.Ordering.TheVariants.{Less}
+use Rattle.sqlite.specs.declared.types.Value.TheVariants.{Null, Int, Text as Words}
+use Rattle.sqlite.specs.Order.{Row}
+use Rattle.sqlite.specs.Tree.{Trees}
+
+-- some lines of a journal's listing, the number of the first one's entry, and their sum
+pub record Batch : Type 0 where
+  pub first : ℤ
+  pub lines : List ℕ
+  pub sum : ℤ
+
+-- All that a log has: the row of `log`, with the number of the next entry and the last sum; the batches, in
+-- the order of their entries; and the rows of the tables `opening` and `object`.
+pub record Journal : Type 0 where
+  pub name : List ℕ
+  pub version : List ℕ
+  pub epoch : ℤ
+  pub is_open : ℤ
+  pub next : ℤ
+  pub sum : ℤ
+  pub batches : List Batch
+  pub opening : List Row
+  pub objects : List Row
+
+-- a log that nothing was appended to
+abbrev pub new_journal : List ℕ → List ℕ → ℤ → Journal
+new_journal name version sum = record {
+  name = name;
+  version = version;
+  epoch = pos 0;
+  is_open = pos 0;
+  next = pos 0;
+  sum = sum;
+  batches = [];
+  opening = [];
+  objects = [];
+}
+
+-- the log that ends before this entry, with this sum
+abbrev pub ending_at : Journal → ℤ → ℤ → Journal
+ending_at j next sum = record j { next = next; sum = sum }
+
+-- the log with one more batch, after which this entry comes next
+abbrev pub with_batch : Journal → Batch → ℤ → Journal
+with_batch j b next = record (ending_at j next b.sum) { batches = j.batches ++ b ∷ [] }
+
+-- these lines, from an entry on, with their sum
+abbrev pub a_batch : ℤ → List ℕ → ℤ → Batch
+a_batch first lines sum = record { first = first; lines = lines; sum = sum }
+
+-- the log with them behind it, after which this entry comes next
+abbrev pub with_lines : Journal → ℤ → List ℕ → ℤ → ℤ → Journal
+with_lines j first lines sum next = with_batch j (a_batch first lines sum) next
+
+-- a batch as its row is kept, whose key stands in front; and as the row is shown
+abbrev pub batch_row : Batch → Row
+batch_row b = Int b.first ∷ Null ∷ Words b.lines ∷ Int b.sum ∷ []
+
+abbrev pub shown_batch : Batch → Row
+shown_batch b = Int b.first ∷ Words b.lines ∷ Int b.sum ∷ []
+
+-- the row of `log`, as it is kept
+abbrev pub log_row : Journal → Row
+log_row j =
+    Int (pos 0) ∷ Null ∷ Words j.name ∷ Words j.version ∷ Int j.epoch ∷ Int j.is_open ∷ Int j.next ∷
+    Int j.sum ∷ []
+
+-- the four tables have the log's rows and no others
+pub record HoldsRows (db : Trees) (j : Journal) : Type 0 where
+  pub log : db 0 ≡ log_row j ∷ []
+  pub opening : db 1 ≡ j.opening
+  pub batches : db 2 ≡ map batch_row j.batches
+  pub objects : db 3 ≡ j.objects
+
+-- each batch begins below this entry
+abbrev pub AreBelow : ℤ → List Batch → Type 0
+AreBelow next = AllByRecursion (λ (b : Batch). int_cmp b.first next ≡ Less)
+
+-- each batch begins above those before it, so there are no two with one beginning
+abbrev pub AreRising : List Batch → Type 0
+AreRising [] = ⊤
+AreRising (b ∷ bs) = AllByRecursion (λ (c : Batch). int_cmp b.first c.first ≡ Less) bs
+    × AreRising bs
+
+-- the database holds the log: its rows, and the batches in order before the next entry
+pub record HoldsLog (db : Trees) (j : Journal) : Type 0 where
+  pub rows : HoldsRows db j
+  pub rising : AreRising j.batches
+  pub below : AreBelow j.next j.batches

@@ -1,0 +1,6 @@
+pub mod Tables
+pub mod Journal
+pub mod Store
+pub mod Appending
+pub mod Making
+pub mod Summing

@@ -1,0 +1,42 @@
+-- What a store shows, and what a crash leaves of it.
+use Rattle.std.specs.Prelude.{◌≡◌, ◌⊎◌, IsTrue, false}
+use Rattle.sqlite_disk.specs.declared.Disk.{Ghosts}
+use Rattle.sqlite.specs.Recovery.{Image}
+use Rattle.sqlite.specs.Tree.{Trees}
+use Rattle.sqlite.specs.State.{State}
+use Rattle.sqlite.specs.Held.{Held}
+use Rattle.sqlite.specs.FileStore as store
+use Rattle.sqlite.specs.declared.FileStore.{FileStore}
+use Rattle.sqlite.specs.Files.{file_state, HoldsDatabase}
+use Rattle.sqlite_catalog.specs.Listing.{IsSound}
+use Rattle.argus_store.specs.Tables.{log_schema}
+use Rattle.argus_store.specs.Journal.{Journal, HoldsLog}
+
+-- The store is open, has no transaction under way, and its database is this log, all of it committed.
+pub record HasLog (s : State) (j : Journal) : Type 0 where
+  pub is_open : IsTrue s.is_open
+  pub autocommit : s.in_transaction ≡ false
+  pub schema : s.now.schema ≡ log_schema
+  pub holds : HoldsLog s.now.trees j
+  pub committed : s.committed ≡ s.now
+
+-- a crash leaves this log
+abbrev pub Leaves : State → Journal → Type 0
+Leaves s j = (db : Trees) → s.may_leave db → HoldsLog db j
+
+-- a crash leaves this log or that one, and nothing in between
+abbrev pub LeavesEither : State → Journal → Journal → Type 0
+LeavesEither s j k = (db : Trees) → s.may_leave db → HoldsLog db j ⊎ HoldsLog db k
+
+-- the two files hold a database which is this log
+pub record FilesHold (image : Image) (j : Journal) : Type 0 where
+  pub db : Trees
+  pub held : ∥ HoldsDatabase image db ∥₁
+  pub sound : IsSound log_schema db
+  pub holds : HoldsLog db j
+
+-- whatever a crash leaves of the files at this moment holds the log of the store
+abbrev pub Keeps : {D : Type 0} {g : Ghosts D} → Held (FileStore D g) → Type 0
+Keeps c = (j : Journal) (left : Image) → HasLog (file_state c) j
+    → (store.state c.store).may_leave left
+    → FilesHold left j

@@ -1,0 +1,13 @@
+//! A guardian's log in a SQLite database, as docs/DURABLE.md has it: what was acknowledged is there
+//! after any crash, in order, once, and nothing is there in part.
+#![tactic(auto)]
+
+mod appending;
+mod making;
+mod store;
+mod summing;
+#[cfg(test)]
+mod tests;
+
+pub use store::Store;
+pub use summing::log_sum;

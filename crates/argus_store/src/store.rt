@@ -1,0 +1,138 @@
+//! `Store`: a guardian's log in a SQLite database.
+
+ghost use Rattle.std.specs.Prelude.{◌≡◌, ◌≢◌, ◌⊎◌, ◌≤ℤ◌, IfOk, IfSome, IsTrue, None, Ok, false};
+ghost use Rattle.std.specs.Prelude.{map, true};
+ghost use Rattle.sqlite.specs.State.{HasCleanDisk};
+ghost use Rattle.sqlite.specs.Held.{state};
+ghost use Rattle.sqlite.specs.Files.{file_state};
+ghost use Rattle.sqlite.specs.View.{IsClean};
+ghost use Rattle.sqlite.specs.FileStore.{view};
+ghost use Rattle.sqlite.specs.WalFiles.{image_at};
+ghost use Rattle.argus_store.specs.Tables.{no_schema};
+ghost use Rattle.argus_store.specs.Journal.{Journal, new_journal, with_lines, shown_batch};
+ghost use Rattle.argus_store.specs.Store.{HasLog, Leaves, LeavesEither, FilesHold, Keeps};
+
+use crate::{appending, making};
+use sqlite::{Alter, Connection, Error, FileFrom, FileStore, Row, Start};
+use sqlite_disk::Disk;
+use std::marker::Model;
+use std::rt::HostRuntime;
+
+/// A log in a database. What a call says of its content is so while the disk returns what was
+/// written (`HasCleanDisk`): a database in memory always does.
+pub struct Store<S: Alter> {
+    conn: Connection<S>,
+}
+
+impl<S: Alter + Drop> Drop for Store<S> {
+    fn drop(self) {
+        let Store { conn: _ } = self;
+    }
+}
+
+impl<S: Alter> Model for Store<S> {
+    ghost use Rattle.sqlite.specs.Held.{Held, held_code};
+
+    ghost Value = { Held S };
+
+    ghost coded = { held_code S.code };
+
+    ghost view = { λ s. s.conn };
+}
+
+impl<S: Alter> Store<S> {
+    /// Makes a log in an empty database: its tables, and whose log it is. `sum` is the sum of an
+    /// opening with no line. `None` if the database has a table, an index or a view.
+    pub fn create(
+        mut conn: Connection<S>,
+        name: &str,
+        version: &str,
+        sum: i64,
+    ) -> Result<Option<Store<S>>, Error>
+    where
+        S: Drop,
+        ensures made { IfOk result (λ made. IfSome made (λ store. HasCleanDisk (state S.Store store)
+            → HasLog (state S.Store store) (new_journal name.now version.now sum))) }
+        ensures durable { IfOk result (λ made. IfSome made (λ store. HasCleanDisk (state S.Store store)
+            → Leaves (state S.Store store) (new_journal name.now version.now sum))) }
+        ensures refused { conn.in_transaction ≡ false
+            → IfOk result (λ made. made ≡ None → conn.schema ≢ no_schema) }
+    {
+        if making::make(&mut conn, name, version, sum)? {
+            Ok(Some(Store { conn }))
+        } else {
+            Ok(None)
+        }
+    }
+
+    /// Appends the lines of a journal from entry `first` on, with their sum, after which the entry
+    /// `next` comes. `Ok(true)`: they are in the log, and each crash from now on leaves them there.
+    /// `Ok(false)`: another entry comes next in the log, or they have no entry, and nothing changed.
+    /// At an error the log is as before, if it is still open. A crash at any moment of the call
+    /// leaves the log from before or the longer one.
+    pub fn append(&mut self, first: i64, lines: &str, sum: i64, next: i64) -> Result<bool, Error>
+        ensures appended { (j : Journal) → HasLog (state S.Store self.old) j
+            → HasCleanDisk (state S.Store self.new)
+            → IfOk result (λ done. IsTrue done → (first ≡ j.next)
+            × HasLog (state S.Store self.new) (with_lines j first lines.now sum next)) }
+        ensures durable { (j : Journal) → HasLog (state S.Store self.old) j
+            → HasCleanDisk (state S.Store self.new)
+            → IfOk result (λ done. IsTrue done
+            → Leaves (state S.Store self.new) (with_lines j first lines.now sum next)) }
+        ensures kept { (j : Journal) → HasLog (state S.Store self.old) j
+            → HasCleanDisk (state S.Store self.new)
+            → IsTrue (state S.Store self.new).is_open → result ≢ Ok true
+            → HasLog (state S.Store self.new) j }
+        ensures refused { (j : Journal) → HasLog (state S.Store self.old) j
+            → HasCleanDisk (state S.Store self.new)
+            → IfOk result (λ done. done ≡ false → (first ≢ j.next) ⊎ (next ≤ℤ first)) }
+        ensures crash { (j : Journal) → HasLog (state S.Store self.old) j
+            → HasCleanDisk (state S.Store self.new)
+            → LeavesEither (state S.Store self.new) j (with_lines j first lines.now sum next) }
+    {
+        if next <= first {
+            return Ok(false);
+        }
+        appending::append(&mut self.conn, first, lines, sum, next)
+    }
+
+    /// The batches in the order of their entries, each as its number, its lines and its sum.
+    pub fn batches(&mut self) -> Result<Vec<Row>, Error>
+        ensures { (j : Journal) → HasLog (state S.Store self.old) j
+            → HasCleanDisk (state S.Store self.new)
+            → IfOk result (λ rows. rows.items ≡ map shown_batch j.batches) }
+    {
+        self.conn
+            .query_all("SELECT first, lines, sum FROM batch ORDER BY first", &[])
+    }
+}
+
+impl<D: Disk + Drop> Store<FileStore<D>> {
+    /// Ends a run. Whatever a crash leaves of the files at this moment holds the log, if the disk
+    /// has returned what was written.
+    pub fn stop(self) -> FileStore<D>
+        ensures { IsClean (view result) → Keeps self }
+    {
+        let Store { conn } = self;
+        let _ = conn.schema();
+        conn.into_store()
+    }
+}
+
+impl<S: Start> Store<FileStore<FileFrom<S>>> {
+    /// Begins a run: opens the files at a path, which `start` stands for. If they hold a log, that
+    /// is the store's. It writes nothing into other databases, and doesn't say that they are.
+    pub fn open(
+        rt: &HostRuntime,
+        path: &str,
+        start: S,
+    ) -> Result<Store<FileStore<FileFrom<S>>>, Error>
+        ensures { IfOk result (λ store. (j : Journal) → FilesHold (image_at S.Start) j
+            → HasCleanDisk (file_state store) → HasLog (file_state store) j) }
+    {
+        match Connection::open_from(rt, path, false, start) {
+            Ok(conn) => Ok(Store { conn }),
+            Err((error, _)) => Err(error),
+        }
+    }
+}
