@@ -10,6 +10,7 @@ input does, 4 if it is quadratic, 8 if it is cubic. A figure is the processor ti
 program, or the most memory that it had at once (or Python's own 17 MB, if that is more). Figures of runs under two
 seconds are medians of three. With --full the lengths are large: the programs' limits, or what takes a minute. What
 is printed is a table in Markdown. Nothing is compared with a limit, since the figures are the machine's.
+--calls prints instead of what the time of each public call and listing depends.
 
 The programs have to be built: .ci/run leaves them, and so do ./argus --prove and its like. ARGUS, REPLAY and PICTURE
 in the environment name others.
@@ -297,6 +298,32 @@ def cost_at(row: Row, length: int) -> Cost:
         return cost([program(name), *words], path)
 
 
+# Of what the time of public calls depends, beside the lengths of what they are given and of what they return.
+CALLS = {
+    "declare, begin_top, begin_sub, begin_nested": "nothing",
+    "status, shape, base, holders, versions, objects, journal": "nothing",
+    "ask, test_read, can_read": "how deep the action is; the logarithm of the object's readers",
+    "alter, test_write, can_write, access_refusal": "the same; an action's first change copies the content",
+    "commit, ready_commit, make, effect": "the objects that the action holds",
+    "abort": "the actions begun under it, ended ones too, and the objects that they hold",
+    "abort_others": "the siblings down to the oldest live one, and what an abort of each live one visits",
+    "abort_live": "the actions since the opening, and what an abort of each live one visits",
+    "live": "the actions from the given one to the next that is live",
+    "checkpoint, starting_at": "the entries that are dropped; the objects with their contents",
+    "owner_of, replay_for, replay_base": "the entries",
+    "Shared: call, answer, call_each": "the call itself; with lookers, a commit makes its changes in two tables",
+    "Shared: call_waiting, answer_waiting": "the same for each time that it is woken",
+    "Shared: brief, refresh": "what isn't published yet",
+    "Shared: checkpoint; settle, check": "the guardian's checkpoint; the receipts",
+    "look": "the objects that are looked at",
+    "listings Bases and Stacks": "the objects with their contents and holders",
+    "listing Journal; resume": "the entries, and the opening's objects; each line as its call",
+    "listing Audit": "the entries and the objects",
+    "parse; runs of scripts": "the bytes, and the logarithm of the names; the calls",
+    "pictures": "the entries, and what is drawn of their contents",
+}
+
+
 def rounded(figure: float) -> str:
     """Two digits, or all of those before the point."""
     return f"{figure:,.0f}" if figure >= 10 else f"{figure:.2g}"
@@ -323,11 +350,16 @@ def main() -> None:
     names = [row.name for row in ROWS]
     parser = argparse.ArgumentParser(description=(__doc__ or "").splitlines()[0])
     parser.add_argument("--full", action="store_true", help="the large lengths, which take some minutes")
+    parser.add_argument("--calls", action="store_true", help="of what the time of each public call depends")
     parser.add_argument("rows", nargs="*", metavar="ROW", help=f"one of {', '.join(names)}; by default all")
     options = parser.parse_args()
     for name in options.rows:
         if name not in names:
             parser.error(f"no row {name}: {', '.join(names)}")
+    if options.calls:
+        print("| Call | Its time depends on |\n|---|---|")
+        print("\n".join(f"| {call} | {what} |" for call, what in CALLS.items()))
+        return
     print("| Row | It should depend on | First | Second | Ratio |\n|---|---|---|---|---|")
     for row in ROWS:
         if not options.rows or row.name in options.rows:
