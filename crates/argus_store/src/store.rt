@@ -68,8 +68,9 @@ impl<S: Alter> Store<S> {
     /// Appends the lines of a journal from entry `first` on, with their sum, after which the entry
     /// `next` comes. `Ok(true)`: they are in the log, and each crash from now on leaves them there.
     /// `Ok(false)`: another entry comes next in the log, or they have no entry, and nothing changed.
-    /// At an error the log is as before, if it is still open. A crash at any moment of the call
-    /// leaves the log from before or the longer one.
+    /// At an error the log is as before, if it is still open. A crash leaves the log from before or
+    /// the longer one: the clause says so of the call's end, and that it holds at each moment of the
+    /// call is the kit's argument (sqlite_wal).
     pub fn append(&mut self, first: i64, lines: &str, sum: i64, next: i64) -> Result<bool, Error>
         ensures appended { (j : Journal) → HasLog (state S.Store self.old) j
             → HasCleanDisk (state S.Store self.new)
