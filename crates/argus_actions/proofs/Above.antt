@@ -3,12 +3,9 @@ use Rattle.std.proofs.Common.{◌≡◌, ◌≢◌, ℕ, ◌+◌, ◌<◌, ◌�
 use Rattle.std.proofs.Common.{None, subst, refl, sym, ◌∙◌, ap, arith, inl, inr, ◌⊎◌}
 use Rattle.std.proofs.lemmas.Bool.{eq-eqb, ne_eqb, cases_eq, or_left, or_right, false≢true}
 use Rattle.std.specs.Option.{option_and_then}
-use Rattle.argus_actions.specs.declared.action_id.ActionId.{ActionId}
-use Rattle.argus_actions.specs.declared.origin.Origin.{Origin}
-use Rattle.argus_actions.specs.declared.origin.Origin.TheVariants.{Top, Sub, Nested}
-use Rattle.argus_actions.specs.Row.{Row, at_parent}
-use Rattle.argus_actions.specs.Rows.{numbered, is_above}
-use Rattle.argus_actions.specs.Tree.{parent_by_origin}
+use Rattle.argus_actions.specs.{declared.action_id.ActionId.ActionId, declared.origin.Origin.Origin}
+use Rattle.argus_actions.specs.{declared.origin.Origin.TheVariants.{Top, Sub, Nested}, Row.{Row, at_parent}}
+use Rattle.argus_actions.specs.{Rows.{numbered, is_above}, Tree.parent_by_origin}
 use Rattle.argus_actions.proofs.RowsLemmas.{is_above_newest, is_above_older, numbered_newest, numbered_older}
 use Rattle.argus_actions.proofs.Parents.{origin_of}
 

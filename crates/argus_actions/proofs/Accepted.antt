@@ -1,18 +1,13 @@
 -- What holds of an action that no refusal names.
 use Rattle.std.proofs.Common.{◌≡◌, ℕ, ◌<◌, ◌≤◌, Bool, true, false, cond, Option, Some, None, refl, sym, ◌∙◌, ap, inl}
-use Rattle.std.proofs.Common.{inr}
+use Rattle.std.proofs.{Common.inr, lemmas.Bool.{lt-ltb, le-ltb, cases_lt}}
 use Rattle.std.specs.Option.{option_or, option_map, option_map_or}
-use Rattle.std.proofs.lemmas.Bool.{lt-ltb, le-ltb, cases_lt}
-use Rattle.argus_actions.specs.declared.action_refusal.ActionRefusal.{ActionRefusal}
-use Rattle.argus_actions.specs.declared.action_refusal.ActionRefusal.TheVariants.{ChildrenLive}
-use Rattle.argus_actions.specs.declared.status.Status.{Status}
-use Rattle.argus_actions.specs.declared.status.Status.TheVariants.{Live, Committed, Aborted, Folded}
-use Rattle.argus_actions.specs.Row.{Row, is_live}
-use Rattle.argus_actions.specs.Rows.{is_live_at}
+use Rattle.argus_actions.specs.{declared.action_refusal.ActionRefusal.ActionRefusal, declared.status.Status.Status}
+use Rattle.argus_actions.specs.{declared.action_refusal.ActionRefusal.TheVariants.ChildrenLive, Row.{Row, is_live}}
+use Rattle.argus_actions.specs.{declared.status.Status.TheVariants.{Live, Committed, Aborted, Folded}, Rows.is_live_at}
 use Rattle.argus_actions.specs.Tree.{Tree, next, row_of, status_of, has_live_child}
 use Rattle.argus_actions.specs.Refusals.{unless_live, refused_if, commit_refusal}
-use Rattle.argus_actions.proofs.RowsLemmas.{some_row, row_begun}
-use Rattle.argus_actions.proofs.InStep.{live_at, is_live_is}
+use Rattle.argus_actions.proofs.{RowsLemmas.{some_row, row_begun}, InStep.{live_at, is_live_is}}
 
 some_none : {x : ActionRefusal} → Some x ≡ None → ⊥
 some_none e = cc

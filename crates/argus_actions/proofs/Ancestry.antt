@@ -1,16 +1,12 @@
 -- Whether some ancestor of an action passes a test.
 use Rattle.std.proofs.Common.{◌≡◌, ℕ, ◌+◌, ◌<◌, ◌≤◌, Bool, true, false, eqb, ◌||◌, List, [], ◌∷◌, length, Some, refl}
 use Rattle.std.proofs.Common.{sym, ◌∙◌, ap, arith, inl, inr}
-use Rattle.std.proofs.lemmas.Bool.{cases_eq}
-use Rattle.argus_actions.specs.declared.origin.Origin.{Origin}
-use Rattle.argus_actions.specs.declared.origin.Origin.TheVariants.{Top, Sub, Nested}
-use Rattle.argus_actions.specs.Row.{Row, at_parent}
-use Rattle.argus_actions.specs.Rows.{numbered, is_above, has_ancestor}
-use Rattle.argus_actions.specs.Nodes.{AreLinked}
+use Rattle.std.proofs.lemmas.Bool.{cases_eq, eq-eqb, ne_eqb, cond-true, cond-false}
+use Rattle.argus_actions.specs.{declared.origin.Origin.Origin, declared.origin.Origin.TheVariants.{Top, Sub, Nested}}
+use Rattle.argus_actions.specs.{Row.{Row, at_parent}, Rows.{numbered, is_above, has_ancestor}, Nodes.AreLinked}
 use Rattle.argus_actions.proofs.RowsLemmas.{eqb_comm, some_row, none_some, numbered_newest, numbered_older}
 use Rattle.argus_actions.proofs.RowsLemmas.{begun_before, linked_at, at_parent_between, is_above_newest, is_above_older}
 use Rattle.argus_actions.proofs.Marks.{at_parent_same}
-use Rattle.std.proofs.lemmas.Bool.{eq-eqb, ne_eqb, cond-true, cond-false}
 
 pub has_ancestor_newest : (s : ℕ → Bool) (n : ℕ) (row : Row) (older : List Row) (y : ℕ) → y ≡ n + length older
     → has_ancestor s n (row ∷ older) y ≡ (s y || at_parent false row.origin (has_ancestor s n older))

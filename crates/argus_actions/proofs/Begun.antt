@@ -1,21 +1,17 @@
 -- The nodes after an action was begun.
 use Rattle.std.proofs.Common.{◌≡◌, ℕ, suc, ◌+◌, ◌<◌, ◌≤◌, Bool, false, cond, ltb, ◌&&◌, List, [], ◌∷◌, ◌++◌, length}
 use Rattle.std.proofs.Common.{get_or, Option, Some, None, IfSome, subst, refl, sym, ◌∙◌, ap, arith, inl, inr, ◌⊎◌}
-use Rattle.std.proofs.Math.Bool.{and-false, and-true}
+use Rattle.std.proofs.{Math.Bool.{and-false, and-true}, lemmas.List.{length-append, get_or_append_left, get_or_push}}
 use Rattle.std.proofs.lemmas.Bool.{eq-eqb, ne_eqb, lt-ltb, le-ltb, cases_eq, cases_Bool}
-use Rattle.std.proofs.lemmas.List.{length-append, get_or_append_left, get_or_push}
 use Rattle.argus_contents.specs.declared.limits.TheConstants.{MAX_ACTIONS, MAX_ACTION_DEPTH}
-use Rattle.argus_actions.specs.declared.node.Node.{Node}
-use Rattle.argus_actions.specs.declared.origin.Origin.{Origin}
+use Rattle.argus_actions.specs.{declared.node.Node.Node, declared.origin.Origin.Origin, Rows.newest_child_below}
 use Rattle.argus_actions.specs.declared.origin.Origin.TheVariants.{Top, Sub, Nested}
 use Rattle.argus_actions.specs.declared.status.Status.TheVariants.{Live}
 use Rattle.argus_actions.specs.Row.{Row, at_parent, under_of, is_sub_of, is_begun_under, is_live}
 use Rattle.argus_actions.specs.Rows.{depth_at, is_live_under, live_count, newest_where, newest_below}
-use Rattle.argus_actions.specs.Rows.{newest_child_below}
 use Rattle.argus_actions.specs.Nodes.{row_of_node, rows_of, IsBegunBetween, AreLinked, AreNodes, IsNode, link_to}
 use Rattle.argus_actions.specs.Nodes.{adopted, fresh, older_sub_link, older_child_link}
-use Rattle.argus_actions.proofs.RowsLemmas.{depth_at_older}
-use Rattle.argus_actions.proofs.Marks.{at_parent_same, each_under}
+use Rattle.argus_actions.proofs.{RowsLemmas.depth_at_older, Marks.{at_parent_same, each_under}}
 use Rattle.argus_actions.proofs.NodesLemmas.{length-rows_of, rows_of-push, rows_of-same}
 
 -- a bound past all actions is no bound

@@ -1,15 +1,10 @@
 -- The walk up to an ancestor.
 use Rattle.std.proofs.Common.{◌≡◌, ℕ, ◌+◌, ◌<◌, ◌≤◌, true, false, eqb, ◌||◌, List, length, get_or, subst, refl, ◌∙◌, ap}
-use Rattle.std.proofs.Common.{arith, ◌⊎◌, inl, inr}
-use Rattle.std.proofs.lemmas.Bool.{eq-eqb, ne_eqb}
-use Rattle.argus_actions.specs.declared.node.Node.{Node}
-use Rattle.argus_actions.specs.declared.origin.Origin.{Origin}
+use Rattle.std.proofs.{Common.{arith, ◌⊎◌, inl, inr}, lemmas.Bool.{eq-eqb, ne_eqb}}
+use Rattle.argus_actions.specs.{declared.node.Node.Node, declared.origin.Origin.Origin, Row.at_parent, Rows.is_above}
 use Rattle.argus_actions.specs.declared.origin.Origin.TheVariants.{Top, Sub, Nested}
-use Rattle.argus_actions.specs.Row.{at_parent}
-use Rattle.argus_actions.specs.Rows.{is_above}
 use Rattle.argus_actions.specs.Nodes.{row_of_node, rows_of, IsBegunBetween, AreLinked}
-use Rattle.argus_actions.proofs.RowsLemmas.{linked_at, is_above_step}
-use Rattle.argus_actions.proofs.NodesLemmas.{row_at}
+use Rattle.argus_actions.proofs.{RowsLemmas.{linked_at, is_above_step}, NodesLemmas.row_at}
 
 -- the action of a node was begun under an older one
 pub came_between : (n : ℕ) (nodes : List Node) (a k : ℕ) (d : Node) → AreLinked n (rows_of nodes) → a ≡ n + k

@@ -1,13 +1,10 @@
 -- How many numbers below a bound pass a test, and so how many live actions were begun under one.
 use Rattle.std.proofs.Common.{◌≡◌, ℕ, zero, suc, ◌+◌, ◌<◌, Bool, true, false, eqb, not, ◌&&◌, List, [], ◌∷◌, length}
-use Rattle.std.proofs.Common.{refl, sym, ◌∙◌, ap, arith, inl, inr}
-use Rattle.std.specs.Option.{option_map_or}
-use Rattle.std.proofs.Math.Bool.{and-true}
+use Rattle.std.proofs.{Common.{refl, sym, ◌∙◌, ap, arith, inl, inr}, Math.Bool.and-true}
 use Rattle.std.proofs.lemmas.Bool.{eq-eqb, ne_eqb, cases_eq}
-use Rattle.argus_actions.specs.Row.{Row, is_begun_under, is_live}
-use Rattle.argus_actions.specs.Rows.{is_live_at, is_child_of, live_count}
-use Rattle.argus_actions.proofs.RowsLemmas.{numbered_newest, numbered_older}
-use Rattle.argus_actions.proofs.Marks.{one}
+use Rattle.std.specs.Option.{option_map_or}
+use Rattle.argus_actions.specs.{Row.{Row, is_begun_under, is_live}, Rows.{is_live_at, is_child_of, live_count}}
+use Rattle.argus_actions.proofs.{RowsLemmas.{numbered_newest, numbered_older}, Marks.one}
 
 -- how many numbers below the bound pass the test
 abbrev pub count : (ℕ → Bool) → ℕ → ℕ

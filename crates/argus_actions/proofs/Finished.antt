@@ -3,14 +3,12 @@ use Rattle.std.proofs.Common.{◌≡◌, ℕ, ◌+◌, ◌-◌, ◌<◌, Bool, t
 use Rattle.std.proofs.Common.{Some, None, refl, sym, ◌∙◌, ap, arith, inl, inr}
 use Rattle.std.proofs.lemmas.Bool.{eq-eqb, ne_eqb, cases_eq, and_right}
 use Rattle.std.proofs.lemmas.List.{get_or-set_same, get_or-set_other, get_or_default, length-set}
-use Rattle.argus_actions.specs.declared.node.Node.{Node}
-use Rattle.argus_actions.specs.declared.status.Status.{Status}
+use Rattle.argus_actions.specs.{declared.node.Node.Node, declared.status.Status.Status}
 use Rattle.argus_actions.specs.Row.{Row, under_of, is_sub_of, is_begun_under, is_live, with_status}
 use Rattle.argus_actions.specs.Rows.{numbered, mark, live_count}
 use Rattle.argus_actions.specs.Nodes.{row_of_node, rows_of, AreNodes, IsNode, link_to}
-use Rattle.argus_actions.proofs.RowsLemmas.{eqb_comm}
+use Rattle.argus_actions.proofs.{RowsLemmas.eqb_comm, Marks.{each_under, live_count-mark, one}}
 use Rattle.argus_actions.proofs.Marks.{at_parent_same, length-mark, AreLinked-mark, depth_at-mark, newest_where-mark}
-use Rattle.argus_actions.proofs.Marks.{each_under, live_count-mark, one}
 use Rattle.argus_actions.proofs.NodesLemmas.{some_node, row_at, rows_of-marked}
 
 -- the node of a number, once the action `ended`, whose node was `last`, has ended with a status

@@ -1,19 +1,16 @@
 -- That each subaction is over no later than its parent, after each change of the rows.
 use Rattle.std.proofs.Common.{◌≡◌, ℕ, ◌+◌, ◌<◌, ◌≤◌, Bool, true, false, cond, eqb, not, ◌||◌, ◌&&◌, List, [], ◌∷◌}
 use Rattle.std.proofs.Common.{length, Option, Some, None, subst, refl, sym, ◌∙◌, ap, arith, inl, inr}
-use Rattle.std.specs.Option.{option_map_or}
 use Rattle.std.proofs.lemmas.Bool.{eq-eqb, ne_eqb, cases_eq, cases_Bool, or_right, false≢true}
-use Rattle.argus_actions.specs.declared.origin.Origin.{Origin}
-use Rattle.argus_actions.specs.declared.origin.Origin.TheVariants.{Sub}
-use Rattle.argus_actions.specs.declared.status.Status.{Status}
+use Rattle.std.specs.Option.{option_map_or}
+use Rattle.argus_actions.specs.{declared.origin.Origin.Origin, declared.origin.Origin.TheVariants.Sub}
+use Rattle.argus_actions.specs.{declared.status.Status.Status, Nodes.{IsBegunBetween, AreLinked}}
 use Rattle.argus_actions.specs.declared.status.Status.TheVariants.{Live, Committed, Aborted, Folded}
 use Rattle.argus_actions.specs.Row.{Row, at_parent, is_begun_under, is_live, may_follow, with_status}
 use Rattle.argus_actions.specs.Rows.{numbered, is_above, mark, is_live_at, is_live_under, has_ancestor, AreInStep}
-use Rattle.argus_actions.specs.Nodes.{IsBegunBetween, AreLinked}
 use Rattle.argus_actions.proofs.RowsLemmas.{row_there, is_above_older, some_row, none_some, numbered_newest}
 use Rattle.argus_actions.proofs.RowsLemmas.{numbered_older, row_begun, linked_at, is_above_step}
-use Rattle.argus_actions.proofs.Marks.{numbered-mark, numbered-mark_none, origin_marked}
-use Rattle.argus_actions.proofs.Ancestry.{has_ancestor_step}
+use Rattle.argus_actions.proofs.{Marks.{numbered-mark, numbered-mark_none, origin_marked}, Ancestry.has_ancestor_step}
 use Rattle.argus_actions.proofs.Above.{ways, above_le}
 
 -- the row that a marked one was

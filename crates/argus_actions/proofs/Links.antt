@@ -1,18 +1,13 @@
 -- Where the links of a node lead.
 use Rattle.std.proofs.Common.{◌≡◌, ℕ, ◌+◌, ◌<◌, Bool, List, length, get_or, Option, Some, None, subst, refl, sym, ◌∙◌}
-use Rattle.std.proofs.Common.{ap, arith}
+use Rattle.std.proofs.{Common.{ap, arith}, lemmas.Bool.ne_eqb}
 use Rattle.std.specs.Option.{option_and_then}
-use Rattle.std.proofs.lemmas.Bool.{ne_eqb}
-use Rattle.argus_actions.specs.declared.node.TheConstants.{NONE}
-use Rattle.argus_actions.specs.declared.node.Node.{Node}
-use Rattle.argus_actions.specs.declared.origin.Origin.{Origin}
-use Rattle.argus_actions.specs.declared.origin.Origin.TheVariants.{Top, Sub, Nested}
+use Rattle.argus_actions.specs.{declared.node.TheConstants.NONE, declared.node.Node.Node, declared.origin.Origin.Origin}
+use Rattle.argus_actions.specs.{declared.origin.Origin.TheVariants.{Top, Sub, Nested}, Tree.named}
 use Rattle.argus_actions.specs.Row.{at_parent, under_of, is_sub_of, is_begun_under}
 use Rattle.argus_actions.specs.Rows.{newest_where, newest_below, newest_child_below}
-use Rattle.argus_actions.specs.Tree.{named}
 use Rattle.argus_actions.specs.Nodes.{rows_of, AreNodes, IsNode, link_to, link_end}
-use Rattle.argus_actions.proofs.NodesLemmas.{length-rows_of}
-use Rattle.argus_actions.proofs.Newest.{newest_where_at}
+use Rattle.argus_actions.proofs.{NodesLemmas.length-rows_of, Newest.newest_where_at}
 
 -- a link leads to the action that it was made for
 link_end-link_to : (o : Option ℕ) → ((a : ℕ) → o ≡ Some a → a < NONE) → link_end (link_to o) ≡ named o

@@ -1,15 +1,12 @@
 -- Rows whose statuses have changed.
 use Rattle.std.proofs.Common.{◌≡◌, ℕ, suc, ◌+◌, ◌<◌, ◌≤◌, Bool, true, false, cond, eqb, ltb, ◌||◌, ◌&&◌, List, [], ◌∷◌}
-use Rattle.std.proofs.Common.{length, Option, Some, None, refl, sym, ◌∙◌, ap, arith, inl, inr}
-use Rattle.std.proofs.Math.Bool.{and-false}
-use Rattle.std.specs.Option.{option_and_then}
+use Rattle.std.proofs.{Common.{length, Option, Some, None, refl, sym, ◌∙◌, ap, arith, inl, inr}, Math.Bool.and-false}
 use Rattle.std.proofs.lemmas.Bool.{eq-eqb, ne_eqb, cases_eq, cases_Bool}
-use Rattle.argus_actions.specs.declared.origin.Origin.{Origin}
-use Rattle.argus_actions.specs.declared.origin.Origin.TheVariants.{Top, Sub, Nested}
-use Rattle.argus_actions.specs.declared.status.Status.{Status}
+use Rattle.std.specs.Option.{option_and_then}
+use Rattle.argus_actions.specs.{declared.origin.Origin.Origin, declared.origin.Origin.TheVariants.{Top, Sub, Nested}}
+use Rattle.argus_actions.specs.{declared.status.Status.Status, Nodes.AreLinked}
 use Rattle.argus_actions.specs.Row.{Row, at_parent, is_begun_under, is_live, with_status}
 use Rattle.argus_actions.specs.Rows.{numbered, is_above, depth_at, live_count, mark, newest_where}
-use Rattle.argus_actions.specs.Nodes.{AreLinked}
 use Rattle.argus_actions.proofs.RowsLemmas.{some_row, none_some, numbered_newest, numbered_older}
 
 pub length-mark : (n : ℕ) (which : ℕ → Bool) (s : Status) (rows : List Row) → length (mark n which s rows) ≡ length rows

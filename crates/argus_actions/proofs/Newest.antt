@@ -1,11 +1,9 @@
 -- The newest action below a bound that passes a test: what holds of it, and that none between passes.
 use Rattle.std.proofs.Common.{◌≡◌, ℕ, ◌+◌, ◌<◌, ◌≤◌, Bool, true, false, ltb, ◌&&◌, List, [], ◌∷◌, length, Option, Some}
 use Rattle.std.proofs.Common.{None, refl, sym, ◌∙◌, ap, arith, inl, inr}
-use Rattle.std.specs.Option.{option_map_or}
 use Rattle.std.proofs.lemmas.Bool.{ltb-true, lt-ltb, cases_eq, cases_lt, cases_Bool, and_parts, and_from, both_ways}
-use Rattle.argus_actions.specs.declared.origin.Origin.{Origin}
-use Rattle.argus_actions.specs.Row.{Row}
-use Rattle.argus_actions.specs.Rows.{numbered, newest_where, has_origin}
+use Rattle.std.specs.Option.{option_map_or}
+use Rattle.argus_actions.specs.{declared.origin.Origin.Origin, Row.Row, Rows.{numbered, newest_where, has_origin}}
 use Rattle.argus_actions.specs.Tree.{named, IsGreatestBelow}
 use Rattle.argus_actions.proofs.RowsLemmas.{some_row, none_some, numbered_newest, numbered_older, row_begun}
 

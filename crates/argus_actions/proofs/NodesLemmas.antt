@@ -3,16 +3,12 @@ use Rattle.std.proofs.Common.{◌≡◌, ℕ, suc, ◌+◌, ◌-◌, ◌<◌, �
 use Rattle.std.proofs.Common.{map, get_or, Option, Some, None, IfSome, subst, refl, sym, ◌∙◌, ap, arith, inl, inr}
 use Rattle.std.proofs.lemmas.Bool.{eq-eqb, cases_eq}
 use Rattle.std.proofs.lemmas.List.{length-reverse, length-map, get_or-reverse, get_or-map, reverse-append}
-use Rattle.argus_actions.specs.declared.node.Node.{Node}
-use Rattle.argus_actions.specs.declared.origin.Origin.TheVariants.{Top}
-use Rattle.argus_actions.specs.declared.status.Status.TheVariants.{Live}
-use Rattle.argus_actions.specs.declared.status.Status.{Status}
+use Rattle.argus_actions.specs.{declared.node.Node.Node, declared.origin.Origin.TheVariants.Top}
+use Rattle.argus_actions.specs.{declared.status.Status.TheVariants.Live, declared.status.Status.Status}
 use Rattle.argus_actions.specs.Row.{Row, under_of, is_begun_under, is_live, with_status}
-use Rattle.argus_actions.specs.Rows.{numbered, mark, live_count}
-use Rattle.argus_actions.specs.Nodes.{row_of_node, rows_of, AreNodes}
+use Rattle.argus_actions.specs.{Rows.{numbered, mark, live_count}, Nodes.{row_of_node, rows_of, AreNodes}}
 use Rattle.argus_actions.proofs.RowsLemmas.{some_row, none_some, linked_at, numbered_newest, numbered_older}
-use Rattle.argus_actions.proofs.RowsLemmas.{numbered_past, same_numbered}
-use Rattle.argus_actions.proofs.Marks.{length-mark, numbered-mark}
+use Rattle.argus_actions.proofs.{RowsLemmas.{numbered_past, same_numbered}, Marks.{length-mark, numbered-mark}}
 
 pub length-rows_of : (nodes : List Node) → length (rows_of nodes) ≡ length nodes
 length-rows_of nodes = length-map (reverse nodes) row_of_node ∙ length-reverse nodes

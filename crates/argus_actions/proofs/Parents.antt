@@ -1,15 +1,10 @@
 -- The parent of an action is one of its ancestors.
 use Rattle.std.proofs.Common.{◌≡◌, ℕ, ◌+◌, ◌<◌, ◌≤◌, Bool, true, false, eqb, ◌||◌, List, [], ◌∷◌, length, Option, Some}
-use Rattle.std.proofs.Common.{None, subst, refl, ◌∙◌, ap, arith, inl, inr}
+use Rattle.std.proofs.{Common.{None, subst, refl, ◌∙◌, ap, arith, inl, inr}, lemmas.Bool.{eq-eqb, cases_eq, cases_lt}}
 use Rattle.std.specs.Option.{option_and_then}
-use Rattle.std.proofs.lemmas.Bool.{eq-eqb, cases_eq, cases_lt}
-use Rattle.argus_actions.specs.declared.action_id.ActionId.{ActionId}
-use Rattle.argus_actions.specs.declared.origin.Origin.{Origin}
-use Rattle.argus_actions.specs.declared.origin.Origin.TheVariants.{Top, Sub, Nested}
-use Rattle.argus_actions.specs.Row.{Row, at_parent}
-use Rattle.argus_actions.specs.Rows.{numbered, is_above}
-use Rattle.argus_actions.specs.Tree.{parent_by_origin}
-use Rattle.argus_actions.specs.Nodes.{IsBegunBetween, AreLinked}
+use Rattle.argus_actions.specs.{declared.action_id.ActionId.ActionId, declared.origin.Origin.Origin}
+use Rattle.argus_actions.specs.{declared.origin.Origin.TheVariants.{Top, Sub, Nested}, Row.{Row, at_parent}}
+use Rattle.argus_actions.specs.{Rows.{numbered, is_above}, Tree.parent_by_origin, Nodes.{IsBegunBetween, AreLinked}}
 use Rattle.argus_actions.proofs.RowsLemmas.{linked_at, begun_before, is_above_newest, is_above_older, is_above_step}
 
 -- an action that was begun is its own ancestor

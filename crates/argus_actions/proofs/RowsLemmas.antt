@@ -2,10 +2,8 @@
 use Rattle.std.proofs.Common.{◌≡◌, ◌≢◌, ℕ, ◌+◌, ◌<◌, ◌≤◌, false, eqb, ◌||◌, List, [], ◌∷◌, length, Some, None, subst}
 use Rattle.std.proofs.Common.{refl, sym, ◌∙◌, ap, arith, inl, inr}
 use Rattle.std.proofs.lemmas.Bool.{eq-eqb, ne_eqb, cond-true, cond-false, cases_eq, cases_lt}
-use Rattle.argus_actions.specs.declared.origin.Origin.{Origin}
-use Rattle.argus_actions.specs.declared.origin.Origin.TheVariants.{Top, Sub, Nested}
-use Rattle.argus_actions.specs.Row.{Row, at_parent}
-use Rattle.argus_actions.specs.Rows.{numbered, is_above, depth_at}
+use Rattle.argus_actions.specs.{declared.origin.Origin.Origin, declared.origin.Origin.TheVariants.{Top, Sub, Nested}}
+use Rattle.argus_actions.specs.{Row.{Row, at_parent}, Rows.{numbered, is_above, depth_at}}
 use Rattle.argus_actions.specs.Nodes.{IsBegunBetween, AreLinked}
 
 pub eqb_comm : (a b : ℕ) → eqb a b ≡ eqb b a

@@ -2,25 +2,20 @@
 -- and how many live ones are left.
 use Rattle.std.proofs.Common.{◌≡◌, ℕ, ◌+◌, ◌-◌, ◌<◌, ◌≤◌, Bool, true, false, cond, eqb, leb, not, ◌||◌, ◌&&◌, List}
 use Rattle.std.proofs.Common.{length, get_or, Option, Some, None, IfSome, subst, refl, sym, ◌∙◌, ap, arith, inl, inr}
-use Rattle.std.specs.Option.{option_and_then, option_map_or}
-use Rattle.std.proofs.Math.Bool.{and-false, or-false}
+use Rattle.std.proofs.{Math.Bool.{and-false, or-false}, lemmas.Bool.and_from}
 use Rattle.std.proofs.lemmas.Bool.{eq-eqb, ne_eqb, eqb-true, le-leb, lt-leb, cases_eq, cases_lt, cases_Bool, and_parts}
-use Rattle.std.proofs.lemmas.Bool.{and_from}
-use Rattle.argus_actions.specs.declared.node.TheConstants.{NONE}
-use Rattle.argus_actions.specs.declared.node.Node.{Node}
-use Rattle.argus_actions.specs.declared.origin.Origin.{Origin}
+use Rattle.std.specs.Option.{option_and_then, option_map_or}
+use Rattle.argus_actions.specs.{declared.node.TheConstants.NONE, declared.node.Node.Node, declared.origin.Origin.Origin}
 use Rattle.argus_actions.specs.declared.origin.Origin.TheVariants.{Top, Sub, Nested}
 use Rattle.argus_actions.specs.declared.status.Status.TheVariants.{Aborted}
 use Rattle.argus_actions.specs.Row.{Row, under_of, is_begun_under, is_live, with_status}
 use Rattle.argus_actions.specs.Rows.{numbered, is_above, mark, newest_child_below, under_at, is_live_at, is_child_of}
 use Rattle.argus_actions.specs.Rows.{is_live_sibling_of, has_ancestor, live_count}
 use Rattle.argus_actions.specs.Nodes.{row_of_node, rows_of, AreNodes, link_to}
-use Rattle.argus_actions.proofs.RowsLemmas.{some_row, row_begun, linked_at}
+use Rattle.argus_actions.proofs.{RowsLemmas.{some_row, row_begun, linked_at}, Counted.{is_live_child_of, live_count_is}}
 use Rattle.argus_actions.proofs.Counted.{count, count_same, count_none, count_some, count_down, count_but}
-use Rattle.argus_actions.proofs.Counted.{is_live_child_of, live_count_is}
-use Rattle.argus_actions.proofs.Marks.{one}
-use Rattle.argus_actions.proofs.Marks.{newest_where-mark, is_above-mark, mark-mark, mark-same, mark_none, numbered-mark}
-use Rattle.argus_actions.proofs.NodesLemmas.{some_node, length-rows_of, row_at}
+use Rattle.argus_actions.proofs.Marks.{one, newest_where-mark, is_above-mark, mark-mark, mark-same, mark_none}
+use Rattle.argus_actions.proofs.{Marks.numbered-mark, NodesLemmas.{some_node, length-rows_of, row_at}}
 use Rattle.argus_actions.proofs.Newest.{came_row, newest_where_at, newest_where_most, newest_where_no}
 use Rattle.argus_actions.proofs.Ancestry.{has_ancestor_same, has_ancestor_or, has_ancestor_one, has_ancestor_none}
 use Rattle.argus_actions.proofs.Walks.{link_some, link_none, steps_left, fewer_steps}

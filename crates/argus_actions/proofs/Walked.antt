@@ -1,14 +1,9 @@
 -- The nodes in the middle of an abort: which rows are Aborted so far, and which subaction comes next.
 use Rattle.std.proofs.Common.{◌≡◌, ◌≢◌, ℕ, ◌+◌, ◌<◌, ◌≤◌, eqb, ◌||◌, List, length, get_or, Some, None, sym, ◌∙◌, ap}
-use Rattle.std.proofs.Common.{arith}
-use Rattle.std.proofs.Math.Bool.{or-false, or_assoc}
-use Rattle.argus_actions.specs.declared.node.TheConstants.{NONE}
-use Rattle.argus_actions.specs.declared.node.Node.{Node}
-use Rattle.argus_actions.specs.declared.origin.Origin.{Origin}
-use Rattle.argus_actions.specs.declared.status.Status.TheVariants.{Aborted}
-use Rattle.argus_actions.specs.Row.{Row, at_parent, is_sub_of}
-use Rattle.argus_actions.specs.Rows.{is_above, mark, newest_below}
-use Rattle.argus_actions.specs.Nodes.{row_of_node, rows_of, AreNodes, link_to}
+use Rattle.std.proofs.{Common.arith, Math.Bool.{or-false, or_assoc}}
+use Rattle.argus_actions.specs.{declared.node.TheConstants.NONE, declared.node.Node.Node, declared.origin.Origin.Origin}
+use Rattle.argus_actions.specs.{declared.status.Status.TheVariants.Aborted, Row.{Row, at_parent, is_sub_of}}
+use Rattle.argus_actions.specs.{Rows.{is_above, mark, newest_below}, Nodes.{row_of_node, rows_of, AreNodes, link_to}}
 use Rattle.argus_actions.proofs.Marks.{newest_where-mark, is_above-mark, mark-mark, mark-same}
 use Rattle.argus_actions.proofs.NodesLemmas.{some_node, length-rows_of, row_at}
 use Rattle.argus_actions.proofs.Walks.{is_via, is_handled, IsNewestSub, newest_sub_is, via_past, via_more, via_all}

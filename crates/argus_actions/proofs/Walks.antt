@@ -1,15 +1,11 @@
 -- The walk down over the subactions of an action, the newest first.
 use Rattle.std.proofs.Common.{◌≡◌, ◌≢◌, ℕ, ◌+◌, ◌<◌, ◌≤◌, Bool, true, false, cond, eqb, ltb, leb, ◌||◌, ◌&&◌, List, []}
 use Rattle.std.proofs.Common.{◌∷◌, length, Option, Some, None, subst, refl, sym, ◌∙◌, ap, arith, inl, inr}
-use Rattle.std.proofs.Math.Bool.{or-true}
+use Rattle.std.proofs.{Math.Bool.or-true, lemmas.Bool.{cases_Bool, and_parts, and_from, both_ways}}
 use Rattle.std.proofs.lemmas.Bool.{eq-eqb, ne_eqb, eqb-true, lt-ltb, ltb-true, le-leb, lt-leb, cases_eq, cases_lt}
-use Rattle.std.proofs.lemmas.Bool.{cases_Bool, and_parts, and_from, both_ways}
-use Rattle.argus_actions.specs.declared.node.TheConstants.{NONE}
-use Rattle.argus_actions.specs.declared.origin.Origin.{Origin}
+use Rattle.argus_actions.specs.{declared.node.TheConstants.NONE, declared.origin.Origin.Origin, Row.{Row, at_parent}}
 use Rattle.argus_actions.specs.declared.origin.Origin.TheVariants.{Top, Sub, Nested}
-use Rattle.argus_actions.specs.Row.{Row, at_parent}
-use Rattle.argus_actions.specs.Rows.{numbered, is_above, newest_below}
-use Rattle.argus_actions.specs.Nodes.{IsBegunBetween, AreLinked, link_to}
+use Rattle.argus_actions.specs.{Rows.{numbered, is_above, newest_below}, Nodes.{IsBegunBetween, AreLinked, link_to}}
 use Rattle.argus_actions.proofs.RowsLemmas.{eqb_comm, at_parent_between, some_row, numbered_newest, numbered_older}
 use Rattle.argus_actions.proofs.RowsLemmas.{is_above_newest, is_above_older, is_above_newer}
 

@@ -1,17 +1,12 @@
 -- What a tree keeps of its actions, oldest first, and what its nodes say besides their rows.
-use Rattle.std.specs.Prelude.{◌≡◌, ℕ, ◌+◌, ◌<◌, ◌≤◌, ◌==◌, if◌then◌else◌, List, [], ◌∷◌}
-use Rattle.std.specs.Prelude.{length, reverse, map, get_or, Option, Some, None, IfSome}
-use Rattle.std.specs.Option.{option_and_then}
+use Rattle.std.specs.Prelude.{◌≡◌, ℕ, ◌+◌, ◌<◌, ◌≤◌, ◌==◌, if◌then◌else◌, List, [], ◌∷◌, length, reverse, map, get_or}
+use Rattle.std.specs.{Prelude.{Option, Some, None, IfSome}, Option.option_and_then}
 use Rattle.argus_contents.specs.declared.limits.TheConstants.{MAX_ACTIONS, MAX_ACTION_DEPTH}
-use Rattle.argus_actions.specs.declared.node.TheConstants.{NONE}
-use Rattle.argus_actions.specs.declared.action_id.ActionId.{ActionId}
-use Rattle.argus_actions.specs.declared.node.Node.{Node}
-use Rattle.argus_actions.specs.declared.origin.Origin.{Origin}
+use Rattle.argus_actions.specs.{declared.node.TheConstants.NONE, declared.action_id.ActionId.ActionId}
+use Rattle.argus_actions.specs.{declared.node.Node.Node, declared.origin.Origin.Origin, Tree.{Tree, row_of}}
 use Rattle.argus_actions.specs.declared.status.Status.TheVariants.{Live}
 use Rattle.argus_actions.specs.Row.{Row, at_parent, under_of, is_sub_of, is_begun_under}
-use Rattle.argus_actions.specs.Rows.{AreInStep, depth_at, live_count, newest_below}
-use Rattle.argus_actions.specs.Rows.{newest_child_below}
-use Rattle.argus_actions.specs.Tree.{Tree, row_of}
+use Rattle.argus_actions.specs.Rows.{AreInStep, depth_at, live_count, newest_below, newest_child_below}
 
 -- the row that a node keeps
 abbrev pub row_of_node : Node → Row

@@ -1,18 +1,13 @@
 -- The first refusal that applies to each call, if any.
-use Rattle.std.specs.Prelude.{◌≡◌, ℕ, Bool, nat_le, if◌then◌else◌, Option, Some, None, Result, Err}
-use Rattle.std.specs.Prelude.{IfErr}
+use Rattle.std.specs.Prelude.{◌≡◌, ℕ, Bool, nat_le, if◌then◌else◌, Option, Some, None, Result, Err, IfErr}
 use Rattle.std.specs.Option.{option_or, is_none}
 use Rattle.argus_contents.specs.declared.limits.TheConstants.{MAX_ACTIONS, MAX_ACTION_DEPTH}
-use Rattle.argus_actions.specs.declared.action_error.ActionError.{ActionError}
+use Rattle.argus_actions.specs.{declared.action_error.ActionError.ActionError, declared.status.Status.Status}
 use Rattle.argus_actions.specs.declared.action_error.ActionError.TheVariants.{Refused, OutOfMemory}
-use Rattle.argus_actions.specs.declared.action_refusal.ActionRefusal.{ActionRefusal}
-use Rattle.argus_actions.specs.declared.action_refusal.ActionRefusal.TheVariants.{NoAction, Over}
-use Rattle.argus_actions.specs.declared.action_refusal.ActionRefusal.TheVariants.{ChildrenLive}
-use Rattle.argus_actions.specs.declared.action_refusal.ActionRefusal.TheVariants.{TooDeep, TooMany}
-use Rattle.argus_actions.specs.declared.action_refusal.ActionRefusal.TheVariants.{NoSiblings}
-use Rattle.argus_actions.specs.declared.status.Status.{Status}
+use Rattle.argus_actions.specs.{declared.action_refusal.ActionRefusal.ActionRefusal, Rows.{depth_at, under_at}}
+use Rattle.argus_actions.specs.declared.action_refusal.ActionRefusal.TheVariants.{NoAction, Over, ChildrenLive, TooDeep}
+use Rattle.argus_actions.specs.declared.action_refusal.ActionRefusal.TheVariants.{TooMany, NoSiblings}
 use Rattle.argus_actions.specs.declared.status.Status.TheVariants.{Live, Committed, Aborted, Folded}
-use Rattle.argus_actions.specs.Rows.{depth_at, under_at}
 use Rattle.argus_actions.specs.Tree.{Tree, next, status_of, has_live_child}
 
 -- an action that was not begun, or has ended, is refused; so is a folded one

@@ -1,8 +1,6 @@
 -- A row: what contracts see of one action.
-use Rattle.std.specs.Prelude.{ℕ, Bool, true, false, not, ◌==◌, Option, Some, None}
-use Rattle.std.specs.Option.{option_map_or}
-use Rattle.argus_actions.specs.declared.origin.Origin.{Origin}
-use Rattle.argus_actions.specs.declared.origin.Origin.TheVariants.{Top, Sub, Nested}
+use Rattle.std.specs.{Prelude.{ℕ, Bool, true, false, not, ◌==◌, Option, Some, None}, Option.option_map_or}
+use Rattle.argus_actions.specs.{declared.origin.Origin.Origin, declared.origin.Origin.TheVariants.{Top, Sub, Nested}}
 use Rattle.argus_actions.specs.declared.status.Status.{Status}
 use Rattle.argus_actions.specs.declared.status.Status.TheVariants.{Live, Committed, Aborted, Folded}
 

@@ -1,14 +1,10 @@
 -- The actions as a list of rows, newest first. The number of a row is how many actions are folded
 -- or older.
-use Rattle.std.specs.Prelude.{◌≡◌, ℕ, ◌+◌, Bool, true, false, not, ◌&&◌, ◌||◌, ◌==◌, nat_lt}
-use Rattle.std.specs.Prelude.{if◌then◌else◌, List, [], ◌∷◌, length, Option, Some, None}
-use Rattle.std.specs.List.{list_any}
-use Rattle.std.specs.Option.{option_and_then, option_map_or}
-use Rattle.argus_actions.specs.declared.origin.Origin.{Origin}
-use Rattle.argus_actions.specs.declared.origin.Origin.TheVariants.{Sub}
+use Rattle.std.specs.Prelude.{◌≡◌, ℕ, ◌+◌, Bool, true, false, not, ◌&&◌, ◌||◌, ◌==◌, nat_lt, if◌then◌else◌, List, []}
+use Rattle.std.specs.{Prelude.{◌∷◌, length, Option, Some, None}, List.list_any, Option.{option_and_then, option_map_or}}
+use Rattle.argus_actions.specs.{declared.origin.Origin.Origin, declared.origin.Origin.TheVariants.Sub, Row.with_status}
 use Rattle.argus_actions.specs.declared.status.Status.{Status}
-use Rattle.argus_actions.specs.Row.{Row, may_follow, at_parent, under_of, is_sub_of, is_begun_under}
-use Rattle.argus_actions.specs.Row.{is_live, with_status}
+use Rattle.argus_actions.specs.Row.{Row, may_follow, at_parent, under_of, is_sub_of, is_begun_under, is_live}
 
 -- the row of a number
 abbrev pub numbered : ℕ → List Row → ℕ → Option Row

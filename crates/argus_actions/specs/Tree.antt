@@ -1,16 +1,12 @@
 -- What contracts see of an `ActionTree`, and the definitions that they cite of it.
-use Rattle.std.specs.Prelude.{◌≡◌, ℕ, ◌<◌, ◌≤◌, ◌+◌, ◌-◌, Bool, true, ◌==◌, nat_lt, if◌then◌else◌}
-use Rattle.std.specs.Prelude.{List, ◌∷◌, length, Option, Some, None}
-use Rattle.std.specs.Option.{option_map, option_and_then}
-use Rattle.argus_actions.specs.declared.action_id.ActionId.{ActionId}
-use Rattle.argus_actions.specs.declared.origin.Origin.{Origin}
-use Rattle.argus_actions.specs.declared.origin.Origin.TheVariants.{Top, Sub, Nested}
-use Rattle.argus_actions.specs.declared.status.Status.{Status}
+use Rattle.std.specs.Prelude.{◌≡◌, ℕ, ◌<◌, ◌≤◌, ◌+◌, ◌-◌, Bool, true, ◌==◌, nat_lt, if◌then◌else◌, List, ◌∷◌, length}
+use Rattle.std.specs.{Prelude.{Option, Some, None}, Option.{option_map, option_and_then}}
+use Rattle.argus_actions.specs.{declared.action_id.ActionId.ActionId, declared.origin.Origin.Origin}
+use Rattle.argus_actions.specs.{declared.origin.Origin.TheVariants.{Top, Sub, Nested}, declared.status.Status.Status}
 use Rattle.argus_actions.specs.declared.status.Status.TheVariants.{Live, Committed, Aborted, Folded}
 use Rattle.argus_actions.specs.Row.{Row, at_parent, under_of}
-use Rattle.argus_actions.specs.Rows.{numbered, is_above, depth_at, is_live_under, live_count}
-use Rattle.argus_actions.specs.Rows.{is_live_sibling_of, has_ancestor, mark, newest_below}
-use Rattle.argus_actions.specs.Rows.{newest_child_below}
+use Rattle.argus_actions.specs.Rows.{numbered, is_above, depth_at, is_live_under, live_count, is_live_sibling_of}
+use Rattle.argus_actions.specs.Rows.{has_ancestor, mark, newest_below, newest_child_below}
 
 -- the rows, newest first; how many actions came before the first of them; and room for how many
 -- more there is

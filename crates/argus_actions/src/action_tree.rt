@@ -1,20 +1,16 @@
 //! `ActionTree`: the actions that were begun.
 
 ghost use Rattle.std.specs.Prelude.{◌≡◌, ℕ, ◌<◌, ◌≤◌, ◌+◌, ◌-◌, false, true, [], None, Some, OnOk};
-ghost use Rattle.std.specs.Prelude.{OnErr, IfSome};
-ghost use Rattle.std.specs.Option.{option_and_then};
-ghost use Rattle.std.specs.Result.{result_err};
+ghost use Rattle.std.specs.{Prelude.{OnErr, IfSome}, Option.option_and_then, Result.result_err};
 ghost use Rattle.argus_actions.specs.declared.origin.Origin.TheVariants.{Top, Sub, Nested};
-ghost use Rattle.argus_actions.specs.declared.status.Status.TheVariants.{Live};
-ghost use Rattle.argus_actions.specs.Row.{at_parent};
+ghost use Rattle.argus_actions.specs.{declared.status.Status.TheVariants.Live, Row.at_parent};
 ghost use Rattle.argus_actions.specs.Rows.{depth_at, under_at, is_live_at, is_sub_at, is_child_of};
-ghost use Rattle.argus_actions.specs.Rows.{AreInStep};
+ghost use Rattle.argus_actions.specs.{Rows.AreInStep, Tree.after_abort_others};
 ghost use Rattle.argus_actions.specs.Tree.{Tree, next, status_of, parent_of, creator_of};
 ghost use Rattle.argus_actions.specs.Tree.{newest_sub_of, older_sub_of, newest_child_of};
 ghost use Rattle.argus_actions.specs.Tree.{older_sibling_of, is_ancestor, has_live_child};
-ghost use Rattle.argus_actions.specs.Tree.{live_children, depth_of};
-ghost use Rattle.argus_actions.specs.Tree.{IsGreatestBelow, SameActions, after_begin, after_commit};
-ghost use Rattle.argus_actions.specs.Tree.{after_abort, after_abort_others};
+ghost use Rattle.argus_actions.specs.Tree.{live_children, depth_of, IsGreatestBelow, SameActions};
+ghost use Rattle.argus_actions.specs.Tree.{after_begin, after_commit, after_abort};
 ghost use Rattle.argus_actions.specs.Nodes.{IsNodeOf, AreLinked, IsBegunBetween, link_end};
 ghost use Rattle.argus_actions.specs.Refusals.{begin_top_refusal, begin_sub_refusal};
 ghost use Rattle.argus_actions.specs.Refusals.{begin_nested_refusal, commit_refusal, abort_refusal};

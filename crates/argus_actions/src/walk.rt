@@ -2,13 +2,11 @@
 //! and end, and aborts. The action `first` has the first of the nodes; those below it are folded.
 
 ghost use Rattle.std.specs.Prelude.{◌≡◌, ℕ, ◌+◌, ◌<◌, ◌≤◌, ◌==◌, false, true, ◌∷◌, Some, length};
-ghost use Rattle.std.specs.Prelude.{slice_index_or, vec_len};
-ghost use Rattle.std.specs.Vec.{vec_capacity};
-ghost use Rattle.argus_actions.specs.declared.node.Node.{Node};
+ghost use Rattle.std.specs.{Prelude.{slice_index_or, vec_len}, Vec.vec_capacity};
+ghost use Rattle.argus_actions.specs.{declared.node.Node.Node, Row.{at_parent, is_live}};
 ghost use Rattle.argus_actions.specs.declared.status.Status.TheVariants.{Live, Aborted};
-ghost use Rattle.argus_actions.specs.Row.{at_parent, is_live};
-ghost use Rattle.argus_actions.specs.Rows.{is_above, depth_at, mark, has_ancestor};
-ghost use Rattle.argus_actions.specs.Rows.{is_live_at, is_live_sibling_of, under_at};
+ghost use Rattle.argus_actions.specs.Rows.{is_above, depth_at, mark, has_ancestor, is_live_at};
+ghost use Rattle.argus_actions.specs.Rows.{is_live_sibling_of, under_at};
 ghost use Rattle.argus_actions.specs.Nodes.{rows_of, AreLinked, AreNodes, IsBegunBetween, adopted};
 ghost use Rattle.argus_actions.specs.Nodes.{fresh, older_sub_link, older_child_link};
 

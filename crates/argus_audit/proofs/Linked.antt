@@ -1,12 +1,10 @@
 -- Heads and links, when one more entry has been linked.
 use Rattle.std.proofs.Common.{List, None, Option, Some, ap, arith, cond, inl, inr, length, refl, replicate, set, subst}
-use Rattle.std.proofs.Common.{sym, ℕ, ◌+◌, ◌<◌, ◌∙◌, ◌≡◌, ◌≢◌, ◌≤◌}
-use Rattle.std.specs.Option.{option_map, unwrap_or}
-use Rattle.std.specs.Prelude.{is_some, slice_get}
+use Rattle.std.proofs.{Common.{sym, ℕ, ◌+◌, ◌<◌, ◌∙◌, ◌≡◌, ◌≢◌, ◌≤◌}, lemmas.Option.slice_get_within}
 use Rattle.std.proofs.lemmas.Bool.{cases_eq, cases_lt, false≢true, ne_eqb}
 use Rattle.std.proofs.lemmas.List.{get_or-replicate, get_or-set_other, get_or-set_same, length-replicate, length-set}
 use Rattle.std.proofs.lemmas.Option.{get_or_from_slice_get, none-some, slice_get_cases, slice_get_read}
-use Rattle.std.proofs.lemmas.Option.{slice_get_within}
+use Rattle.std.specs.{Option.{option_map, unwrap_or}, Prelude.{is_some, slice_get}}
 use Rattle.argus_actions.specs.declared.action_id.ActionId.{ActionId}
 use Rattle.argus_audit.specs.Writes.{AreHeads, AreLinks, IsWrite, Skips, written_by}
 use Rattle.argus_audit.proofs.Visits.{writer_at, writer_is}

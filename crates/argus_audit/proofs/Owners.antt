@@ -1,43 +1,29 @@
 -- A tree with the rows of a legal journal's history tells whose work counts.
 use Rattle.std.proofs.Common.{Bool, List, None, Option, Some, ap, arith, cond, false, inl, inr, refl, subst, sym, true}
-use Rattle.std.proofs.Common.{ℕ, ◌+◌, ◌<◌, ◌∙◌, ◌∷◌, ◌≡◌, ◌≢◌, []}
-use Rattle.std.specs.Option.{option_map}
-use Rattle.std.specs.Prelude.{nat_lt, not, ◌&&◌, ◌==◌, ◌||◌}
+use Rattle.std.proofs.{Common.{ℕ, ◌+◌, ◌<◌, ◌∙◌, ◌∷◌, ◌≡◌, ◌≢◌, []}, lemmas.Option.none-some}
 use Rattle.std.proofs.lemmas.Bool.{both_ways, cases_Bool, cases_lt, le-ltb, lt-ltb, ltb-true, ne_eqb}
-use Rattle.std.proofs.lemmas.Option.{none-some}
+use Rattle.std.specs.{Option.option_map, Prelude.{nat_lt, not, ◌&&◌, ◌==◌, ◌||◌}}
 use Rattle.argus_actions.specs.Row as tree_row
-use Rattle.argus_actions.specs.Tree.{Tree, is_ancestor, parent_of, row_of, status_of}
+use Rattle.argus_actions.specs.{Tree.{Tree, is_ancestor, parent_of, row_of, status_of}, declared.status.Status.Status}
 use Rattle.argus_actions.specs.declared.action_id.ActionId.{ActionId}
-use Rattle.argus_actions.specs.declared.status.Status.{Status}
 use Rattle.argus_actions.specs.declared.status.Status.TheVariants.{Aborted, Committed, Folded, Live}
 use Rattle.argus_entries.specs.Entry.{PlainEntry}
-use Rattle.argus_journal.specs.Entries.{entries}
-use Rattle.argus_journal.specs.Events.{history}
-use Rattle.argus_journal.specs.JournalFacts.{in_program_owner, owner_in}
-use Rattle.argus_journal.specs.Legal.{Legal}
-use Rattle.argus_journal.specs.Opening.{Opening, model_opening}
+use Rattle.argus_journal.specs.{Entries.entries, Events.history, JournalFacts.{in_program_owner, owner_in}, Legal.Legal}
+use Rattle.argus_journal.specs.{Opening.{Opening, model_opening}, declared.owner.Owner.Owner}
 use Rattle.argus_journal.specs.Replaying.{counts_by_entries, counts_with, is_ancestor_by_entries}
-use Rattle.argus_journal.specs.declared.owner.Owner.{Owner}
 use Rattle.argus_journal.specs.declared.owner.Owner.TheVariants as by
-use Rattle.argus_journal.proofs.Kin.{above_told}
-use Rattle.argus_journal.proofs.Legal.{lawful}
+use Rattle.argus_journal.proofs.{Kin.above_told, Legal.lawful, Shifted.{before, not_base}}
 use Rattle.argus_journal.proofs.OwnersByEntries.{held_live, model_owner, owner_is_told, owner_told}
-use Rattle.argus_journal.proofs.Shifted.{before, not_base}
 use Rattle.argus_model.specs.Ancestors as model
 use Rattle.argus_model.specs.Event as event
-use Rattle.argus_model.specs.Event.{Accessed, Began}
-use Rattle.argus_model.specs.History.{History, Opened, next_action, ◌▹◌}
-use Rattle.argus_model.specs.Numbers.{contains}
-use Rattle.argus_model.specs.Owner as owners
-use Rattle.argus_model.specs.Owner.{owner}
+use Rattle.argus_model.specs.{Event.{Accessed, Began}, History.{History, Opened, next_action, ◌▹◌}, Numbers.contains}
+use Rattle.argus_model.specs.{Owner.owner, Status.{is_live, status}}
 use Rattle.argus_model.specs.Status.{IsAborted, IsCommitted, IsFolded, IsLive, has_committed, is_begun, is_doomed}
-use Rattle.argus_model.specs.Status.{is_live, status}
+use Rattle.argus_model.specs.Owner as owners
 use Rattle.argus_model.specs.Status as model_status
-use Rattle.argus_model.proofs.Ancestors.{folded_next, lineage_old, parent_older}
+use Rattle.argus_model.proofs.{Ancestors.{folded_next, lineage_old, parent_older}, Lawful.lawful_orderly}
 use Rattle.argus_model.proofs.Counting.{owner_when_committed, owner_when_doomed, owner_when_live, owner_when_top}
-use Rattle.argus_model.proofs.Lawful.{lawful_orderly}
-use Rattle.argus_model.proofs.Live.{is_begun_from, is_begun_parts}
-use Rattle.argus_model.proofs.Siblings.{live_begun}
+use Rattle.argus_model.proofs.{Live.{is_begun_from, is_begun_parts}, Siblings.live_begun}
 use Rattle.argus_model.proofs.Standing.{Orderly, parents_are_older}
 use Rattle.argus_refinement.specs.TreeRefinement.{IsTree, history_status}
 use Rattle.argus_refinement.proofs.TreeAnswers.{ancestor_begun_is, ancestor_is, begun_row, no_parent_is, no_row}

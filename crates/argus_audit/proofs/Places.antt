@@ -1,14 +1,12 @@
 -- One more entry, and all of them.
-use Rattle.std.proofs.Common.{List, None, Some, [], ap, arith, drop, inl, inr, length, reverse, subst, suc, sym}
-use Rattle.std.proofs.Common.{take, ℕ, ◌++◌, ◌+◌, ◌∙◌, ◌∷◌, ◌≡◌, ◌≤◌}
-use Rattle.std.specs.Prelude.{slice_get}
-use Rattle.std.proofs.Math.Seq.{take-suc}
+use Rattle.std.proofs.Common.{List, None, Some, [], ap, arith, drop, inl, inr, length, reverse, subst, suc, sym, take}
+use Rattle.std.proofs.{Common.{ℕ, ◌++◌, ◌+◌, ◌∙◌, ◌∷◌, ◌≡◌, ◌≤◌}, Math.Seq.take-suc}
 use Rattle.std.proofs.lemmas.List.{length-reverse, reverse-append, reverse-reverse, take-append-drop, take_all}
 use Rattle.std.proofs.lemmas.Option.{get_or_from_slice_get, none-some, slice_get_cases, slice_get_within}
+use Rattle.std.specs.Prelude.{slice_get}
 use Rattle.argus_audit.specs.Places.{first_entries}
 use Rattle.argus_entries.specs.Entry.{PlainEntry}
-use Rattle.argus_journal.specs.Legal.{Legal}
-use Rattle.argus_journal.specs.Opening.{Opening}
+use Rattle.argus_journal.specs.{Legal.Legal, Opening.Opening}
 
 -- one more entry, which was found
 pub one_more : (j : List PlainEntry) (n : ℕ) (e : PlainEntry) → slice_get (reverse j) n ≡ Some e

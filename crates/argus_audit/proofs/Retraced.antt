@@ -1,13 +1,11 @@
 -- A tree in which the calls of a legal journal are made again has the rows of its history.
 use Rattle.std.proofs.Common.{Bool, Err, List, None, Ok, OnErr, OnOk, Option, Result, Some, ap, false, refl, subst, sym}
 use Rattle.std.proofs.Common.{true, ℕ, ◌+◌, ◌∙◌, ◌∷◌, ◌≡◌, ◌≢◌}
-use Rattle.std.specs.Option.{is_none, option_or}
-use Rattle.std.specs.Result.{result_err}
+use Rattle.std.specs.{Option.{is_none, option_or}, Result.result_err}
 use Rattle.argus_actions.specs.Refusals.{IsRefusedBy, abort_others_refusal, abort_refusal, begin_nested_refusal}
 use Rattle.argus_actions.specs.Refusals.{begin_sub_refusal, begin_top_refusal, commit_refusal, refused_if}
-use Rattle.argus_actions.specs.Rows.{under_at}
+use Rattle.argus_actions.specs.{Rows.under_at, declared.action_error.ActionError.ActionError}
 use Rattle.argus_actions.specs.Tree.{SameActions, Tree, after_abort, after_abort_others, after_begin, after_commit}
-use Rattle.argus_actions.specs.declared.action_error.ActionError.{ActionError}
 use Rattle.argus_actions.specs.declared.action_error.ActionError.TheVariants.{OutOfMemory}
 use Rattle.argus_actions.specs.declared.action_id.ActionId.{ActionId}
 use Rattle.argus_actions.specs.declared.action_refusal.ActionRefusal.{ActionRefusal}
@@ -16,21 +14,14 @@ use Rattle.argus_actions.specs.declared.origin.Origin.TheVariants.{Nested, Sub, 
 use Rattle.argus_audit.specs.Retracing.{Retraced, Step}
 use Rattle.argus_contents.specs.Shape.{PlainShape}
 use Rattle.argus_entries.specs.Call.{PlainCall, abort, abort_others, alter, ask, begin_nested, begin_sub, begin_top}
-use Rattle.argus_entries.specs.Call.{commit, declare, test_read, test_write}
-use Rattle.argus_entries.specs.Entry.{PlainEntry}
+use Rattle.argus_entries.specs.{Call.{commit, declare, test_read, test_write}, Entry.PlainEntry}
 use Rattle.argus_entries.specs.Reply.{PlainReply, refused}
-use Rattle.argus_journal.specs.Answers.{answer, granted, if_created, or_refused, refusal}
-use Rattle.argus_journal.specs.Entries.{entries}
-use Rattle.argus_journal.specs.Events.{event_if, history, is_answered, says_yes, with_event}
-use Rattle.argus_journal.specs.Legal.{Legal}
-use Rattle.argus_journal.specs.Objects.{shapes}
-use Rattle.argus_journal.specs.Opening.{Opening, model_opening}
+use Rattle.argus_journal.specs.{Answers.{answer, granted, if_created, or_refused, refusal}, Entries.entries}
+use Rattle.argus_journal.specs.{Events.{event_if, history, is_answered, says_yes, with_event}, Legal.Legal}
+use Rattle.argus_journal.specs.{Objects.shapes, Opening.{Opening, model_opening}}
 use Rattle.argus_journal.proofs.Legal.{free_none, lawful, refused_is_none, then_event}
-use Rattle.argus_model.specs.Event.{Accessed}
-use Rattle.argus_model.specs.History.{History}
-use Rattle.argus_model.proofs.Lawful.{lawful_orderly}
-use Rattle.argus_model.proofs.Siblings.{live_begun}
-use Rattle.argus_model.proofs.Standing.{Orderly}
+use Rattle.argus_model.specs.{Event.Accessed, History.History}
+use Rattle.argus_model.proofs.{Lawful.lawful_orderly, Siblings.live_begun, Standing.Orderly}
 use Rattle.argus_refinement.specs.TreeRefinement.{IsTree, journal_refusal, journal_refusal_if_any}
 use Rattle.argus_refinement.proofs.TreeRefusals.{abort_is, commit_is, nested_is, others_is, sub_is, top_is}
 use Rattle.argus_refinement.proofs.TreeSteps.{abort_others_tree, abort_tree, begin_tree, commit_tree, same_tree}

@@ -1,21 +1,14 @@
 -- Entries that don't write an object leave its content.
 use Rattle.std.proofs.Common.{Bool, List, None, Option, Some, ap, arith, cond, false, inl, inr, refl, reverse, subst}
-use Rattle.std.proofs.Common.{suc, sym, true, zero, ℕ, ◌+◌, ◌-◌, ◌∙◌, ◌≡◌, ◌≤◌}
+use Rattle.std.proofs.{Common.{suc, sym, true, zero, ℕ, ◌+◌, ◌-◌, ◌∙◌, ◌≡◌, ◌≤◌}, lemmas.Option.slice_get_cases}
 use Rattle.std.specs.Prelude.{slice_get, ◌&&◌, ◌==◌}
-use Rattle.std.proofs.lemmas.Option.{slice_get_cases}
 use Rattle.argus_actions.specs.declared.action_id.ActionId.{ActionId}
-use Rattle.argus_audit.specs.Places.{first_entries}
-use Rattle.argus_audit.specs.Writes.{Skips, written_by}
+use Rattle.argus_audit.specs.{Places.first_entries, Writes.{Skips, written_by}}
 use Rattle.argus_audit.proofs.Places.{no_more, one_more}
-use Rattle.argus_contents.specs.Content.{PlainContent}
-use Rattle.argus_contents.specs.declared.obj_id.ObjId.{ObjId}
+use Rattle.argus_contents.specs.{Content.PlainContent, declared.obj_id.ObjId.ObjId}
 use Rattle.argus_entries.specs.Call.{PlainCall, abort, abort_others, alter, ask, begin_nested, begin_sub, begin_top}
-use Rattle.argus_entries.specs.Call.{commit, declare, test_read, test_write}
-use Rattle.argus_entries.specs.Entry.{PlainEntry}
-use Rattle.argus_entries.specs.Reply.{PlainReply}
-use Rattle.argus_journal.specs.Entries.{content_after_call}
-use Rattle.argus_journal.specs.Events.{is_answered, says_yes}
-use Rattle.argus_journal.specs.Opening.{Opening}
+use Rattle.argus_entries.specs.{Call.{commit, declare, test_read, test_write}, Entry.PlainEntry, Reply.PlainReply}
+use Rattle.argus_journal.specs.{Entries.content_after_call, Events.{is_answered, says_yes}, Opening.Opening}
 use Rattle.argus_journal.specs.Replaying.{counts_by_entries, replayed, writer_by, written_if}
 
 -- the action, if the object is this one

@@ -1,12 +1,9 @@
 -- What is found once of a journal.
 use Rattle.std.specs.Prelude.{List, reverse}
 use Rattle.argus_actions.specs.Tree.{Tree}
-use Rattle.argus_audit.specs.Writes.{AreWrites}
-use Rattle.argus_audit.specs.declared.audit.Audit.{Audit}
-use Rattle.argus_audit.specs.declared.writes.Writes.{Writes}
+use Rattle.argus_audit.specs.{Writes.AreWrites, declared.audit.Audit.Audit, declared.writes.Writes.Writes}
 use Rattle.argus_entries.specs.Entry.{PlainEntry}
-use Rattle.argus_journal.specs.Events.{history}
-use Rattle.argus_journal.specs.Opening.{Opening}
+use Rattle.argus_journal.specs.{Events.history, Opening.Opening}
 use Rattle.argus_refinement.specs.TreeRefinement.{IsTree}
 
 -- the actions that it knows

@@ -1,13 +1,12 @@
 -- What a call makes of a tree of actions when it is made again.
 use Rattle.std.specs.Prelude.{None, Option, Some}
-use Rattle.argus_actions.specs.Refusals.{abort_others_refusal, abort_refusal, begin_nested_refusal}
-use Rattle.argus_actions.specs.Refusals.{begin_sub_refusal, begin_top_refusal, commit_refusal}
-use Rattle.argus_actions.specs.Tree.{SameActions, Tree, after_abort, after_abort_others}
-use Rattle.argus_actions.specs.Tree.{after_begin, after_commit}
+use Rattle.argus_actions.specs.Refusals.{abort_others_refusal, abort_refusal, begin_nested_refusal, begin_sub_refusal}
+use Rattle.argus_actions.specs.Refusals.{begin_top_refusal, commit_refusal}
+use Rattle.argus_actions.specs.Tree.{SameActions, Tree, after_abort, after_abort_others, after_begin, after_commit}
 use Rattle.argus_actions.specs.declared.action_refusal.ActionRefusal.{ActionRefusal}
 use Rattle.argus_actions.specs.declared.origin.Origin.TheVariants.{Nested, Sub, Top}
-use Rattle.argus_entries.specs.Call.{PlainCall, abort, abort_others, alter, ask, begin_nested}
-use Rattle.argus_entries.specs.Call.{begin_sub, begin_top, commit, declare, test_read, test_write}
+use Rattle.argus_entries.specs.Call.{PlainCall, abort, abort_others, alter, ask, begin_nested, begin_sub, begin_top}
+use Rattle.argus_entries.specs.Call.{commit, declare, test_read, test_write}
 
 -- a step from the tree t to u: the actions that it makes, or t's if the tree refuses it
 abbrev pub Step : Option ActionRefusal → Tree → Tree → Tree → Type 0

@@ -1,15 +1,11 @@
 -- Where the entries of a journal write its objects. The entries come the oldest first.
-use Rattle.std.specs.Prelude.{List, None, Option, Some, if◌then◌else◌, is_some, slice_get, true}
-use Rattle.std.specs.Prelude.{ℕ, ◌+◌, ◌<◌, ◌≡◌, ◌≤◌}
+use Rattle.std.specs.Prelude.{List, None, Option, Some, if◌then◌else◌, is_some, slice_get, true, ℕ, ◌+◌, ◌<◌, ◌≡◌, ◌≤◌}
 use Rattle.argus_actions.specs.declared.action_id.ActionId.{ActionId}
 use Rattle.argus_audit.specs.declared.writes.Writes.{Writes}
 use Rattle.argus_contents.specs.declared.obj_id.ObjId.{ObjId}
-use Rattle.argus_entries.specs.Call.{PlainCall, abort, abort_others, alter, ask, begin_nested}
-use Rattle.argus_entries.specs.Call.{begin_sub, begin_top, commit, declare, test_read, test_write}
-use Rattle.argus_entries.specs.Entry.{PlainEntry}
-use Rattle.argus_entries.specs.Reply.{PlainReply}
-use Rattle.argus_journal.specs.Events.{is_answered, says_yes}
-use Rattle.argus_journal.specs.Replaying.{writer_by}
+use Rattle.argus_entries.specs.Call.{PlainCall, abort, abort_others, alter, ask, begin_nested, begin_sub, begin_top}
+use Rattle.argus_entries.specs.{Call.{commit, declare, test_read, test_write}, Entry.PlainEntry, Reply.PlainReply}
+use Rattle.argus_journal.specs.{Events.{is_answered, says_yes}, Replaying.writer_by}
 
 -- the action that writes by a call of this reply, and the object that it writes
 abbrev pub written_by : PlainCall → PlainReply → Option (ActionId × ObjId)

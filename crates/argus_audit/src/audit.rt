@@ -3,9 +3,8 @@
 ghost use Rattle.std.specs.Prelude.{IfOk, ◌≡◌};
 ghost use Rattle.argus_audit.specs.Audit.{IsAudit, tree_of, writes_of};
 ghost use Rattle.argus_contents.specs.Content.{plain_option};
-ghost use Rattle.argus_journal.specs.Journal.{entries_of, opening_of};
+ghost use Rattle.argus_journal.specs.{Journal.{entries_of, opening_of}, Legal.Legal};
 ghost use Rattle.argus_journal.specs.JournalFacts.{base_of, visible_to};
-ghost use Rattle.argus_journal.specs.Legal.{Legal};
 
 use crate::retracing::retrace;
 use crate::visiting::replay;

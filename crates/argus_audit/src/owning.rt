@@ -1,10 +1,8 @@
 //! Whose work counts, by a tree of the journal's actions.
 
 ghost use Rattle.std.specs.Prelude.{◌≡◌};
-ghost use Rattle.argus_journal.specs.Events.{history};
-ghost use Rattle.argus_journal.specs.Journal.{entries_of, opening_of};
-ghost use Rattle.argus_journal.specs.JournalFacts.{owner_in};
-ghost use Rattle.argus_journal.specs.Legal.{Legal};
+ghost use Rattle.argus_journal.specs.{Events.history, Journal.{entries_of, opening_of}};
+ghost use Rattle.argus_journal.specs.{JournalFacts.owner_in, Legal.Legal};
 ghost use Rattle.argus_journal.specs.Replaying.{counts_by_entries};
 ghost use Rattle.argus_refinement.specs.TreeRefinement.{IsTree};
 

@@ -2,9 +2,8 @@
 
 ghost use Rattle.std.specs.Prelude.{IfOk, ◌≡◌};
 ghost use Rattle.argus_contents.specs.Content.{plain_option};
-ghost use Rattle.argus_journal.specs.Journal.{entries_of, opening_of};
+ghost use Rattle.argus_journal.specs.{Journal.{entries_of, opening_of}, Legal.Legal};
 ghost use Rattle.argus_journal.specs.JournalFacts.{base_of, visible_to};
-ghost use Rattle.argus_journal.specs.Legal.{Legal};
 
 use crate::audit::Audit;
 use argus_actions::ActionId;

@@ -2,11 +2,9 @@
 
 ghost use Rattle.std.specs.Prelude.{IfOk, OnOk, length, ◌+◌, ◌<◌, ◌≡◌, ◌≢◌, Err};
 ghost use Rattle.argus_actions.specs.declared.action_error.ActionError.TheVariants as error;
-ghost use Rattle.argus_audit.specs.Retracing.{Retraced};
-ghost use Rattle.argus_audit.specs.Places.{first_entries};
+ghost use Rattle.argus_audit.specs.{Retracing.Retraced, Places.first_entries};
 ghost use Rattle.argus_entries.specs.Call.{plain_call};
-ghost use Rattle.argus_journal.specs.Events.{history};
-ghost use Rattle.argus_journal.specs.Journal.{entries_of, opening_of};
+ghost use Rattle.argus_journal.specs.{Events.history, Journal.{entries_of, opening_of}};
 ghost use Rattle.argus_journal.specs.Legal.{Legal};
 ghost use Rattle.argus_refinement.specs.TreeRefinement.{IsTree};
 

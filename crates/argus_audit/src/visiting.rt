@@ -1,15 +1,11 @@
 //! What the entries leave in an object: its writes are visited, and no other entries.
 
 ghost use Rattle.std.specs.Prelude.{IfOk, OnOk, Some, reverse, slice_get, true, ◌+◌, ◌<◌, ◌≡◌};
-ghost use Rattle.argus_audit.specs.Audit.{IsAudit};
-ghost use Rattle.argus_audit.specs.Places.{first_entries};
-ghost use Rattle.argus_audit.specs.Writes.{Skips};
+ghost use Rattle.argus_audit.specs.{Audit.IsAudit, Places.first_entries, Writes.Skips};
 ghost use Rattle.argus_contents.specs.Content.{KeepsLimits, plain_option};
 ghost use Rattle.argus_entries.specs.Entry.{PlainEntry, plain_entry};
-ghost use Rattle.argus_journal.specs.Entries.{content_after_call};
-ghost use Rattle.argus_journal.specs.Journal.{entries_of, opening_of};
-ghost use Rattle.argus_journal.specs.Legal.{Legal};
-ghost use Rattle.argus_journal.specs.Opening.{content_in, is_sound};
+ghost use Rattle.argus_journal.specs.{Entries.content_after_call, Journal.{entries_of, opening_of}};
+ghost use Rattle.argus_journal.specs.{Legal.Legal, Opening.{content_in, is_sound}};
 ghost use Rattle.argus_journal.specs.Replaying.{replayed, writer_by};
 
 use crate::audit::Audit;

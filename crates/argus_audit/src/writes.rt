@@ -1,12 +1,10 @@
 //! `Writes`: where in a journal each object is written.
 
-ghost use Rattle.std.specs.Option.{option_map};
-ghost use Rattle.std.specs.Prelude.{IfOk, None, Some, if◌then◌else◌, length, reverse};
-ghost use Rattle.std.specs.Prelude.{slice_get, slice_set, ◌+◌, ◌≡◌};
+ghost use Rattle.std.specs.{Option.option_map, Prelude.{slice_set, ◌+◌, ◌≡◌}};
+ghost use Rattle.std.specs.Prelude.{IfOk, None, Some, if◌then◌else◌, length, reverse, slice_get};
 ghost use Rattle.argus_audit.specs.Writes.{AreHeads, AreLinks, AreWrites, IsWrite, Skips};
 ghost use Rattle.argus_audit.specs.Writes.{written_by};
-ghost use Rattle.argus_entries.specs.Entry.{PlainEntry, plain_entry};
-ghost use Rattle.argus_entries.specs.Reply.{plain_reply};
+ghost use Rattle.argus_entries.specs.{Entry.{PlainEntry, plain_entry}, Reply.plain_reply};
 ghost use Rattle.argus_contents.specs.Answer.{plain_answer};
 ghost use Rattle.argus_journal.specs.Events as events;
 ghost use Rattle.argus_journal.specs.Journal.{entries_of};

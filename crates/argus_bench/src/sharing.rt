@@ -2,9 +2,8 @@
 
 ghost use Rattle.std.specs.Prelude.{◌≡◌};
 ghost use Rattle.argus_guardian.specs.Keeper.{StartsHistory};
-ghost use Rattle.argus_journal.specs.Opening.{content_in};
 ghost use Rattle.argus_guardian.specs.Following.{journal_bases, journal_effects};
-ghost use Rattle.argus_journal.specs.JournalView.{next_entry};
+ghost use Rattle.argus_journal.specs.{Opening.content_in, JournalView.next_entry};
 
 use crate::bench_error::BenchError;
 use crate::client::Client;

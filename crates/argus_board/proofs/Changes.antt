@@ -1,13 +1,9 @@
 -- Changes leave the contents that their effects leave.
-use Rattle.std.proofs.Common.{List, Option, [], ap, append_assoc, arith, fold, length}
-use Rattle.std.proofs.Common.{length-append, refl, sym, ◌++◌, ◌∙◌, ◌∷◌, ◌≡◌, ◌≢◌}
-use Rattle.std.proofs.lemmas.List.{append-nil}
-use Rattle.std.proofs.lemmas.List.Sums.{fold_push}
+use Rattle.std.proofs.Common.{List, Option, [], ap, append_assoc, arith, fold, length, length-append, refl, sym, ◌++◌}
+use Rattle.std.proofs.{Common.{◌∙◌, ◌∷◌, ◌≡◌, ◌≢◌}, lemmas.List.append-nil, lemmas.List.Sums.fold_push}
 use Rattle.std.specs.Prelude.{Err, MatchResult, Ok, OnErr, Result}
-use Rattle.argus_contents.specs.Content.{PlainContent}
-use Rattle.argus_board.specs.Effects.{contents_after, overwritten}
-use Rattle.argus_contents.specs.Effect.{Effect, plain_effect}
-use Rattle.argus_board.specs.Published.{absorbed, effects_in}
+use Rattle.argus_contents.specs.{Content.PlainContent, Effect.{Effect, plain_effect}}
+use Rattle.argus_board.specs.{Effects.{contents_after, overwritten}, Published.{absorbed, effects_in}}
 use Rattle.argus_board.specs.declared.board_change.BoardChange.{BoardChange}
 use Rattle.argus_board.specs.declared.board_change.BoardChange.TheVariants.{Leaves, Marks}
 use Rattle.argus_board.specs.declared.history_prefix.HistoryPrefix.{HistoryPrefix}

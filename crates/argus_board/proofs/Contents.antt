@@ -1,20 +1,17 @@
 -- What effects leave in a list of contents is what their table says.
-use Rattle.std.proofs.Common.{Bool, List, None, Option, [], ap, arith, false, get_or, if◌then◌else◌}
-use Rattle.std.proofs.Common.{length, length-append, map, max, refl, replicate, set, suc, sym, take}
-use Rattle.std.proofs.Common.{true, zero, ℕ, ◌++◌, ◌+◌, ◌-◌, ◌<◌, ◌==◌, ◌∙◌, ◌∷◌, ◌≡◌, ◌≢◌, ◌≤◌}
-use Rattle.std.proofs.lemmas.Bool.Decides.{nat_tests}
-use Rattle.std.proofs.lemmas.List.{get_or-set_other, get_or-set_same, length-map, length-replicate}
-use Rattle.std.proofs.lemmas.List.{map-append, map-set, take_more}
+use Rattle.std.proofs.Common.{Bool, List, None, Option, [], ap, arith, false, get_or, if◌then◌else◌, length}
+use Rattle.std.proofs.Common.{length-append, map, max, refl, replicate, set, suc, sym, take, true, zero, ℕ, ◌++◌, ◌+◌}
+use Rattle.std.proofs.{Common.{◌-◌, ◌<◌, ◌==◌, ◌∙◌, ◌∷◌, ◌≡◌, ◌≢◌, ◌≤◌}, lemmas.Bool.Decides.nat_tests}
+use Rattle.std.proofs.lemmas.List.{get_or-set_other, get_or-set_same, length-map, length-replicate, map-append, map-set}
+use Rattle.std.proofs.lemmas.List.{take_more}
 use Rattle.std.specs.Ordering.{nat_cmp, ord_max}
 use lib.ListN.{length-set}
-use Rattle.argus_contents.specs.Content.{PlainContent, plain_option}
-use Rattle.argus_contents.specs.declared.content.Content.{Content}
+use Rattle.argus_contents.specs.{Content.{PlainContent, plain_option}, declared.content.Content.Content}
+use Rattle.argus_contents.specs.{Effect.{Effect, plain_effect}, declared.obj_id.ObjId.ObjId}
 use Rattle.argus_model.proofs.Effects.{table-append}
 use Rattle.argus_model.specs.Effects.{content_by, table}
-use Rattle.argus_board.specs.Effects.{IsTableOf, content_of_object, contents_after, needed}
-use Rattle.argus_board.specs.Effects.{overwritten, padded, plain_contents, written}
-use Rattle.argus_contents.specs.Effect.{Effect, plain_effect}
-use Rattle.argus_contents.specs.declared.obj_id.ObjId.{ObjId}
+use Rattle.argus_board.specs.Effects.{IsTableOf, content_of_object, contents_after, needed, overwritten, padded}
+use Rattle.argus_board.specs.Effects.{plain_contents, written}
 
 abbrev Contents : Type 0
 Contents = List (Option PlainContent)

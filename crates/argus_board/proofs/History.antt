@@ -1,18 +1,15 @@
 -- The steps of the history keep its rule.
-use Rattle.std.proofs.Common.{Bool, List, None, [], ap, arith, false, fold, inl}
-use Rattle.std.proofs.Common.{length, length-append, refl, subst, suc, sym, true, zero, ℕ, ◌++◌}
-use Rattle.std.proofs.Common.{◌<◌, ◌==◌, ◌∙◌, ◌∷◌, ◌≡◌, ◌≢◌}
-use Rattle.std.proofs.lemmas.List.{append-nil, get_or-set_same}
-use Rattle.std.proofs.lemmas.Bool.Decides.{nat_tests}
+use Rattle.std.proofs.Common.{Bool, List, None, [], ap, arith, false, fold, inl, length, length-append, refl, subst}
+use Rattle.std.proofs.Common.{suc, sym, true, zero, ℕ, ◌++◌, ◌<◌, ◌==◌, ◌∙◌, ◌∷◌, ◌≡◌, ◌≢◌}
+use Rattle.std.proofs.{lemmas.List.{append-nil, get_or-set_same}, lemmas.Bool.Decides.nat_tests}
 use mathlib.Core.List.{IsPrefix}
 use Rattle.argus_board.proofs.Prefixes.{begins_itself, begins_later}
 use lib.ListN.{length-set, set}
 use prog.Atomic.{either}
 use Rattle.logbook.specs.Pages.{Cell, Moves, Nib, adds, cell, gives, keeps, may_write, no_nib, step}
 use Rattle.argus_contents.specs.Effect.{Effect}
-use Rattle.argus_board.specs.declared.page.Page.{Page}
-use Rattle.argus_board.specs.History.{Adds, AreUsed, Grows, IsKept, IsUnused, SeesUnused}
-use Rattle.argus_board.specs.History.{after_page, after_page_if, line, line_state, next_right}
+use Rattle.argus_board.specs.{declared.page.Page.Page, History.{line, line_state, next_right}}
+use Rattle.argus_board.specs.History.{Adds, AreUsed, Grows, IsKept, IsUnused, SeesUnused, after_page, after_page_if}
 
 home_set : (cs : List Cell) (i n k : ℕ) → (cell cs k).1 ≡ true → (cell (set cs i (n, true)) k).1 ≡ true
 home_set [] i n k h = h

@@ -1,7 +1,6 @@
 -- Prefixes of lists.
 use Rattle.std.proofs.Common.{List, [], ap, append_assoc, drop, length, refl, sym, ◌++◌, ◌∙◌, ◌≡◌}
-use Rattle.std.proofs.Math.Seq.{drop-append_seam}
-use Rattle.std.proofs.lemmas.List.{append-nil}
+use Rattle.std.proofs.{Math.Seq.drop-append_seam, lemmas.List.append-nil}
 use mathlib.Core.List.{IsPrefix}
 
 module _ {A : Type 0} where

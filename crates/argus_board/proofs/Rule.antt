@@ -1,19 +1,15 @@
 -- Each step keeps the rule of the board.
-use Rattle.std.proofs.Common.{List, Option, [], ap, refl, set, subst, suc, sym, zero, ℕ, ⊎_elim}
-use Rattle.std.proofs.Common.{◌++◌, ◌∙◌, ◌∷◌, ◌≡◌, ◌≢◌}
+use Rattle.std.proofs.Common.{List, Option, [], ap, refl, set, subst, suc, sym, zero, ℕ, ⊎_elim, ◌++◌, ◌∙◌, ◌∷◌, ◌≡◌}
+use Rattle.std.proofs.Common.{◌≢◌}
 use mathlib.Core.List.{IsPrefix}
 use mathlib.Core.Option.{some, some-injective, some-ne-none}
 use lib.ListN.{get_elem?}
 use Rattle.atomic_table.proofs.Lists.{at_set, at_snoc}
 use Rattle.crossbeam_utils.specs.Register.{Admits, Forks, Merges, TurnsAt}
 use Rattle.logbook.specs.Pages.{Book}
-use Rattle.argus_contents.specs.Content.{PlainContent}
-use Rattle.argus_board.specs.Effects.{contents_after}
-use Rattle.argus_contents.specs.Effect.{Effect}
-use Rattle.argus_board.specs.HistoryPrefix.{book_of, line_of}
-use Rattle.argus_board.specs.Published.{AllBegin, FitsTable, IsConsistentTable, SeesPublished}
-use Rattle.argus_board.specs.Published.{contents_of, joined_view}
-use Rattle.argus_board.specs.declared.table.Table.{Table}
+use Rattle.argus_contents.specs.{Content.PlainContent, Effect.Effect}
+use Rattle.argus_board.specs.{Effects.contents_after, HistoryPrefix.{book_of, line_of}, declared.table.Table.Table}
+use Rattle.argus_board.specs.Published.{AllBegin, FitsTable, IsConsistentTable, SeesPublished, contents_of, joined_view}
 use Rattle.argus_board.proofs.Prefixes.{begins_itself, begins_later, nothing_begins}
 
 all_set : (l : List Effect) (views : List (List Effect)) (by : ℕ) (w : List Effect) → AllBegin l views → IsPrefix w l

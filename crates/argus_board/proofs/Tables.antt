@@ -1,18 +1,13 @@
 -- The tables of a board, if it has any.
-use Rattle.std.proofs.Common.{List, None, Option, Some, [], ap, subst, sym, ℕ, ◌++◌, ◌∙◌, ◌≡◌}
-use Rattle.std.proofs.lemmas.List.{append-nil}
+use Rattle.std.proofs.{Common.{List, None, Option, Some, [], ap, subst, sym, ℕ, ◌++◌, ◌∙◌, ◌≡◌}, lemmas.List.append-nil}
 use Rattle.std.specs.Prelude.{Err, MatchOption, Ok, OnErr, Result}
-use Rattle.left_right.specs.declared.Absorb.{Ghosts}
-use Rattle.left_right.specs.declared.writer.Writer.{Writer}
-use Rattle.argus_contents.specs.Content.{PlainContent}
-use Rattle.argus_contents.specs.Effect.{Effect}
-use Rattle.argus_board.specs.Effects.{contents_after}
-use Rattle.argus_board.specs.HistoryPrefix.{line_of}
+use Rattle.left_right.specs.{declared.Absorb.Ghosts, declared.writer.Writer.Writer}
+use Rattle.argus_contents.specs.{Content.PlainContent, Effect.Effect}
+use Rattle.argus_board.specs.{Effects.contents_after, HistoryPrefix.line_of, declared.table.Table.Table}
 use Rattle.argus_board.specs.Published.{AreTables, ShowsAll, contents_of, effects_in, seen_by, shown_effects}
 use Rattle.argus_board.specs.Published.{shown_table, unseen, unseen_effects}
 use Rattle.argus_board.specs.declared.board_change.BoardChange.{BoardChange}
 use Rattle.argus_board.specs.declared.history_prefix.HistoryPrefix.{HistoryPrefix}
-use Rattle.argus_board.specs.declared.table.Table.{Table}
 
 module _ {W : Type 0} (P : Type 0) (Q : W → Type 0) where
   pub some_of : (tables : Option W) (w : W) → tables ≡ Some w → MatchOption tables P Q → Q w

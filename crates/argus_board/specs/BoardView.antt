@@ -1,6 +1,5 @@
 -- A board, as contracts see it.
-use Rattle.std.specs.Coded.{Coded, code_by, coded_ℕ, coded×}
-use Rattle.std.specs.Prelude.{List, refl, ℕ}
+use Rattle.std.specs.{Coded.{Coded, code_by, coded_ℕ, coded×}, Prelude.{List, refl, ℕ}}
 use Rattle.argus_board.specs.Effects.{effects_coded}
 use Rattle.argus_contents.specs.Effect.{Effect}
 

@@ -1,10 +1,7 @@
 -- Effects, and the contents that they leave.
-use Rattle.std.specs.Coded.{Coded, coded_list, coded_option, coded_ℕ, coded×}
-use Rattle.std.specs.Prelude.{List, None, Option, [], get_or, length, map, max, replicate, set, ℕ}
-use Rattle.std.specs.Prelude.{fold, ◌++◌, ◌+◌, ◌-◌, ◌≡◌, ◌∷◌}
-use Rattle.argus_contents.specs.Content.{PlainContent, plain_option}
-use Rattle.argus_contents.specs.ContentCode.{content_coded}
-use Rattle.argus_contents.specs.Effect.{Effect}
+use Rattle.std.specs.{Coded.{Coded, coded_list, coded_option, coded_ℕ, coded×}, Prelude.{◌≡◌, ◌∷◌}}
+use Rattle.std.specs.Prelude.{List, None, Option, [], get_or, length, map, max, replicate, set, ℕ, fold, ◌++◌, ◌+◌, ◌-◌}
+use Rattle.argus_contents.specs.{Content.{PlainContent, plain_option}, ContentCode.content_coded, Effect.Effect}
 use Rattle.argus_contents.specs.declared.content.Content.{Content}
 use Rattle.argus_model.specs.Effects.{table}
 

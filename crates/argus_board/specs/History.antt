@@ -1,7 +1,6 @@
 -- The history of effects: a list of pages, each of which uses up one right and names the next. So
 -- only the holder of a line's newest right can add to that line.
-use Rattle.std.specs.Prelude.{Bool, List, [], false, fold, length, true, ℕ, ◌++◌, ◌<◌, ◌==◌, ◌∷◌}
-use Rattle.std.specs.Prelude.{◌≡◌, ◌≢◌}
+use Rattle.std.specs.Prelude.{Bool, List, [], false, fold, length, true, ℕ, ◌++◌, ◌<◌, ◌==◌, ◌∷◌, ◌≡◌, ◌≢◌}
 use mathlib.Core.List.{IsPrefix}
 use Rattle.logbook.specs.Pages.{Book, Cell, Named, Step, View, cell, may_make}
 use Rattle.argus_contents.specs.Effect.{Effect}

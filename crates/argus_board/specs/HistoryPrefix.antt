@@ -2,8 +2,7 @@
 use Rattle.std.specs.Prelude.{List, ℕ}
 use Rattle.logbook.specs.Pages.{Book}
 use Rattle.argus_contents.specs.Effect.{Effect}
-use Rattle.argus_board.specs.History.{line}
-use Rattle.argus_board.specs.declared.history_prefix.HistoryPrefix.{HistoryPrefix}
+use Rattle.argus_board.specs.{History.line, declared.history_prefix.HistoryPrefix.HistoryPrefix}
 
 -- the book that has it
 abbrev pub book_of : HistoryPrefix → Book

@@ -1,9 +1,7 @@
 -- What contracts say of a keeper.
 use Rattle.std.specs.Prelude.{[], ℕ, ◌≡◌}
 use Rattle.logbook.specs.Pages.{Book}
-use Rattle.argus_board.specs.History.{next_right}
-use Rattle.argus_board.specs.HistoryPrefix.{book_of}
-use Rattle.argus_board.specs.declared.keeper.Keeper.{Keeper}
+use Rattle.argus_board.specs.{History.next_right, HistoryPrefix.book_of, declared.keeper.Keeper.Keeper}
 
 -- the book that has its history
 abbrev pub history_of : Keeper → Book

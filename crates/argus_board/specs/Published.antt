@@ -3,18 +3,13 @@ use Rattle.std.specs.Prelude.{List, Option, [], drop, ℕ, ◌++◌, ◌∷◌, 
 use mathlib.Core.List.{IsPrefix}
 use mathlib.Core.Option.{some}
 use lib.ListN.{get_elem?}
-use Rattle.left_right.specs.Sides.{view}
-use Rattle.left_right.specs.declared.Absorb.{Ghosts}
-use Rattle.left_right.specs.declared.writer.Writer.{Writer}
+use Rattle.left_right.specs.{Sides.view, declared.Absorb.Ghosts, declared.writer.Writer.Writer}
 use Rattle.logbook.specs.Pages.{Book}
-use Rattle.argus_contents.specs.Content.{PlainContent}
-use Rattle.argus_board.specs.Effects.{contents_after, overwritten, plain_contents}
-use Rattle.argus_contents.specs.Effect.{Effect, plain_effect}
-use Rattle.argus_board.specs.HistoryPrefix.{book_of, line_of}
-use Rattle.argus_board.specs.declared.board_change.BoardChange.{BoardChange}
+use Rattle.argus_contents.specs.{Content.PlainContent, Effect.{Effect, plain_effect}}
+use Rattle.argus_board.specs.{Effects.{contents_after, overwritten, plain_contents}, HistoryPrefix.{book_of, line_of}}
+use Rattle.argus_board.specs.{declared.board_change.BoardChange.BoardChange, declared.table.Table.Table}
 use Rattle.argus_board.specs.declared.board_change.BoardChange.TheVariants.{Leaves, Marks}
 use Rattle.argus_board.specs.declared.history_prefix.HistoryPrefix.{HistoryPrefix}
-use Rattle.argus_board.specs.declared.table.Table.{Table}
 
 -- the contents that a table says
 abbrev pub contents_of : Table → List (Option PlainContent)

@@ -1,13 +1,11 @@
 //! `BoardWriter`: what publishes on a board.
 
-ghost use Rattle.std.specs.Prelude.{IfOk, MatchOption, OnErr, OnOk, [], false, true, ◌+◌, ◌++◌, ◌<◌};
-ghost use Rattle.std.specs.Prelude.{◌∷◌, ◌≡◌, ◌≢◌};
+ghost use Rattle.std.specs.Prelude.{IfOk, MatchOption, OnErr, OnOk, [], false, true, ◌+◌, ◌++◌};
+ghost use Rattle.std.specs.Prelude.{◌<◌, ◌∷◌, ◌≡◌, ◌≢◌};
 ghost use mathlib.Core.List.{IsPrefix};
-ghost use Rattle.argus_board.specs.Effects.{IsTableOf, plain_contents};
-ghost use Rattle.argus_board.specs.HistoryPrefix.{line_of};
-ghost use Rattle.argus_board.specs.Published.{AreTables, shown_effects};
+ghost use Rattle.argus_board.specs.{Effects.{IsTableOf, plain_contents}, HistoryPrefix.line_of};
+ghost use Rattle.argus_board.specs.{Published.{AreTables, shown_effects}, Keeper.StartsHistory};
 ghost use Rattle.argus_contents.specs.Effect.{plain_effect};
-ghost use Rattle.argus_board.specs.Keeper.{StartsHistory};
 
 use crate::board::Board;
 use crate::board_change::BoardChange;

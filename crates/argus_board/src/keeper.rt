@@ -3,8 +3,7 @@
 ghost use Rattle.std.specs.Prelude.{ℕ, ◌++◌, ◌≡◌};
 ghost use mathlib.Core.List.{IsPrefix};
 ghost use Rattle.logbook.specs.Pages.{may_write};
-ghost use Rattle.argus_board.specs.History.{head_of};
-ghost use Rattle.argus_board.specs.HistoryPrefix.{book_of, line_of};
+ghost use Rattle.argus_board.specs.{History.head_of, HistoryPrefix.{book_of, line_of}};
 
 use crate::history_prefix::HistoryPrefix;
 use crate::page::Page;

@@ -5,10 +5,9 @@ ghost use Rattle.std.specs.Prelude.{◌<◌, ◌∷◌, ◌≡◌, ◌≢◌};
 ghost use mathlib.Core.List.{IsPrefix};
 ghost use Rattle.left_right.specs.Sides.{view};
 ghost use Rattle.argus_board.specs.Effects.{contents_after, plain_contents};
-ghost use Rattle.argus_board.specs.HistoryPrefix.{book_of, line_of};
+ghost use Rattle.argus_board.specs.{HistoryPrefix.{book_of, line_of}, Published.unseen_effects};
 ghost use Rattle.argus_board.specs.Published.{AreTables, IsSameShow, ShowsAll, absorbed, seen_by};
 ghost use Rattle.argus_board.specs.Published.{shown_effects, shown_table, table_state, unseen};
-ghost use Rattle.argus_board.specs.Published.{unseen_effects};
 
 use crate::board::Board;
 use crate::board_change::BoardChange;

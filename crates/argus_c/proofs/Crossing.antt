@@ -8,8 +8,7 @@ use denote.Struct.Declared.{row as declared_row, shape}
 use denote.Param.Send.{IsSend, recorded_send, sendable, struct_send, view_send}
 use Rattle.std.proofs.Crossing.{crosses as std_crosses}
 use Rattle.std.proofs.Crossing as heap
-use Rattle.std.specs.Prelude.{None, Option, Some}
-use Rattle.std.specs.Global.{Global}
+use Rattle.std.specs.{Prelude.{None, Option, Some}, Global.Global}
 use Rattle.std_alloc.proofs.SendSync.{lies}
 use Rattle.std_heap.proofs.Global.TheSendSync as handle
 use Rattle.argus_c.specs.Held.{box_if_any}

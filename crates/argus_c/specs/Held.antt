@@ -3,13 +3,9 @@ use base.Fml.{Fml, ftrue}
 use base.Stored.{Coded}
 use denote.RattleType.{RattleType}
 use denote.RawPtr.{Ptr}
-use Rattle.std.specs.Prelude.{None, Option, Some}
-use Rattle.std.specs.Coded.{coded_option}
-use Rattle.std.specs.Box.Ownership.{box_owns}
-use Rattle.std.specs.Global.{Global}
+use Rattle.std.specs.{Prelude.{None, Option, Some}, Coded.coded_option, Box.Ownership.box_owns, Global.Global}
 use Rattle.std_heap.specs.contracts.GlobalAllocator.TheImpl.{ghosts}
-use Rattle.argus_embed.specs.Embedded.{EmbeddedState, embedded_state_coded}
-use Rattle.argus_embed.specs.contracts.embedded.Embedded.{the_row}
+use Rattle.argus_embed.specs.{Embedded.{EmbeddedState, embedded_state_coded}, contracts.embedded.Embedded.the_row}
 
 -- a handle with a value owns the box of it at its pointer, one without owns nothing
 abbrev pub box_if_any : (R : RattleType) → Global → Ptr → Option R.Denot → Fml

@@ -2,12 +2,9 @@
 use base.Fml.{Fml}
 use base.Stored.{Coded}
 use denote.RawPtr.{Ptr}
-use Rattle.std.specs.Prelude.{Option}
-use Rattle.std.specs.Coded.{coded_option}
-use Rattle.std.specs.Global.{Global}
+use Rattle.std.specs.{Prelude.Option, Coded.coded_option, Global.Global}
 use Rattle.argus_c.specs.Held.{box_if_any}
-use Rattle.argus_embed.specs.ParsedCall.{ParsedState, parsed_state_coded}
-use Rattle.argus_embed.specs.contracts.parsed_call.ParsedCall.{the_row}
+use Rattle.argus_embed.specs.{ParsedCall.{ParsedState, parsed_state_coded}, contracts.parsed_call.ParsedCall.the_row}
 
 -- the handle owns the box at its pointer, if it has one
 abbrev pub held_parsed_owns : Global → Ptr → Option ParsedState → Fml

@@ -2,11 +2,8 @@
 use base.Fml.{Fml}
 use base.Stored.{Coded}
 use denote.RawPtr.{Ptr}
-use Rattle.std.specs.Prelude.{Option}
-use Rattle.std.specs.Coded.{coded_option}
-use Rattle.std.specs.Global.{Global}
-use Rattle.argus_c.specs.Held.{box_if_any}
-use Rattle.argus_c.specs.contracts.ready_guardian.ReadyGuardian.{the_row}
+use Rattle.std.specs.{Prelude.Option, Coded.coded_option, Global.Global}
+use Rattle.argus_c.specs.{Held.box_if_any, contracts.ready_guardian.ReadyGuardian.the_row}
 use Rattle.argus_embed.specs.ReadyEmbedded.{ReadyState, ready_state_coded}
 
 -- the handle owns the box at its pointer, if it has one

@@ -1,10 +1,7 @@
 -- What an export says of a call that was read, in a slot of its own, before and after.
 use Rattle.std.specs.Prelude.{List, None, Option, Some, ℕ, ℤ, ◌<◌, ◌≡◌, ◌⊎◌}
-use Rattle.argus_embed.specs.Codes.{outcome_codes}
-use Rattle.argus_embed.specs.Embedded.{EmbeddedState}
-use Rattle.argus_embed.specs.ParsedCall.{IsMadeOf, IsParsed, ParsedState}
-use Rattle.argus_embed.specs.declared.outcome.Outcome.{Outcome}
-use Rattle.argus_embed.specs.declared.request.Request.{Request}
+use Rattle.argus_embed.specs.{Codes.outcome_codes, Embedded.EmbeddedState, ParsedCall.{IsMadeOf, IsParsed, ParsedState}}
+use Rattle.argus_embed.specs.{declared.outcome.Outcome.Outcome, declared.request.Request.Request}
 
 -- the slot has the call that the request with its text stands for
 abbrev pub HasParsed : Request → List ℕ → Option ParsedState → Type 0

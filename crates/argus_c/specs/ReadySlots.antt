@@ -1,7 +1,6 @@
 -- What an export says of a guardian whose commit is ready, in a ready slot, before and after.
 use Rattle.std.specs.Prelude.{None, Option, Some, ℕ, ℤ, ◌<◌, ◌≡◌, ◌⊎◌}
-use Rattle.argus_embed.specs.Codes.{outcome_codes}
-use Rattle.argus_embed.specs.Embedded.{EmbeddedState}
+use Rattle.argus_embed.specs.{Codes.outcome_codes, Embedded.EmbeddedState}
 use Rattle.argus_embed.specs.ReadyEmbedded.{ReadyState, after_commit, commit_outcome}
 
 -- the guardian that was in the slot is in the ready slot, and the commit of this action is ready

@@ -1,23 +1,15 @@
 -- What an export says of the guardian in a slot, before and after.
-use Rattle.std.specs.Prelude.{List, None, Option, Some, drop, length, ℕ, ℤ, ◌*◌, ◌+◌, ◌++◌, ◌<◌, ◌↔◌, ◌≡◌}
-use Rattle.std.specs.Prelude.{◌≢◌, ◌≤◌, ◌⊎◌}
-use Rattle.argus_embed.specs.CallEach.{AreCalled}
-use Rattle.argus_embed.specs.Codes.{error_codes, outcome_codes, text_end_codes}
-use Rattle.argus_embed.specs.JournalLines.{AreLines, HasNoPlace, line_at}
-use Rattle.argus_embed.specs.Questions.{Asks, HasNothing, IsAnswerTo, text_to}
-use Rattle.argus_embed.specs.Requests.{IsCalled, IsUnread}
-use Rattle.argus_embed.specs.Embedded.{EmbeddedState, IsBusy, IsFull}
-use Rattle.argus_embed.specs.Resuming.{IsDropped, IsTextTaken, after_resumption}
-use Rattle.argus_embed.specs.declared.calls_made.CallsMade.{CallsMade}
-use Rattle.argus_embed.specs.declared.embed_error.EmbedError.{EmbedError}
-use Rattle.argus_embed.specs.declared.lines.Lines.{Lines}
-use Rattle.argus_embed.specs.declared.list_end.ListEnd.{ListEnd}
+use Rattle.std.specs.Prelude.{List, None, Option, Some, drop, length, ℕ, ℤ, ◌*◌, ◌+◌, ◌++◌, ◌<◌, ◌↔◌, ◌≡◌, ◌≢◌, ◌≤◌}
+use Rattle.std.specs.Prelude.{◌⊎◌}
+use Rattle.argus_embed.specs.{CallEach.AreCalled, Codes.{error_codes, outcome_codes, text_end_codes}}
+use Rattle.argus_embed.specs.{JournalLines.{AreLines, HasNoPlace, line_at}, Requests.{IsCalled, IsUnread}}
+use Rattle.argus_embed.specs.{Questions.{Asks, HasNothing, IsAnswerTo, text_to}, declared.lines.Lines.Lines}
+use Rattle.argus_embed.specs.{Embedded.{EmbeddedState, IsBusy, IsFull}, declared.calls_made.CallsMade.CallsMade}
+use Rattle.argus_embed.specs.{Resuming.{IsDropped, IsTextTaken, after_resumption}, declared.list_end.ListEnd.ListEnd}
+use Rattle.argus_embed.specs.{declared.embed_error.EmbedError.EmbedError, declared.listed_call.ListedCall.ListedCall}
 use Rattle.argus_embed.specs.declared.list_end.ListEnd.TheVariants.{Failed, Unmet, Whole}
-use Rattle.argus_embed.specs.declared.listed_call.ListedCall.{ListedCall}
-use Rattle.argus_embed.specs.declared.outcome.Outcome.{Outcome}
-use Rattle.argus_embed.specs.declared.question.Question.{Question}
-use Rattle.argus_embed.specs.declared.request.Request.{Request}
-use Rattle.argus_embed.specs.declared.text_taken.TextTaken.{TextTaken}
+use Rattle.argus_embed.specs.{declared.outcome.Outcome.Outcome, declared.question.Question.Question}
+use Rattle.argus_embed.specs.{declared.request.Request.Request, declared.text_taken.TextTaken.TextTaken}
 
 -- there was one and there is one, and the relation holds of both
 abbrev pub Becomes : Option EmbeddedState → Option EmbeddedState → (EmbeddedState → EmbeddedState

@@ -6,16 +6,13 @@
 #![tactic(auto)]
 
 ghost use Rattle.std.specs.Prelude.{IfErr, IsSome, None, OnOk, Some, length, pos, ◌<◌, ◌≡◌, ◌≢◌};
-ghost use Rattle.std.specs.Prelude.{◌≤◌, ◌↔◌, ◌⊎◌};
-ghost use Rattle.std.specs.Str.{IsUtf8};
+ghost use Rattle.std.specs.{Prelude.{◌≤◌, ◌↔◌, ◌⊎◌}, Str.IsUtf8};
 ghost use Rattle.argus_c.specs.Slots.{Becomes, IsAnswered, IsGiven, IsMade, IsStatusOfFold};
 ghost use Rattle.argus_c.specs.Slots.{AreLinesGiven, IsLineTooLong, IsListAnswered, IsNotThere};
 ghost use Rattle.argus_c.specs.Slots.{IsStatusOfLines, IsStatusOfReply, IsTooLong, IsUncalled};
-ghost use Rattle.argus_c.specs.Slots.{AreTaken, HasText, IsResumed};
-ghost use Rattle.argus_c.specs.Slots.{end_status, version_number};
-ghost use Rattle.argus_embed.specs.Codes.{error_codes};
-ghost use Rattle.argus_embed.specs.Embedded.{IsAbortedInPart, IsBusy, after_abort_live};
-ghost use Rattle.argus_embed.specs.Embedded.{after_fold, after_renewal, empty_state};
+ghost use Rattle.argus_c.specs.Slots.{AreTaken, HasText, IsResumed, end_status, version_number};
+ghost use Rattle.argus_embed.specs.{Codes.error_codes, Embedded.{after_renewal, empty_state}};
+ghost use Rattle.argus_embed.specs.Embedded.{IsAbortedInPart, IsBusy, after_abort_live, after_fold};
 ghost use Rattle.argus_embed.specs.Requests.{IsRead, LacksPart};
 ghost use Rattle.argus_embed.specs.declared.kinds.TheConstants.{CHANGE_TAG_BOOL};
 

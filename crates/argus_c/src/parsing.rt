@@ -3,10 +3,8 @@
 ghost use Rattle.std.specs.Prelude.{IfErr, IfOk, None, pos, ◌<◌, ◌≡◌, ◌≢◌, ◌≤◌, ◌↔◌, ◌⊎◌};
 ghost use Rattle.std.specs.Str.{IsUtf8};
 ghost use Rattle.argus_c.specs.ParsedSlots.{HasParsed, IsMadeFrom, IsStatusOfDrop};
-ghost use Rattle.argus_c.specs.ParsedSlots.{IsStatusOfParsed};
-ghost use Rattle.argus_c.specs.Slots.{Becomes, IsUncalled};
-ghost use Rattle.argus_embed.specs.ParsedCall.{IsParsed};
-ghost use Rattle.argus_embed.specs.Requests.{IsUnread};
+ghost use Rattle.argus_c.specs.{ParsedSlots.IsStatusOfParsed, Slots.{Becomes, IsUncalled}};
+ghost use Rattle.argus_embed.specs.{ParsedCall.IsParsed, Requests.IsUnread};
 
 use crate::parsed_slot::ParsedSlot;
 use crate::slot::Slot;

@@ -1,7 +1,6 @@
 //! The exports for a commit in two steps: one makes it ready, others then make or cancel it.
 
-ghost use Rattle.std.specs.Option.{option_map};
-ghost use Rattle.std.specs.Prelude.{None, length, pos, ◌<◌, ◌≡◌, ◌≢◌, ◌≤◌};
+ghost use Rattle.std.specs.{Option.option_map, Prelude.{None, length, pos, ◌<◌, ◌≡◌, ◌≢◌, ◌≤◌}};
 ghost use Rattle.argus_c.specs.ReadySlots.{IsBack, IsCommitted, IsReadied, IsStatusOfCancel};
 ghost use Rattle.argus_c.specs.ReadySlots.{IsStatusOfLine, IsStatusOfMake, IsStatusOfReady};
 ghost use Rattle.argus_c.specs.Slots.{IsFront, IsPast};

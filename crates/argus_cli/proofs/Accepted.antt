@@ -1,34 +1,20 @@
 -- The value that an option has passed the option's parser.
-use Rattle.std.proofs.Common.{Bool, List, None, Option, Some, [], ap, arith, false, inl, inr}
-use Rattle.std.proofs.Common.{length, refl, subst, suc, sym, true, zero, ℕ, ◌<◌, ◌∙◌, ◌∷◌, ◌≡◌}
-use Rattle.std.specs.Borrow.{Bor}
-use Rattle.std.specs.List.{All, slice_index_or}
-use Rattle.std.specs.Prelude.{Ok, Result, codes, is_some, map, option_map, pos, slice_get}
-use Rattle.std.specs.Prelude.{unwrap_or, ◌^◌, ◌≤◌}
-use Rattle.std.specs.Str.{bytes_eq}
-use Rattle.std.proofs.lemmas.List.{get_or-map, length-map}
-use Rattle.std.proofs.lemmas.List.Elements.{All-get_or}
-use Rattle.std.proofs.lemmas.Slice.Eq.{bytes_eq-Decides}
-use Rattle.clap.specs.Built.{SameRules}
-use Rattle.clap.specs.Facts.{Entry, EntryPasses, HasReading, PassesArg, ValuesPass, parser_of_value}
-use Rattle.clap.specs.Words.{Accepts, App, IsParsedFrom, Rule, Text, args_of, found_of, groups_of}
-use Rattle.clap.specs.Words.{matched_of, one_text, parser_of, read_as, reading_of, rule_of}
-use Rattle.clap.specs.Words.{without_minus}
-use Rattle.clap.proofs.CallerLemmas.{entry_by_id, same_rules_by_id}
-use Rattle.clap.specs.declared.builder.arg.Arg.{Arg}
-use Rattle.clap.specs.declared.builder.command.Command.{Command}
-use Rattle.clap.specs.declared.builder.value_parser.Reading.{Reading}
-use Rattle.clap.specs.declared.builder.value_parser.ValueParser.{ValueParser}
-use Rattle.clap.specs.declared.parser.matches.ArgMatches.{ArgMatches}
-use Rattle.clap.specs.declared.parser.matches.Found.{Found}
-use Rattle.clap.specs.declared.parser.matches.MatchedArg.{MatchedArg}
+use Rattle.std.proofs.Common.{Bool, List, None, Option, Some, [], ap, arith, false, inl, inr, length, refl, subst, suc}
+use Rattle.std.proofs.{Common.{sym, true, zero, ℕ, ◌<◌, ◌∙◌, ◌∷◌, ◌≡◌}, lemmas.List.{get_or-map, length-map}}
+use Rattle.std.proofs.{lemmas.List.Elements.All-get_or, lemmas.Slice.Eq.bytes_eq-Decides}
+use Rattle.std.specs.{Borrow.Bor, List.{All, slice_index_or}, Str.bytes_eq}
+use Rattle.std.specs.Prelude.{Ok, Result, codes, is_some, map, option_map, pos, slice_get, unwrap_or, ◌^◌, ◌≤◌}
 use Rattle.std.specs.Str.Parse.{ParsesBool, ParsesUnsigned, digits_value, without_leading_plus}
-use Rattle.clap.specs.Matches.{ReadsOne}
-use Rattle.clap.specs.Values.{IsSignedIn}
-use Rattle.clap.proofs.CallerReads.{signed_reads}
+use Rattle.clap.specs.{Built.SameRules, Facts.{Entry, EntryPasses, HasReading, PassesArg, ValuesPass, parser_of_value}}
+use Rattle.clap.specs.Words.{Accepts, App, IsParsedFrom, Rule, Text, args_of, found_of, groups_of, matched_of, one_text}
+use Rattle.clap.specs.{Words.{parser_of, read_as, reading_of, rule_of, without_minus}, declared.builder.arg.Arg.Arg}
+use Rattle.clap.specs.{declared.builder.command.Command.Command, declared.builder.value_parser.Reading.Reading}
+use Rattle.clap.specs.{declared.builder.value_parser.ValueParser.ValueParser, declared.parser.matches.Found.Found}
+use Rattle.clap.specs.{declared.parser.matches.ArgMatches.ArgMatches, declared.parser.matches.MatchedArg.MatchedArg}
+use Rattle.clap.specs.{Matches.ReadsOne, Values.IsSignedIn}
+use Rattle.clap.proofs.{CallerLemmas.{entry_by_id, same_rules_by_id}, CallerReads.signed_reads}
 use Rattle.clap.specs.declared.builder.value_parser.ValueParser.TheVariants as vp
-use Rattle.argus_cli.specs.CommandLine.{IsProgram, is_given, listing_named, listing_or_bases}
-use Rattle.argus_cli.specs.CommandLine.{number_or, program}
+use Rattle.argus_cli.specs.CommandLine.{IsProgram, is_given, listing_named, listing_or_bases, number_or, program}
 use Rattle.argus_cli.specs.declared.limits.TheConstants.{MAX_PATIENCE, MAX_WORKERS}
 
 first_read : (P : Bor Text → Type 0) (how : Reading) (vs : List (Bor Text)) (t : Text) → All P vs

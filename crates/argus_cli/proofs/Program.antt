@@ -3,8 +3,7 @@ use Rattle.std.proofs.Common.{List, refl, true, ◌≡◌}
 use Rattle.std.specs.Borrow.{Bor}
 use Rattle.clap.specs.Words.{Text, is_simple, is_simple_and_free}
 use Rattle.clap.proofs.OnLiterals.{clap_on_literals}
-use Rattle.argus_cli.specs.CommandLine.{program}
-use Rattle.argus_cli.specs.ReplayCommandLine.{replay_program}
+use Rattle.argus_cli.specs.{CommandLine.program, ReplayCommandLine.replay_program}
 
 pub program_is_simple : (listings : Bor (List (Bor Text))) → is_simple (program listings) ≡ true
 unfolding clap_on_literals

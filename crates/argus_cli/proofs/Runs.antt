@@ -1,23 +1,14 @@
 -- What follows of a run from its parts: what was read, what was run, what was written.
 use Rattle.std.proofs.Common.{Err, List, Ok, Result, [], ap, false, inl, inr, refl, take, ℕ, ◌<◌, ◌∙◌, ◌≡◌}
-use Rattle.std.specs.Prelude.{IfErr, OnErr, OnOk}
-use Rattle.std.specs.Io.KnownBytes.{Appends}
-use Rattle.argus_cli.specs.ByWorkers.{IsLeftByWorkers}
+use Rattle.std.specs.{Prelude.{IfErr, OnErr, OnOk}, Io.KnownBytes.Appends}
+use Rattle.argus_cli.specs.{ByWorkers.IsLeftByWorkers, Status.IsListingFault, Streams.{AreFine, RunStreams}}
 use Rattle.argus_cli.specs.Ran.{CutShort, ListsRun, Ran, RunFailed, checkpointed, new_journal}
-use Rattle.argus_cli.specs.Status.{IsListingFault}
-use Rattle.argus_cli.specs.Streams.{AreFine, RunStreams}
-use Rattle.argus_cli.specs.declared.cli_fault.CliFault.{CliFault}
+use Rattle.argus_cli.specs.{declared.cli_fault.CliFault.CliFault, declared.run_options.Options.Options}
 use Rattle.argus_cli.specs.declared.cli_fault.CliFault.TheVariants as fault
-use Rattle.argus_cli.specs.declared.run_options.Options.{Options}
-use Rattle.argus_commands.specs.Fault.{NoFault}
-use Rattle.argus_commands.specs.Input.{ReadUpTo}
-use Rattle.argus_commands.specs.Lines.{lines_of}
-use Rattle.argus_commands.specs.Played.{IsPlay}
+use Rattle.argus_commands.specs.{Fault.NoFault, Input.ReadUpTo, Lines.lines_of, Played.IsPlay}
 use Rattle.argus_commands.specs.Script.{PlainScript, Spells}
 use Rattle.argus_guardian.specs.Listing.{listing_of}
-use Rattle.argus_journal.specs.Entry.{PlainEntry}
-use Rattle.argus_journal.specs.Opening.{Opening, empty}
-use Rattle.argus_journal.specs.JournalView.{JournalView}
+use Rattle.argus_journal.specs.{Entry.PlainEntry, Opening.{Opening, empty}, JournalView.JournalView}
 
 abbrev journal_of : Opening → List PlainEntry → JournalView
 journal_of o es = record { opening = o; entries = es }

@@ -1,17 +1,11 @@
 -- What a settlement says of a guardian that began without entries.
 use Rattle.std.specs.Borrow.{Bor}
-use Rattle.std.proofs.Common.{All, Bool, List, None, Option, Some, [], ap, arith, false, is_some}
-use Rattle.std.proofs.Common.{length, not, refl, slice_get, suc, sum_by, take, true, zero, ℕ, ◌++◌}
-use Rattle.std.proofs.Common.{◌+◌, ◌∙◌, ◌∷◌, ◌≡◌}
-use Rattle.std.proofs.lemmas.List.Elements.{All-head, All-tail}
-use Rattle.std.proofs.lemmas.List.Sums.{sum_by-cons}
-use Rattle.argus_values.specs.contents_declared.content.Content.{Content}
-use Rattle.argus_values.specs.contents_declared.shape.Shape.{Shape}
-use Rattle.argus_journal.specs.Entry.{PlainEntry}
-use Rattle.argus_journal.specs.Folding.{next_entry_number}
-use Rattle.argus_journal.specs.Journal.{plain_opened}
-use Rattle.argus_journal.specs.Opening.{Opening, empty, opening_at}
-use Rattle.argus_journal.specs.JournalView.{JournalView, next_entry}
+use Rattle.std.proofs.Common.{All, Bool, List, None, Option, Some, [], ap, arith, false, is_some, length, not, refl}
+use Rattle.std.proofs.Common.{slice_get, suc, sum_by, take, true, zero, ℕ, ◌++◌, ◌+◌, ◌∙◌, ◌∷◌, ◌≡◌}
+use Rattle.std.proofs.{lemmas.List.Elements.{All-head, All-tail}, lemmas.List.Sums.sum_by-cons}
+use Rattle.argus_values.specs.{contents_declared.content.Content.Content, contents_declared.shape.Shape.Shape}
+use Rattle.argus_journal.specs.{Entry.PlainEntry, Folding.next_entry_number, Journal.plain_opened}
+use Rattle.argus_journal.specs.{Opening.{Opening, empty, opening_at}, JournalView.{JournalView, next_entry}}
 
 -- a new journal's first entry has the number 0
 pub starts_at_none : (j : JournalView) → j.opening ≡ empty → j.entries ≡ [] → next_entry j ≡ 0

@@ -1,14 +1,9 @@
 -- What a run by several workers leaves.
 use Rattle.std.specs.Prelude.{All, List, length, ◌≡◌}
-use Rattle.argus_commands.specs.Script.{PlainScript}
-use Rattle.argus_journal.specs.Legal.{Legal}
-use Rattle.argus_journal.specs.Opening.{empty}
-use Rattle.argus_guardian.specs.Checking.{AreApart, Stands}
-use Rattle.argus_guardian.specs.Receipt.{PlainReceipt}
-use Rattle.argus_commands.specs.Played.{Tells}
-use Rattle.argus_commands.specs.RunCheck.{IsCheckedRun, entries_of_receipts}
+use Rattle.argus_commands.specs.{Script.PlainScript, Played.Tells, RunCheck.{IsCheckedRun, entries_of_receipts}}
 use Rattle.argus_commands.specs.workers_declared.arm_outcome.ArmOutcome.{ArmOutcome}
-use Rattle.argus_journal.specs.JournalView.{JournalView}
+use Rattle.argus_journal.specs.{Legal.Legal, Opening.empty, JournalView.JournalView}
+use Rattle.argus_guardian.specs.{Checking.{AreApart, Stands}, Receipt.PlainReceipt}
 
 -- Several workers ran the script on a new guardian, and this is its journal: its entries, each
 -- once, are those of receipts that show a run of the script.

@@ -1,25 +1,17 @@
 -- What options a command line asks for.
-use Rattle.std.specs.Prelude.{Bool, List, None, Option, Some, [], codes, false, if◌then◌else◌, map}
-use Rattle.std.specs.Prelude.{pos, ℕ, ◌∷◌, ◌≡◌}
-use Rattle.std.specs.Borrow.{Bor}
-use Rattle.std.specs.Str.{bytes_eq}
-use Rattle.std.specs.Str.Parse.{digits_value, without_leading_plus}
+use Rattle.std.specs.Prelude.{Bool, List, None, Option, Some, [], codes, false, if◌then◌else◌, map, pos, ℕ, ◌∷◌, ◌≡◌}
+use Rattle.std.specs.{Borrow.Bor, Str.bytes_eq, Str.Parse.{digits_value, without_leading_plus}}
 use Rattle.argus_cli.specs.declared.limits.TheConstants.{MAX_PATIENCE, MAX_WORKERS}
-use Rattle.argus_guardian.specs.listings_declared.listing.Listing.{Listing}
-use Rattle.argus_guardian.specs.listings_declared.listing.Listing.TheVariants.{Audit, Bases}
-use Rattle.argus_guardian.specs.listings_declared.listing.Listing.TheVariants.{Journal, Stacks}
 use Rattle.argus_cli.specs.declared.run_options.Options.{Options}
-use Rattle.argus_usage.specs.Usage.{IsStatusOf, named_program}
-use Rattle.argus_usage.specs.declared.no_options.NoOptions.{NoOptions}
+use Rattle.argus_guardian.specs.listings_declared.listing.Listing.{Listing}
+use Rattle.argus_guardian.specs.listings_declared.listing.Listing.TheVariants.{Audit, Bases, Journal, Stacks}
+use Rattle.argus_usage.specs.{Usage.{IsStatusOf, named_program}, declared.no_options.NoOptions.NoOptions}
 use Rattle.argus_usage.specs.declared.no_options.NoOptions.TheVariants as no
-use Rattle.clap.specs.Words.{App, IsAmong, IsPlain, Row, Rule, Text, app_of, fault_of, first_of}
-use Rattle.clap.specs.Words.{matches_of, new_rule, one_of, with_rule}
-use Rattle.clap.specs.declared.builder.action.ArgAction.TheVariants.{Set, SetTrue}
-use Rattle.clap.specs.declared.builder.command.Command.{Command}
-use Rattle.clap.specs.declared.builder.command.Command.TheViews.{out-Command}
-use Rattle.clap.specs.declared.builder.value_parser.ValueParser.{ValueParser}
+use Rattle.clap.specs.Words.{App, IsAmong, IsPlain, Row, Rule, Text, app_of, fault_of, first_of, matches_of, new_rule}
+use Rattle.clap.specs.{Words.{one_of, with_rule}, declared.builder.action.ArgAction.TheVariants.{Set, SetTrue}}
+use Rattle.clap.specs.{declared.builder.command.Command.Command, declared.builder.command.Command.TheViews.out-Command}
+use Rattle.clap.specs.{declared.builder.value_parser.ValueParser.ValueParser, declared.error.kind.ErrorKind.ErrorKind}
 use Rattle.clap.specs.declared.builder.value_parser.ValueParser.TheVariants as vp
-use Rattle.clap.specs.declared.error.kind.ErrorKind.{ErrorKind}
 
 -- an option with a value: this parser takes it, and this value is its default
 abbrev pub option_of : Text → Text → ValueParser → Rule

@@ -1,13 +1,10 @@
 -- What is written of a faulty line.
-use Rattle.std.specs.Fmt.{decimal}
-use Rattle.std.specs.Prelude.{List, codes, ℕ, ◌++◌}
-use Rattle.argus_cli.specs.declared.faulty_line.FaultyLine.{FaultyLine}
-use Rattle.argus_cli.specs.declared.text_fault.TextFault.{TextFault}
+use Rattle.std.specs.{Fmt.decimal, Prelude.{List, codes, ℕ, ◌++◌}}
+use Rattle.argus_cli.specs.{declared.faulty_line.FaultyLine.FaultyLine, declared.text_fault.TextFault.TextFault}
 use Rattle.argus_cli.specs.declared.text_fault.TextFault.TheVariants as text
 use Rattle.argus_guardian.specs.resume_declared.line_fault.LineFault.{LineFault}
 use Rattle.argus_guardian.specs.resume_declared.line_fault.LineFault.TheVariants as line
-use Rattle.argus_journal.specs.EntrySpelling.{reply_spelling}
-use Rattle.argus_journal.specs.Reply.{plain_reply}
+use Rattle.argus_journal.specs.{EntrySpelling.reply_spelling, Reply.plain_reply}
 
 -- a fault of a line, and where in it, or the reply that it ought to have
 abbrev pub line_fault_text : LineFault → List ℕ

@@ -1,24 +1,16 @@
 -- What a run reads and writes.
-use Rattle.std.specs.Prelude.{Bool, List, [], false, if◌then◌else◌, nat_le, take, true, ℕ}
-use Rattle.std.specs.Prelude.{◌&&◌, ◌<◌, ◌≡◌, ◌⊎◌}
+use Rattle.std.specs.Prelude.{Bool, List, [], false, if◌then◌else◌, nat_le, take, true, ℕ, ◌&&◌, ◌<◌, ◌≡◌, ◌⊎◌}
 use Rattle.std.specs.Io.KnownBytes.{Appends}
-use Rattle.argus_cli.specs.ByWorkers.{IsLeftByWorkers}
-use Rattle.argus_cli.specs.declared.cli_fault.CliFault.{CliFault}
-use Rattle.argus_cli.specs.declared.cli_fault.CliFault.TheVariants as fault
+use Rattle.argus_cli.specs.{ByWorkers.IsLeftByWorkers, declared.cli_fault.CliFault.CliFault}
 use Rattle.argus_cli.specs.declared.run_options.Options.{Options}
-use Rattle.argus_commands.specs.Fault.{IsFaultOf, NoFault}
-use Rattle.argus_commands.specs.Lines.{lines_of}
-use Rattle.argus_commands.specs.Script.{PlainScript, Spells}
-use Rattle.argus_commands.specs.language_declared.script_fault.ScriptFault.{ScriptFault}
-use Rattle.argus_guardian.specs.Checkpoint.{after_checkpoint, is_quiet}
-use Rattle.argus_journal.specs.Folding.{next_entry_number}
-use Rattle.argus_journal.specs.Opening.{empty}
-use Rattle.argus_journal.specs.declared.limits.TheConstants.{MAX_FIRST_ENTRY}
-use Rattle.argus_guardian.specs.Listing.{listing_of}
-use Rattle.argus_commands.specs.Played.{IsPlay}
-use Rattle.argus_journal.specs.JournalView.{JournalView}
-use Rattle.argus_commands.specs.Input.{ReadAtMost, ReadUpTo}
 use Rattle.argus_cli.specs.Streams.{AreFine, HasReaderFailed, HasWriterFailed, RunStreams}
+use Rattle.argus_cli.specs.declared.cli_fault.CliFault.TheVariants as fault
+use Rattle.argus_commands.specs.{Fault.{IsFaultOf, NoFault}, Lines.lines_of, Script.{PlainScript, Spells}}
+use Rattle.argus_commands.specs.{language_declared.script_fault.ScriptFault.ScriptFault, Played.IsPlay}
+use Rattle.argus_commands.specs.Input.{ReadAtMost, ReadUpTo}
+use Rattle.argus_guardian.specs.{Checkpoint.{after_checkpoint, is_quiet}, Listing.listing_of}
+use Rattle.argus_journal.specs.{Folding.next_entry_number, Opening.empty, declared.limits.TheConstants.MAX_FIRST_ENTRY}
+use Rattle.argus_journal.specs.JournalView.{JournalView}
 
 -- the journal of a new guardian
 abbrev pub new_journal : JournalView

@@ -1,18 +1,13 @@
 -- What the command line of a replay asks for.
-use Rattle.std.specs.Borrow.{Bor}
-use Rattle.std.specs.Prelude.{List, [], codes, false, ◌∷◌, ◌≡◌}
-use Rattle.argus_cli.specs.CommandLine.{NamesListings, flag_of, is_given, listing_or_bases}
-use Rattle.argus_cli.specs.CommandLine.{option_of}
+use Rattle.std.specs.{Borrow.Bor, Prelude.{List, [], codes, false, ◌∷◌, ◌≡◌}}
+use Rattle.argus_cli.specs.CommandLine.{NamesListings, flag_of, is_given, listing_or_bases, option_of}
 use Rattle.argus_cli.specs.declared.replay_options.ReplayOptions.{ReplayOptions}
-use Rattle.argus_usage.specs.Usage.{IsStatusOf, named_program}
-use Rattle.argus_usage.specs.declared.no_options.NoOptions.{NoOptions}
+use Rattle.argus_usage.specs.{Usage.{IsStatusOf, named_program}, declared.no_options.NoOptions.NoOptions}
 use Rattle.argus_usage.specs.declared.no_options.NoOptions.TheVariants as no
-use Rattle.clap.specs.Words.{App, IsAmong, IsPlain, Row, Text, app_of, fault_of, first_of}
-use Rattle.clap.specs.Words.{matches_of, one_of, with_rule}
-use Rattle.clap.specs.declared.builder.command.Command.{Command}
-use Rattle.clap.specs.declared.builder.command.Command.TheViews.{out-Command}
+use Rattle.clap.specs.Words.{App, IsAmong, IsPlain, Row, Text, app_of, fault_of, first_of, matches_of, one_of}
+use Rattle.clap.specs.{Words.with_rule, declared.builder.command.Command.Command}
+use Rattle.clap.specs.{declared.builder.command.Command.TheViews.out-Command, declared.error.kind.ErrorKind.ErrorKind}
 use Rattle.clap.specs.declared.builder.value_parser.ValueParser.TheVariants as vp
-use Rattle.clap.specs.declared.error.kind.ErrorKind.{ErrorKind}
 
 -- the program's command line: it has a version, and `--list` takes these names
 abbrev pub replay_program : Bor (List (Bor Text)) → App

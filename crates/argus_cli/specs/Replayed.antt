@@ -1,23 +1,18 @@
 -- What a replay reads and writes.
 use Rattle.std.specs.Io.KnownBytes.{Appends}
-use Rattle.std.specs.Prelude.{List, None, Option, Some, false, if◌then◌else◌, take, ℕ, ◌+◌}
-use Rattle.std.specs.Prelude.{◌==◌, ◌≡◌, ◌⊎◌}
+use Rattle.std.specs.Prelude.{List, None, Option, Some, false, if◌then◌else◌, take, ℕ, ◌+◌, ◌==◌, ◌≡◌, ◌⊎◌}
 use Rattle.argus_cli.specs.Streams.{AreFine, HasReaderFailed, HasWriterFailed, RunStreams}
-use Rattle.argus_cli.specs.declared.faulty_line.FaultyLine.{FaultyLine}
-use Rattle.argus_cli.specs.declared.replay_error.ReplayError.{ReplayError}
-use Rattle.argus_cli.specs.declared.replay_error.ReplayError.TheVariants as error
+use Rattle.argus_cli.specs.{declared.faulty_line.FaultyLine.FaultyLine, declared.replay_error.ReplayError.ReplayError}
 use Rattle.argus_cli.specs.declared.replay_options.ReplayOptions.{ReplayOptions}
 use Rattle.argus_cli.specs.declared.text_fault.TextFault.{TextFault}
+use Rattle.argus_cli.specs.declared.replay_error.ReplayError.TheVariants as error
 use Rattle.argus_cli.specs.declared.text_fault.TextFault.TheVariants as text
-use Rattle.argus_guardian.specs.Listing.{listing_of, numbered_names}
-use Rattle.argus_guardian.specs.Resumed.{IsResumed}
-use Rattle.argus_guardian.specs.listings_declared.listing.Listing.{Listing}
-use Rattle.argus_guardian.specs.resume_declared.line_fault.LineFault.TheVariants as line
-use Rattle.argus_guardian.specs.resume_declared.read_end.ReadEnd.{ReadEnd}
-use Rattle.argus_guardian.specs.resume_declared.read_end.ReadEnd.TheVariants as end
+use Rattle.argus_guardian.specs.{Listing.{listing_of, numbered_names}, Resumed.IsResumed}
+use Rattle.argus_guardian.specs.{listings_declared.listing.Listing.Listing, resume_declared.read_end.ReadEnd.ReadEnd}
 use Rattle.argus_guardian.specs.resume_declared.resumed.Resumed.{Resumed}
-use Rattle.argus_journal.specs.JournalView.{JournalView}
-use Rattle.argus_journal.specs.Objects.{declared}
+use Rattle.argus_guardian.specs.resume_declared.line_fault.LineFault.TheVariants as line
+use Rattle.argus_guardian.specs.resume_declared.read_end.ReadEnd.TheVariants as end
+use Rattle.argus_journal.specs.{JournalView.JournalView, Objects.declared}
 
 -- the listing of a journal with its objects under their numbers
 abbrev pub numbered_listing : Listing → JournalView → List ℕ

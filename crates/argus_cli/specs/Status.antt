@@ -1,8 +1,7 @@
 -- With which status a program ends.
 use Rattle.std.specs.Prelude.{Bool, false, true, ℕ, ◌≡◌}
-use Rattle.argus_cli.specs.declared.cli_fault.CliFault.{CliFault}
+use Rattle.argus_cli.specs.{declared.cli_fault.CliFault.CliFault, declared.replay_error.ReplayError.ReplayError}
 use Rattle.argus_cli.specs.declared.cli_fault.CliFault.TheVariants as fault
-use Rattle.argus_cli.specs.declared.replay_error.ReplayError.{ReplayError}
 use Rattle.argus_cli.specs.declared.replay_error.ReplayError.TheVariants as error
 
 -- the status of a fault

@@ -1,7 +1,6 @@
 -- What a program reads from and writes to.
 use Rattle.std.specs.Prelude.{Bool, List, Option, false, true, ℕ, ◌≡◌}
-use Rattle.argus_commands.specs.FailStop.{has_failed, inner_of}
-use Rattle.argus_commands.specs.streams_declared.fail_stop.FailStop.{FailStop}
+use Rattle.argus_commands.specs.{FailStop.{has_failed, inner_of}, streams_declared.fail_stop.FailStop.FailStop}
 
 -- What a reader has left to give and what a writer has taken, as far as their contracts say, and
 -- whether they have failed.

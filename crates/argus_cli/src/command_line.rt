@@ -1,8 +1,7 @@
 //! `options`: what a command line asks for.
 
-ghost use Rattle.std.specs.Borrow.{Bor};
+ghost use Rattle.std.specs.{Borrow.Bor, Prelude.{◌⊎◌}};
 ghost use Rattle.std.specs.Prelude.{IfErr, IfOk, List, codes, false, map, pos, string_bytes, ◌≡◌};
-ghost use Rattle.std.specs.Prelude.{◌⊎◌};
 ghost use Rattle.argus_cli.specs.CommandLine.{AskNothing, Asks, IsProgram, IsRefused};
 ghost use Rattle.argus_cli.specs.CommandLine.{NamesListings, flag_of, listing_named, option_of};
 ghost use Rattle.argus_cli.specs.Ranges.{KeepsRanges};

@@ -1,7 +1,6 @@
 //! `FaultyLine`: the first line because of which a text isn't a journal's listing.
 
-ghost use Rattle.std.specs.Prelude.{OnErr, OnOk, string_bytes, ◌++◌, ◌≡◌};
-ghost use Rattle.std.specs.Fmt.{decimal};
+ghost use Rattle.std.specs.{Prelude.{OnErr, OnOk, string_bytes, ◌++◌, ◌≡◌}, Fmt.decimal};
 ghost use Rattle.argus_cli.specs.FaultyLine.{faulty_line_text, fault_text, line_fault_text};
 
 use crate::text_fault::TextFault;

@@ -1,12 +1,10 @@
 //! `options_for_replay`: what the command line of a replay asks for.
 
-ghost use Rattle.std.specs.Prelude.{IfErr, IfOk, map, string_bytes, ◌≡◌, ◌⊎◌};
+ghost use Rattle.std.specs.Prelude.{IfErr, IfOk, map, string_bytes, ◌≡◌, ◌⊎◌, codes, false};
 ghost use Rattle.argus_cli.specs.ReplayCommandLine.{AskNoReplay, AsksReplay, IsReplayRefused};
-ghost use Rattle.argus_cli.specs.ReplayCommandLine.{IsReplayProgram};
-ghost use Rattle.argus_cli.specs.CommandLine.{flag_of};
+ghost use Rattle.argus_cli.specs.{ReplayCommandLine.IsReplayProgram, CommandLine.flag_of};
 ghost use Rattle.argus_usage.specs.Usage.{EndsWith0Or2};
 ghost use Rattle.clap.specs.Words.{IsPlainArg, kind_of, rule_of};
-ghost use Rattle.std.specs.Prelude.{codes, false};
 
 use crate::command_line::{list_option, listing_named};
 use crate::replay_options::ReplayOptions;

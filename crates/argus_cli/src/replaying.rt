@@ -1,15 +1,13 @@
 //! `replay`: from the bytes of a journal's listing to a listing of its guardian.
 
-ghost use Rattle.std.specs.Prelude.{IfErr, IfOk, OnErr, OnOk, false, take, true, ℕ, ◌↔◌, ◌≡◌};
-ghost use Rattle.std.specs.Prelude.{◌≢◌, ◌⊎◌};
+ghost use Rattle.std.specs.Prelude.{IfErr, IfOk, OnErr, OnOk, false, take, true, ℕ, ◌↔◌, ◌≡◌, ◌≢◌};
+ghost use Rattle.std.specs.{Prelude.{◌⊎◌}, Io.KnownBytes.Appends};
 ghost use Rattle.argus_cli.specs.Streams.{streams};
-ghost use Rattle.argus_cli.specs.Replayed.{IsFaultBehind, ReplayFailed, Replayed};
-ghost use Rattle.argus_cli.specs.Replayed.{numbered_listing};
+ghost use Rattle.argus_cli.specs.Replayed.{IsFaultBehind, ReplayFailed, Replayed, numbered_listing};
 ghost use Rattle.argus_cli.specs.declared.replay_error.ReplayError.TheVariants as error;
 ghost use Rattle.argus_guardian.specs.resume_declared.read_end.ReadEnd.TheVariants as ends;
 ghost use Rattle.argus_commands.specs.FailStop.{has_failed, inner_of};
 ghost use Rattle.argus_guardian.specs.listings_declared.list_error.ListError.TheVariants as list_error;
-ghost use Rattle.std.specs.Io.KnownBytes.{Appends};
 
 use crate::faulty_line::FaultyLine;
 use crate::replay_error::ReplayError;

@@ -3,11 +3,9 @@
 ghost use Rattle.std.specs.Prelude.{IfErr, OnErr, OnOk, false, take, ℕ, ◌+◌, ◌≡◌};
 ghost use Rattle.std.specs.Io.KnownBytes.{Appends};
 ghost use Rattle.argus_commands.specs.language_declared.limits.TheConstants.{MAX_SCRIPT_BYTES};
-ghost use Rattle.argus_cli.specs.Ran.{Ran, RunFailed, checkpointed};
-ghost use Rattle.argus_cli.specs.Streams.{streams};
-ghost use Rattle.argus_cli.specs.Ranges.{KeepsRanges};
-ghost use Rattle.argus_cli.specs.Status.{IsListingFault};
 ghost use Rattle.argus_commands.specs.FailStop.{has_failed, inner_of};
+ghost use Rattle.argus_cli.specs.{Ran.{Ran, RunFailed, checkpointed}, Streams.streams};
+ghost use Rattle.argus_cli.specs.{Ranges.KeepsRanges, Status.IsListingFault};
 ghost use Rattle.argus_guardian.specs.Listing.{listing_of};
 
 use crate::cli_fault::CliFault;

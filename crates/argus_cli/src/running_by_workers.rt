@@ -2,12 +2,10 @@
 
 ghost use Rattle.std.specs.Prelude.{All, IfOk, [], length, true, ◌+◌, ◌≡◌, ◌≤◌};
 ghost use Rattle.argus_guardian.specs.Keeper.{StartsHistory};
-ghost use Rattle.argus_cli.specs.ByWorkers.{IsLeftByWorkers};
-ghost use Rattle.argus_cli.specs.Ranges.{IsTeam};
-ghost use Rattle.argus_commands.specs.Script.{plain_script};
-ghost use Rattle.argus_journal.specs.Opening.{content_in, empty};
 ghost use Rattle.argus_guardian.specs.Following.{journal_bases, journal_effects};
-ghost use Rattle.argus_journal.specs.JournalView.{next_entry};
+ghost use Rattle.argus_cli.specs.{ByWorkers.IsLeftByWorkers, Ranges.IsTeam};
+ghost use Rattle.argus_commands.specs.Script.{plain_script};
+ghost use Rattle.argus_journal.specs.{Opening.{content_in, empty}, JournalView.next_entry};
 
 use argus_commands::{NoGate, Script, checked_runs_are_runs, run_shared};
 use argus_guardian::{Guardian, Keeper, Parts, Shared, Sharing};

@@ -1,18 +1,11 @@
 -- Items and fields that are written, and what a trim leaves.
-use Rattle.std.proofs.Common.{◌≡◌, ℕ, ◌<◌, ℤ, ◌≤ℤ◌, ◌<ℤ◌, List, length, take, drop, Some, true, false}
-use Rattle.std.proofs.Common.{refl, arith, nat_lt}
-use Rattle.std.specs.Prelude.{int_lt}
-use Rattle.std.proofs.lemmas.List.{map-set, length-map, drop-map}
-use Rattle.std.proofs.lemmas.Int.{ints}
+use Rattle.std.proofs.Common.{◌≡◌, ℕ, ◌<◌, ℤ, ◌≤ℤ◌, ◌<ℤ◌, List, length, take, drop, Some, true, false, refl, arith}
+use Rattle.std.proofs.{Common.nat_lt, lemmas.List.{map-set, length-map, drop-map}, lemmas.Int.ints}
 use Rattle.std.proofs.lemmas.Bool.Decides.{nat_tests}
-use Rattle.std.specs.List.{take-map}
+use Rattle.std.specs.{Prelude.int_lt, List.take-map}
 use lib.ListN.{set}
-use Rattle.argus_contents.specs.Value.{plain_value, plain_list}
-use Rattle.argus_contents.specs.Content.{rec, arr}
-use Rattle.argus_contents.specs.Answer.{done}
-use Rattle.argus_contents.specs.Change.{array_outcome, store, set_in}
-use Rattle.argus_contents.specs.Place.{place_of}
-use Rattle.argus_contents.specs.declared.value.Value.{Value}
+use Rattle.argus_contents.specs.{Value.{plain_value, plain_list}, Content.{rec, arr}, Answer.done, Place.place_of}
+use Rattle.argus_contents.specs.{Change.{array_outcome, store, set_in}, declared.value.Value.Value}
 use Rattle.argus_contents.proofs.Places.{place_of-plain}
 
 pub stored : (vs : List Value) (low i : ℤ) (place : ℕ) (v : Value) → Some place ≡ place_of low (length vs) i

@@ -1,17 +1,13 @@
 -- A content that fits keeps the limits, and so does one that a suitable change creates.
 use Rattle.std.proofs.Common.{◌≡◌, ℕ, ◌≤◌, ℤ, ◌≤ℤ◌, Bool, true, false, not, nat_le, length, Some, refl, arith}
+use Rattle.std.proofs.{lemmas.Bool.and_from, lemmas.Int.ints, lemmas.Bool.Decides.nat_tests}
 use Rattle.std.specs.Prelude.{int_lt, ◌&&◌}
-use Rattle.std.proofs.lemmas.Bool.{and_from}
-use Rattle.std.proofs.lemmas.Int.{ints}
-use Rattle.std.proofs.lemmas.Bool.Decides.{nat_tests}
 use Rattle.argus_contents.specs.Content.{PlainContent, rec, arr, var, KeepsBounds, KeepsLimits, is_within}
 use Rattle.argus_contents.specs.Change.{PlainChange, CreatesWithin, create, set_field, store, addh, addl, remh, reml}
-use Rattle.argus_contents.specs.Change.{set_low, trim, change_tag, touch}
-use Rattle.argus_contents.specs.Fitting.{change_suits, is_fitting}
-use Rattle.argus_contents.specs.Place.{high_of}
-use Rattle.argus_contents.specs.Shape.{PlainShape}
-use Rattle.argus_contents.specs.Shape as shape
+use Rattle.argus_contents.specs.{Change.{set_low, trim, change_tag, touch}, Fitting.{change_suits, is_fitting}}
+use Rattle.argus_contents.specs.{Place.high_of, Shape.PlainShape}
 use Rattle.argus_contents.specs.declared.limits.TheConstants.{MIN_BOUND, MAX_BOUND, MAX_ITEMS}
+use Rattle.argus_contents.specs.Shape as shape
 
 both_left : (a b : Bool) → (a && b) ≡ true → a ≡ true
 both_left true b e = refl

@@ -1,22 +1,16 @@
 -- What a change leaves keeps the limits.
 use Rattle.std.proofs.Common.{◌≡◌, ℕ, ◌<◌, ◌≤◌, ◌-◌, ℤ, pos, negsuc, ◌+ℤ◌, ◌-ℤ◌, ◌≤ℤ◌, List, [], ◌∷◌, length, take}
 use Rattle.std.proofs.Common.{drop, Option, Some, None, Bool, true, false, refl, arith, nat_lt, nat_le, length-append}
-use Rattle.std.proofs.Common.{length-take, length-drop, sym}
-use Rattle.std.specs.Prelude.{int_lt, unsigned_abs, ◌||◌, if◌then◌else◌}
-use Rattle.std.specs.Ordering.{int_eq}
-use Rattle.std.proofs.lemmas.Int.{ints, by_lt_z}
+use Rattle.std.proofs.{Common.{length-take, length-drop, sym}, lemmas.Int.{ints, by_lt_z}, Math.ListN.length-set}
 use Rattle.std.proofs.lemmas.Bool.Decides.{nat_tests, not_from_Decides, Decides-int_eq}
 use Rattle.std.proofs.lemmas.Bool.{false_from_ne_true}
-use Rattle.std.proofs.Math.ListN.{length-set}
-use Rattle.argus_contents.specs.Value.{PlainValue}
-use Rattle.argus_contents.specs.Content.{PlainContent, rec, arr, var, KeepsBounds, KeepsLimits}
-use Rattle.argus_contents.specs.Change.{PlainChange, Outcome, outcome, array_outcome, CreatesWithin, stored_at}
-use Rattle.argus_contents.specs.Change.{removed_low, is_full_high, is_full_low, is_out_of_limits, trim_refusal}
-use Rattle.argus_contents.specs.Change.{trimmed, create}
-use Rattle.argus_contents.specs.Change.{set_field, store, addh, addl, remh, reml, set_low, trim, change_tag, touch}
-use Rattle.argus_contents.specs.Place.{place_of, high_of}
+use Rattle.std.specs.{Prelude.{int_lt, unsigned_abs, ◌||◌, if◌then◌else◌}, Ordering.int_eq}
+use Rattle.argus_contents.specs.{Value.PlainValue, Content.{PlainContent, rec, arr, var, KeepsBounds, KeepsLimits}}
+use Rattle.argus_contents.specs.Change.{PlainChange, Outcome, outcome, array_outcome, CreatesWithin, stored_at, touch}
+use Rattle.argus_contents.specs.Change.{removed_low, is_full_high, is_full_low, is_out_of_limits, trim_refusal, trimmed}
+use Rattle.argus_contents.specs.Change.{create, set_field, store, addh, addl, remh, reml, set_low, trim, change_tag}
+use Rattle.argus_contents.specs.{Place.{place_of, high_of}, declared.signal.Signal.Signal}
 use Rattle.argus_contents.specs.declared.limits.TheConstants.{MIN_BOUND, MAX_BOUND, MAX_ITEMS}
-use Rattle.argus_contents.specs.declared.signal.Signal.{Signal}
 use Rattle.argus_contents.specs.declared.signal.Signal.TheVariants.{Bounds, Limits, NegativeSize}
 
 -- a choice has a property where each of its arms has

@@ -2,14 +2,11 @@
 use Rattle.std.proofs.Common.{◌≡◌, ℕ, Vec, Box, rules}
 use Rattle.argus_memory.specs.declared.limited.Limited.{Limited}
 use Rattle.std.specs.declared.alloc.Global.{Global}
-use Rattle.argus_contents.specs.Ty.{plain_ty, plain_fields}
+use Rattle.argus_contents.specs.{Ty.{plain_ty, plain_fields}, Value.{plain_value, plain_list, listed}}
+use Rattle.argus_contents.specs.{declared.name.Name.Name, declared.ty.Ty.{Ty, the_lemmas}, declared.value.Value.Value}
 use Rattle.argus_contents.specs.Ty as plain
-use Rattle.argus_contents.specs.Value.{plain_value, plain_list, listed}
 use Rattle.argus_contents.specs.Value as said
-use Rattle.argus_contents.specs.declared.name.Name.{Name}
-use Rattle.argus_contents.specs.declared.ty.Ty.{Ty, the_lemmas}
 use Rattle.argus_contents.specs.declared.ty.Ty as T
-use Rattle.argus_contents.specs.declared.value.Value.{Value}
 use Rattle.argus_contents.specs.declared.value.Value as V
 
 abbrev Heap : Type 0

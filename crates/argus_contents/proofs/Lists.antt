@@ -2,11 +2,8 @@
 use lib.Pointwise.{pointwise}
 use Rattle.std.proofs.Common.{List, [], ap, false, length, refl, suc, ◌≡◌, ◌≢◌, ◌∷◌}
 use Rattle.std.specs.Prelude.{nat_eq, ◌&&◌}
-use Rattle.argus_contents.specs.Same.{same_fields, same_ty, same_value, same_values}
-use Rattle.argus_contents.specs.Ty.{plain_fields, plain_ty}
-use Rattle.argus_contents.specs.Value.{listed, plain_list, plain_value}
-use Rattle.argus_contents.specs.declared.name.Name.{Name}
-use Rattle.argus_contents.specs.declared.ty.Ty.{Ty}
+use Rattle.argus_contents.specs.{Same.{same_fields, same_ty, same_value, same_values}, Ty.{plain_fields, plain_ty}}
+use Rattle.argus_contents.specs.{Value.{listed, plain_list, plain_value}, declared.name.Name.Name, declared.ty.Ty.Ty}
 use Rattle.argus_contents.specs.declared.value.Value.{Value}
 use Rattle.argus_contents.proofs.Types.{and_false}
 

@@ -1,10 +1,7 @@
 -- The place of an index, in a list of values and in the list of what they say.
-use Rattle.std.proofs.Common.{◌≡◌, ℕ, ℤ, List, length, slice_get, Some, sym, ap, ◌∙◌}
-use Rattle.std.proofs.lemmas.List.{length-map}
+use Rattle.std.proofs.{Common.{◌≡◌, ℕ, ℤ, List, length, slice_get, Some, sym, ap, ◌∙◌}, lemmas.List.length-map}
 use Rattle.std.specs.Option.{option_and_then}
-use Rattle.argus_contents.specs.Place.{place_of}
-use Rattle.argus_contents.specs.Value.{plain_value, plain_list}
-use Rattle.argus_contents.specs.declared.value.Value.{Value}
+use Rattle.argus_contents.specs.{Place.place_of, Value.{plain_value, plain_list}, declared.value.Value.Value}
 
 pub place_of-plain : (vs : List Value) (low i : ℤ) → place_of low (length (plain_list vs)) i
     ≡ place_of low (length vs) i

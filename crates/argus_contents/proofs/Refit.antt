@@ -1,12 +1,9 @@
 -- A low bound that was stored is the one that was meant, since it keeps the limits.
-use Rattle.std.proofs.Common.{◌≡◌, ℤ, pos, negsuc, List, Some, Result, Ok, Err, IfOk, OnErr, ap, subst, sym}
-use Rattle.std.proofs.Common.{arith, w64, to_z, of_z}
-use Rattle.std.proofs.lemmas.Int.{ints, to_z-of_z}
+use Rattle.std.proofs.Common.{◌≡◌, ℤ, pos, negsuc, List, Some, Result, Ok, Err, IfOk, OnErr, ap, subst, sym, arith, w64}
+use Rattle.std.proofs.{Common.{to_z, of_z}, lemmas.Int.{ints, to_z-of_z}}
 use mir.Val.{SFits}
 use Rattle.argus_memory.specs.declared.out_of_memory.OutOfMemory.{OutOfMemory}
-use Rattle.argus_contents.specs.Value.{PlainValue}
-use Rattle.argus_contents.specs.Content.{PlainContent, arr, KeepsLimits}
-use Rattle.argus_contents.specs.Answer.{PlainAnswer}
+use Rattle.argus_contents.specs.{Value.PlainValue, Content.{PlainContent, arr, KeepsLimits}, Answer.PlainAnswer}
 use Rattle.argus_contents.specs.Change.{PlainChange, Outcome, outcome, CreatesWithin}
 use Rattle.argus_contents.proofs.Kept.{outcome_keeps}
 

@@ -2,15 +2,12 @@
 use Rattle.std.proofs.Common.{◌≡◌, ◌≢◌, ◌<◌, ◌≤◌, ◌+◌, ◌-◌, ◌++◌, nat_eq, nat_le, ℕ, zero, suc, Bool, true, false, ◌&&◌}
 use Rattle.std.proofs.Common.{List, [], ◌∷◌, length, get_or, Option, Some, None, refl, ap, arith}
 use Rattle.std.proofs.lemmas.Bool.Decides.{nat_tests}
-use Rattle.argus_contents.specs.Typing.{ty_at, all_typed, each_typed, is_typed}
-use Rattle.argus_contents.specs.Ty.{PlainTy, PlainFields, plain_ty, plain_fields}
-use Rattle.argus_contents.specs.Ty as plain
-use Rattle.argus_contents.specs.Shape.{names_of, has_none}
-use Rattle.argus_contents.specs.Value.{PlainValue, listed, plain_list, plain_value}
-use Rattle.argus_contents.specs.Value as said
-use Rattle.argus_contents.specs.declared.name.Name.{Name}
-use Rattle.argus_contents.specs.declared.ty.Ty.{Ty}
+use Rattle.argus_contents.specs.{Typing.{ty_at, all_typed, each_typed, is_typed}, Shape.{names_of, has_none}}
+use Rattle.argus_contents.specs.{Ty.{PlainTy, PlainFields, plain_ty, plain_fields}, declared.name.Name.Name}
+use Rattle.argus_contents.specs.{Value.{PlainValue, listed, plain_list, plain_value}, declared.ty.Ty.Ty}
 use Rattle.argus_contents.specs.declared.value.Value.{Value}
+use Rattle.argus_contents.specs.Ty as plain
+use Rattle.argus_contents.specs.Value as said
 
 pub and_false : (b : Bool) → (b && false) ≡ false
 and_false true = refl

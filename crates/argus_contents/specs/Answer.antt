@@ -1,9 +1,7 @@
 -- What an answer says.
 use Rattle.std.specs.Prelude.{ℤ, Bool, Option, Some, None}
-use Rattle.argus_contents.specs.Value.{PlainValue, plain_value}
-use Rattle.argus_contents.specs.Content.{PlainContent, plain_content}
-use Rattle.argus_contents.specs.declared.signal.Signal.{Signal}
-use Rattle.argus_contents.specs.declared.answer.Answer.{Answer}
+use Rattle.argus_contents.specs.{Value.{PlainValue, plain_value}, Content.{PlainContent, plain_content}}
+use Rattle.argus_contents.specs.{declared.signal.Signal.Signal, declared.answer.Answer.Answer}
 use Rattle.argus_contents.specs.declared.answer.Answer.TheVariants as answer
 
 -- a plain answer

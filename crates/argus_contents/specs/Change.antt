@@ -1,22 +1,14 @@
 -- What a change says, and what it does, by cases of the operation and the content.
-use Rattle.std.specs.Prelude.{◌≡◌, ℕ, ℤ, Bool, pos, ◌+ℤ◌, ◌-ℤ◌, ◌-◌, int_lt, unsigned_abs, nat_lt}
-use Rattle.std.specs.Prelude.{nat_le, ◌||◌}
-use Rattle.std.specs.Prelude.{if◌then◌else◌, List, [], ◌∷◌, ◌++◌, length, take, drop, slice_get}
-use Rattle.std.specs.Prelude.{slice_set, Option}
-use Rattle.std.specs.Prelude.{Some, None, true, false}
-use Rattle.std.specs.Ordering.{int_eq}
-use Rattle.argus_contents.specs.Value.{PlainValue, plain_list, plain_value}
+use Rattle.std.specs.Prelude.{◌≡◌, ℕ, ℤ, Bool, pos, ◌+ℤ◌, ◌-ℤ◌, ◌-◌, int_lt, unsigned_abs, nat_lt, nat_le, ◌||◌}
+use Rattle.std.specs.Prelude.{if◌then◌else◌, List, [], ◌∷◌, ◌++◌, length, take, drop, slice_get, slice_set, Option}
+use Rattle.std.specs.{Prelude.{Some, None, true, false}, Ordering.int_eq}
+use Rattle.argus_contents.specs.{Value.{PlainValue, plain_list, plain_value}, Place.{place_of, high_of}}
 use Rattle.argus_contents.specs.Content.{PlainContent, rec, arr, var, plain_content, KeepsLimits}
-use Rattle.argus_contents.specs.Answer.{PlainAnswer, done, done_or, plain_answer, val, signal}
-use Rattle.argus_contents.specs.Answer.{value_or}
-use Rattle.argus_contents.specs.Place.{place_of, high_of}
+use Rattle.argus_contents.specs.Answer.{PlainAnswer, done, done_or, plain_answer, val, signal, value_or}
 use Rattle.argus_contents.specs.declared.limits.TheConstants.{MIN_BOUND, MAX_BOUND, MAX_ITEMS}
-use Rattle.argus_contents.specs.declared.value.Value.{Value}
-use Rattle.argus_contents.specs.declared.answer.Answer.{Answer}
-use Rattle.argus_contents.specs.declared.signal.Signal.{Signal}
-use Rattle.argus_contents.specs.declared.signal.Signal.TheVariants.{Absent, Exists, Bounds}
-use Rattle.argus_contents.specs.declared.signal.Signal.TheVariants.{NegativeSize, Limits}
-use Rattle.argus_contents.specs.declared.change.Change.{Change}
+use Rattle.argus_contents.specs.{declared.value.Value.Value, declared.answer.Answer.Answer}
+use Rattle.argus_contents.specs.{declared.signal.Signal.Signal, declared.change.Change.Change}
+use Rattle.argus_contents.specs.declared.signal.Signal.TheVariants.{Absent, Exists, Bounds, NegativeSize, Limits}
 use Rattle.argus_contents.specs.declared.change.Change.TheVariants as change
 
 -- a plain change

@@ -1,10 +1,8 @@
 -- What the content of an object says, and the limits that an array keeps.
-use Rattle.std.specs.Prelude.{ℕ, ℤ, ◌≤ℤ◌, ◌+ℤ◌, ◌≤◌, pos, List, length, Option, Some, None}
-use Rattle.std.specs.Prelude.{Bool, int_lt, nat_le, not, ◌&&◌}
-use Rattle.argus_contents.specs.Place.{high_of}
-use Rattle.argus_contents.specs.Value.{PlainValue, plain_value, plain_list}
-use Rattle.argus_contents.specs.declared.content.Content.{Content}
-use Rattle.argus_contents.specs.declared.content.Content.TheVariants.{Rec, Arr, Var}
+use Rattle.std.specs.Prelude.{ℕ, ℤ, ◌≤ℤ◌, ◌+ℤ◌, ◌≤◌, pos, List, length, Option, Some, None, Bool, int_lt, nat_le, not}
+use Rattle.std.specs.Prelude.{◌&&◌}
+use Rattle.argus_contents.specs.{Place.high_of, Value.{PlainValue, plain_value, plain_list}}
+use Rattle.argus_contents.specs.{declared.content.Content.Content, declared.content.Content.TheVariants.{Rec, Arr, Var}}
 use Rattle.argus_contents.specs.declared.limits.TheConstants.{MIN_BOUND, MAX_BOUND, MAX_ITEMS}
 
 -- a plain content: the fields of a record, the low bound and the items of an array, the tag and the

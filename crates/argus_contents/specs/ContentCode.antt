@@ -1,13 +1,11 @@
 -- The code of a plain content: a tree of numbers from which it can be read again.
-use Rattle.std.specs.Prelude.{◌≡◌, ℕ, ℤ, pos, negsuc, Bool, true, false, List, [], ◌∷◌, ◌==◌}
-use Rattle.std.specs.Prelude.{if◌then◌else◌, refl}
-use Rattle.std.proofs.Common.{ap, sym, ◌∙◌}
+use Rattle.std.specs.Prelude.{◌≡◌, ℕ, ℤ, pos, negsuc, Bool, true, false, List, [], ◌∷◌, ◌==◌, if◌then◌else◌, refl}
 use Rattle.std.specs.Coded.{Coded}
+use Rattle.std.proofs.Common.{ap, sym, ◌∙◌}
 use base.Stored.{Gv, gnil, gnum, gcons, num}
-use Rattle.argus_contents.specs.ShapeCode.{first, second, bytes_code, bytes_at, bytes_back}
+use Rattle.argus_contents.specs.{ShapeCode.{first, second, bytes_code, bytes_at, bytes_back}, Content.PlainContent}
 use Rattle.argus_contents.specs.Value.{PlainValue, PlainValues}
 use Rattle.argus_contents.specs.Value as value
-use Rattle.argus_contents.specs.Content.{PlainContent}
 use Rattle.argus_contents.specs.Content as content
 
 -- a truth value as it is stored

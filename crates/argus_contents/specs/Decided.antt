@@ -1,27 +1,19 @@
 -- The tests of what is said say exactly whether it is the same.
 use lib.Pointwise.{bytes_decides, pointwise}
 use Rattle.std.proofs.Common.{Bool, List, [], ap, refl, subst, sym, true, ◌∙◌, ◌∷◌, ◌≡◌}
-use Rattle.std.specs.Bool.{Decides, one_answer}
-use Rattle.std.specs.Cmp.{IsPartialEquivalence, booleans_Decides, signed_Decides}
-use Rattle.std.specs.Ordering.{int_eq}
-use Rattle.std.specs.Prelude.{nat_eq, ◌&&◌, ◌==◌, ◌↔◌}
 use Rattle.std.proofs.lemmas.Bool.{and_from, and_parts, eq-eqb, eqb-true, false≢true}
-use Rattle.argus_contents.specs.Answer.{PlainAnswer}
+use Rattle.std.specs.{Bool.{Decides, one_answer}, Cmp.{IsPartialEquivalence, booleans_Decides, signed_Decides}}
+use Rattle.std.specs.{Ordering.int_eq, Prelude.{nat_eq, ◌&&◌, ◌==◌, ◌↔◌}}
+use Rattle.argus_contents.specs.{Answer.PlainAnswer, Change.PlainChange, Content.PlainContent, Shape.PlainShape}
+use Rattle.argus_contents.specs.Same.{same_answer, same_change, same_content, same_fields, same_shape, same_signal}
+use Rattle.argus_contents.specs.{Same.{same_ty, same_value, same_values}, Ty.{PlainFields, PlainTy}}
+use Rattle.argus_contents.specs.{Value.{PlainValue, PlainValues, listed}, declared.signal.Signal.Signal}
 use Rattle.argus_contents.specs.Answer as answer
-use Rattle.argus_contents.specs.Change.{PlainChange}
 use Rattle.argus_contents.specs.Change as change
-use Rattle.argus_contents.specs.Content.{PlainContent}
 use Rattle.argus_contents.specs.Content as content
-use Rattle.argus_contents.specs.Same.{same_answer, same_change, same_content, same_fields}
-use Rattle.argus_contents.specs.Same.{same_shape, same_signal}
-use Rattle.argus_contents.specs.Same.{same_ty, same_value, same_values}
-use Rattle.argus_contents.specs.Shape.{PlainShape}
 use Rattle.argus_contents.specs.Shape as shape
-use Rattle.argus_contents.specs.Ty.{PlainFields, PlainTy}
 use Rattle.argus_contents.specs.Ty as ty
-use Rattle.argus_contents.specs.Value.{PlainValue, PlainValues, listed}
 use Rattle.argus_contents.specs.Value as value
-use Rattle.argus_contents.specs.declared.signal.Signal.{Signal}
 use Rattle.argus_contents.specs.declared.signal.Signal.TheVariants as signal
 
 -- two tests at once

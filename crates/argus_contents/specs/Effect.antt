@@ -1,7 +1,6 @@
 -- What a topaction leaves in objects.
 use Rattle.std.specs.Prelude.{List, Option, map, ℕ}
-use Rattle.argus_contents.specs.Content.{PlainContent, plain_option}
-use Rattle.argus_contents.specs.declared.content.Content.{Content}
+use Rattle.argus_contents.specs.{Content.{PlainContent, plain_option}, declared.content.Content.Content}
 use Rattle.argus_contents.specs.declared.obj_id.ObjId.{ObjId}
 
 -- an effect: objects by number, each with what is left in it

@@ -1,18 +1,12 @@
 -- When a content fits a shape, and when an operation suits one.
 use Rattle.std.specs.Prelude.{ℕ, Bool, true, false, ◌&&◌, nat_lt, length}
-use Rattle.argus_contents.specs.Value.{PlainValue, listed}
-use Rattle.argus_contents.specs.Typing.{is_typed, all_typed, each_typed, is_typed_at}
-use Rattle.argus_contents.specs.Ty.{PlainFields}
-use Rattle.argus_contents.specs.Shape.{PlainShape, names_of}
-use Rattle.argus_contents.specs.Shape as shape
-use Rattle.argus_contents.specs.Content.{PlainContent, arr, is_within, rec, var}
-use Rattle.argus_contents.specs.Change.{PlainChange, create, set_field, store, addh, addl, remh}
-use Rattle.argus_contents.specs.Change.{reml, set_low, trim}
-use Rattle.argus_contents.specs.Change.{change_tag, touch}
-use Rattle.argus_contents.specs.declared.query.Query.{Query}
-use Rattle.argus_contents.specs.declared.query.Query.TheVariants.{Whole, Field, Low, High, Size}
-use Rattle.argus_contents.specs.declared.query.Query.TheVariants.{Fetch, Bottom, Top}
+use Rattle.argus_contents.specs.{Value.{PlainValue, listed}, Typing.{is_typed, all_typed, each_typed, is_typed_at}}
+use Rattle.argus_contents.specs.{Ty.PlainFields, Shape.{PlainShape, names_of}, Change.{change_tag, touch}}
+use Rattle.argus_contents.specs.{Content.{PlainContent, arr, is_within, rec, var}, declared.query.Query.Query}
+use Rattle.argus_contents.specs.Change.{PlainChange, create, set_field, store, addh, addl, remh, reml, set_low, trim}
+use Rattle.argus_contents.specs.declared.query.Query.TheVariants.{Whole, Field, Low, High, Size, Fetch, Bottom, Top}
 use Rattle.argus_contents.specs.declared.query.Query.TheVariants.{IsTag, TagValue}
+use Rattle.argus_contents.specs.Shape as shape
 
 -- the content is of the shape's kind, its parts are of their types, and an array keeps the limits
 abbrev pub is_fitting : PlainShape → ℕ → PlainContent → Bool

@@ -1,6 +1,5 @@
 -- When a text has the form of a name.
-use Rattle.std.specs.Prelude.{ℕ, Bool, ◌&&◌, ◌||◌, nat_le, nat_lt, ◌==◌, List, length}
-use Rattle.std.specs.List.{list_all}
+use Rattle.std.specs.{Prelude.{ℕ, Bool, ◌&&◌, ◌||◌, nat_le, nat_lt, ◌==◌, List, length}, List.list_all}
 use Rattle.argus_contents.specs.declared.limits.TheConstants.{MAX_NAME_BYTES}
 
 -- a lower-case letter, a digit or `_`

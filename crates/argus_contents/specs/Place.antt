@@ -1,6 +1,5 @@
 -- Where an index of an array points.
-use Rattle.std.specs.Prelude.{ℕ, ℤ, ◌+ℤ◌, pos, nat_lt, if◌then◌else◌, Option, Some, None}
-use Rattle.std.specs.Prelude.{◌-ℤ◌, int_lt, unsigned_abs}
+use Rattle.std.specs.Prelude.{ℕ, ℤ, ◌+ℤ◌, pos, nat_lt, if◌then◌else◌, Option, Some, None, ◌-ℤ◌, int_lt, unsigned_abs}
 
 -- the place of index i, from 0, in an array with this low bound and this many items; `None` out of
 -- bounds

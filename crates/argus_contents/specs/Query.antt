@@ -1,16 +1,11 @@
 -- The answer to a query, by cases of the operation and the content.
-use Rattle.std.specs.Prelude.{ℕ, ℤ, pos, ◌-◌, ◌==◌, if◌then◌else◌, List, length, slice_get, Option}
-use Rattle.std.specs.Prelude.{Some, None}
+use Rattle.std.specs.Prelude.{ℕ, ℤ, pos, ◌-◌, ◌==◌, if◌then◌else◌, List, length, slice_get, Option, Some, None}
 use Rattle.std.specs.Option.{option_and_then}
-use Rattle.argus_contents.specs.Value.{PlainValue}
-use Rattle.argus_contents.specs.Content.{PlainContent, rec, arr, var}
+use Rattle.argus_contents.specs.{Value.PlainValue, Content.{PlainContent, rec, arr, var}, Place.{place_of, high_of}}
 use Rattle.argus_contents.specs.Answer.{PlainAnswer, num, flag, body, val, signal, value_or}
-use Rattle.argus_contents.specs.Place.{place_of, high_of}
 use Rattle.argus_contents.specs.declared.signal.Signal.TheVariants.{Absent, Bounds, WrongTag}
-use Rattle.argus_contents.specs.declared.query.Query.{Query}
-use Rattle.argus_contents.specs.declared.query.Query.TheVariants.{Whole, Field, Low, High, Size}
-use Rattle.argus_contents.specs.declared.query.Query.TheVariants.{Fetch, Bottom, Top}
-use Rattle.argus_contents.specs.declared.query.Query.TheVariants.{IsTag, TagValue}
+use Rattle.argus_contents.specs.{declared.query.Query.Query, declared.query.Query.TheVariants.{IsTag, TagValue}}
+use Rattle.argus_contents.specs.declared.query.Query.TheVariants.{Whole, Field, Low, High, Size, Fetch, Bottom, Top}
 
 -- the answer to a query of a record
 abbrev pub record_reply : Query → List PlainValue → PlainAnswer

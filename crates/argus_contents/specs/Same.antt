@@ -1,22 +1,16 @@
 -- Tests of what is said: whether two values, types, shapes, contents, changes or answers say the
 -- same.
 use lib.Pointwise.{pointwise}
-use Rattle.std.specs.Bool.{beq}
-use Rattle.std.specs.Ordering.{int_eq}
-use Rattle.std.specs.Prelude.{Bool, false, nat_eq, true, ◌&&◌, ◌==◌}
-use Rattle.argus_contents.specs.Answer.{PlainAnswer}
-use Rattle.argus_contents.specs.Answer as answer
-use Rattle.argus_contents.specs.Change.{PlainChange}
-use Rattle.argus_contents.specs.Change as change
-use Rattle.argus_contents.specs.Content.{PlainContent}
-use Rattle.argus_contents.specs.Content as content
-use Rattle.argus_contents.specs.Shape.{PlainShape}
-use Rattle.argus_contents.specs.Shape as shape
-use Rattle.argus_contents.specs.Ty.{PlainFields, PlainTy}
-use Rattle.argus_contents.specs.Ty as ty
-use Rattle.argus_contents.specs.Value.{PlainValue, PlainValues, listed}
-use Rattle.argus_contents.specs.Value as value
+use Rattle.std.specs.{Bool.beq, Ordering.int_eq, Prelude.{Bool, false, nat_eq, true, ◌&&◌, ◌==◌}}
+use Rattle.argus_contents.specs.{Answer.PlainAnswer, Change.PlainChange, Content.PlainContent, Shape.PlainShape}
+use Rattle.argus_contents.specs.{Ty.{PlainFields, PlainTy}, Value.{PlainValue, PlainValues, listed}}
 use Rattle.argus_contents.specs.declared.signal.Signal.{Signal}
+use Rattle.argus_contents.specs.Answer as answer
+use Rattle.argus_contents.specs.Change as change
+use Rattle.argus_contents.specs.Content as content
+use Rattle.argus_contents.specs.Shape as shape
+use Rattle.argus_contents.specs.Ty as ty
+use Rattle.argus_contents.specs.Value as value
 use Rattle.argus_contents.specs.declared.signal.Signal.TheVariants as signal
 
 abbrev mutual

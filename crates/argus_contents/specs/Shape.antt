@@ -1,16 +1,11 @@
 -- What a shape says, and when one can be made.
-use Rattle.std.specs.Prelude.{◌≡◌, ℕ, ◌+◌, max, nat_eq, nat_lt, Bool, true, false, ◌||◌, if◌then◌else◌}
-use Rattle.std.specs.Prelude.{List, [], ◌∷◌}
-use Rattle.std.specs.Prelude.{length, Option, Some, None}
+use Rattle.std.specs.Prelude.{◌≡◌, ℕ, ◌+◌, max, nat_eq, nat_lt, Bool, true, false, ◌||◌, if◌then◌else◌, List, [], ◌∷◌}
+use Rattle.std.specs.{Prelude.{length, Option, Some, None}, List.list_any}
 use lib.Pointwise.{pointwise}
-use Rattle.std.specs.List.{list_any}
-use Rattle.argus_contents.specs.Name.{is_name}
-use Rattle.argus_contents.specs.Ty.{PlainTy, PlainFields}
-use Rattle.argus_contents.specs.Ty as ty
+use Rattle.argus_contents.specs.{Name.is_name, Ty.{PlainTy, PlainFields}, declared.shape_fault.ShapeFault.ShapeFault}
 use Rattle.argus_contents.specs.declared.limits.TheConstants.{MAX_NAMES, MAX_VALUE_DEPTH}
-use Rattle.argus_contents.specs.declared.shape_fault.ShapeFault.{ShapeFault}
-use Rattle.argus_contents.specs.declared.shape_fault.ShapeFault.TheVariants.{NameTwice, NoNames}
-use Rattle.argus_contents.specs.declared.shape_fault.ShapeFault.TheVariants.{TooManyNames, TooDeep}
+use Rattle.argus_contents.specs.declared.shape_fault.ShapeFault.TheVariants.{NameTwice, NoNames, TooManyNames, TooDeep}
+use Rattle.argus_contents.specs.Ty as ty
 
 -- a plain shape
 pub data PlainShape : Type 0 where

@@ -1,11 +1,9 @@
 -- The code of a plain shape: a tree of numbers from which it can be read again.
-use Rattle.std.specs.Prelude.{◌≡◌, ℕ, List, [], ◌∷◌, ◌==◌, if◌then◌else◌, refl}
+use Rattle.std.specs.{Prelude.{◌≡◌, ℕ, List, [], ◌∷◌, ◌==◌, if◌then◌else◌, refl}, Coded.Coded}
 use Rattle.std.proofs.Common.{ap, sym, ◌∙◌}
-use Rattle.std.specs.Coded.{Coded}
 use base.Stored.{Gv, gnil, gnum, gcons, num}
-use Rattle.argus_contents.specs.Ty.{PlainTy, PlainFields}
+use Rattle.argus_contents.specs.{Ty.{PlainTy, PlainFields}, Shape.{PlainShape, rec, arr, var}}
 use Rattle.argus_contents.specs.Ty as ty
-use Rattle.argus_contents.specs.Shape.{PlainShape, rec, arr, var}
 
 -- the first part of what is stored
 abbrev pub first : Gv → Gv

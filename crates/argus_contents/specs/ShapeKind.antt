@@ -1,10 +1,9 @@
 -- What the parts of a shape say, and what is looked for in its lists of names.
 use Rattle.std.specs.Prelude.{ℕ, Bool, List}
 use Rattle.argus_contents.specs.Shape.{PlainShape, rec, arr, var, has_twice, has_none, has_too_many}
-use Rattle.argus_contents.specs.Ty.{plain_ty, plain_fields}
-use Rattle.argus_contents.specs.declared.shape_kind.ShapeKind.{ShapeKind}
-use Rattle.argus_contents.specs.declared.shape_kind.ShapeKind.TheVariants as kind
+use Rattle.argus_contents.specs.{Ty.{plain_ty, plain_fields}, declared.shape_kind.ShapeKind.ShapeKind}
 use Rattle.argus_contents.specs.declared.shaping.NameTest.{NameTest}
+use Rattle.argus_contents.specs.declared.shape_kind.ShapeKind.TheVariants as kind
 use Rattle.argus_contents.specs.declared.shaping.NameTest.TheVariants as test
 
 -- what the parts of a shape say

@@ -1,6 +1,5 @@
 -- What the parts of a shape say to code that looks at them.
-use Rattle.argus_contents.specs.Shape.{PlainShape, rec, arr, var}
-use Rattle.argus_contents.specs.Ty.{plain_ty, plain_fields}
+use Rattle.argus_contents.specs.{Shape.{PlainShape, rec, arr, var}, Ty.{plain_ty, plain_fields}}
 use Rattle.argus_contents.specs.declared.shape_view.ShapeView.{ShapeView}
 use Rattle.argus_contents.specs.declared.shape_view.ShapeView.TheVariants as view
 

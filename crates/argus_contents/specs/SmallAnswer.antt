@@ -1,10 +1,8 @@
 -- What an answer that takes no memory says, and which answers take memory.
 use Rattle.std.specs.Prelude.{Bool, true, false}
-use Rattle.argus_contents.specs.Value.{PlainValue}
+use Rattle.argus_contents.specs.{Value.PlainValue, Answer.PlainAnswer, declared.small_answer.SmallAnswer.SmallAnswer}
 use Rattle.argus_contents.specs.Value as value
-use Rattle.argus_contents.specs.Answer.{PlainAnswer}
 use Rattle.argus_contents.specs.Answer as answer
-use Rattle.argus_contents.specs.declared.small_answer.SmallAnswer.{SmallAnswer}
 use Rattle.argus_contents.specs.declared.small_answer.SmallAnswer.TheVariants as small
 
 -- what an answer that takes no memory says

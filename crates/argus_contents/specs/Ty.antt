@@ -1,8 +1,6 @@
 -- What a type says, apart from where it is in memory.
 use Rattle.std.specs.Prelude.{ℕ, List, [], ◌∷◌, map}
-use Rattle.argus_contents.specs.declared.name.Name.{Name}
-use Rattle.argus_contents.specs.declared.ty.Ty.{Ty, fold-Ty}
-use Rattle.argus_contents.specs.declared.ty.Ty.TheOpen.{Ty-F}
+use Rattle.argus_contents.specs.{declared.name.Name.Name, declared.ty.Ty.{Ty, fold-Ty}, declared.ty.Ty.TheOpen.Ty-F}
 
 mutual
   -- a plain type

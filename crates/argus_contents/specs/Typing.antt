@@ -1,8 +1,7 @@
 -- When a value is of a type.
 use Rattle.std.specs.Prelude.{ℕ, zero, suc, Bool, true, false, ◌&&◌, nat_lt, Option, Some, None}
-use Rattle.argus_contents.specs.Value.{PlainValue, PlainValues}
+use Rattle.argus_contents.specs.{Value.{PlainValue, PlainValues}, Ty.{PlainTy, PlainFields}}
 use Rattle.argus_contents.specs.Value as value
-use Rattle.argus_contents.specs.Ty.{PlainTy, PlainFields}
 use Rattle.argus_contents.specs.Ty as ty
 
 -- the type of the field or tag with a number, if there is one

@@ -1,8 +1,6 @@
 -- What a value says, apart from where it is in memory.
-use Rattle.std.specs.Prelude.{ℕ, ℤ, Bool, List, [], ◌∷◌, map, string_bytes, Option, Some, None}
-use Rattle.std.specs.Borrow.{Bor}
-use Rattle.argus_contents.specs.declared.value.Value.{Value, fold-Value}
-use Rattle.argus_contents.specs.declared.value.Value.TheOpen.{Value-F}
+use Rattle.std.specs.{Prelude.{ℕ, ℤ, Bool, List, [], ◌∷◌, map, string_bytes, Option, Some, None}, Borrow.Bor}
+use Rattle.argus_contents.specs.{declared.value.Value.{Value, fold-Value}, declared.value.Value.TheOpen.Value-F}
 
 mutual
   -- a plain value; a text is its bytes in UTF-8

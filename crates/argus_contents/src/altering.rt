@@ -1,11 +1,10 @@
 //! `alter`, `alter_in_place` and `alter_by_reference`: what a change does.
 
 ghost use Rattle.std.specs.Prelude.{◌≡◌, false, IfOk, length, None, OnErr, OnOk, Some, true};
-ghost use Rattle.argus_contents.specs.Answer.{done_or, plain_answer};
+ghost use Rattle.argus_contents.specs.{Answer.{done_or, plain_answer}, Change.variant_outcome};
 ghost use Rattle.argus_contents.specs.Change.{absent_outcome, addh, addl, CreatesWithin};
 ghost use Rattle.argus_contents.specs.Change.{gives_value, Leaves, LeavesOr, outcome, plain_change};
 ghost use Rattle.argus_contents.specs.Change.{record_outcome, set_in, set_low, store, trim};
-ghost use Rattle.argus_contents.specs.Change.{variant_outcome};
 ghost use Rattle.argus_contents.specs.Content.{KeepsBounds, KeepsLimits, plain_content};
 ghost use Rattle.argus_contents.specs.Content.{plain_option, rec, var, with_low};
 ghost use Rattle.argus_contents.specs.Value.{plain_list, plain_value};

@@ -1,8 +1,7 @@
 //! `Answer`: what an operation returns.
 
 ghost use Rattle.std.specs.Prelude.{◌≡◌, ◌↔◌, true, IfOk};
-ghost use Rattle.argus_contents.specs.Answer.{body, plain_answer};
-ghost use Rattle.argus_contents.specs.Content.{plain_content};
+ghost use Rattle.argus_contents.specs.{Answer.{body, plain_answer}, Content.plain_content};
 ghost use Rattle.argus_contents.specs.Decided.{said_equivalence, answer_decided};
 ghost use Rattle.argus_contents.specs.Same.{same_answer};
 

@@ -2,8 +2,7 @@
 
 ghost use Rattle.std.specs.Prelude.{◌≡◌, ◌≤◌, length, drop};
 ghost use Rattle.argus_contents.specs.Change.{is_full_high, is_full_low, is_out_of_limits, Leaves};
-ghost use Rattle.argus_contents.specs.Change.{trim, trim_refusal};
-ghost use Rattle.argus_contents.specs.Content.{KeepsBounds};
+ghost use Rattle.argus_contents.specs.{Change.{trim, trim_refusal}, Content.KeepsBounds};
 ghost use Rattle.argus_contents.specs.declared.limits.TheConstants.{MAX_ITEMS};
 
 use crate::answer::Answer;

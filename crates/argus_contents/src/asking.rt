@@ -1,11 +1,8 @@
 //! `ask`: the answer to a query.
 
-ghost use Rattle.std.specs.Prelude.{◌≡◌, length, slice_get, Option, Some, None};
-ghost use Rattle.std.specs.Prelude.{IfOk};
-ghost use Rattle.argus_contents.specs.Answer.{body, plain_answer, value_or};
-ghost use Rattle.argus_contents.specs.Content.{KeepsBounds, KeepsLimits};
-ghost use Rattle.argus_contents.specs.Content.{plain_option, arr};
-ghost use Rattle.argus_contents.specs.Place.{place_of};
+ghost use Rattle.std.specs.Prelude.{◌≡◌, length, slice_get, Option, Some, None, IfOk};
+ghost use Rattle.argus_contents.specs.{Answer.{body, plain_answer, value_or}, Place.place_of};
+ghost use Rattle.argus_contents.specs.Content.{KeepsBounds, KeepsLimits, plain_option, arr};
 ghost use Rattle.argus_contents.specs.Query.{array_reply, record_reply, reply, variant_reply};
 ghost use Rattle.argus_contents.specs.Value.{plain_value, plain_list, plain_found};
 

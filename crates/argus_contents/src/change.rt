@@ -2,9 +2,8 @@
 
 ghost use Rattle.std.specs.Prelude.{◌≡◌, ◌↔◌, true, IfOk};
 ghost use Rattle.argus_contents.specs.Change.{create, gives_value, plain_change};
-ghost use Rattle.argus_contents.specs.Content.{plain_content};
+ghost use Rattle.argus_contents.specs.{Content.plain_content, Same.same_change};
 ghost use Rattle.argus_contents.specs.Decided.{said_equivalence, change_decided};
-ghost use Rattle.argus_contents.specs.Same.{same_change};
 
 use crate::content::{self, Content};
 use crate::value::Value;

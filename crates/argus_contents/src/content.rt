@@ -1,7 +1,6 @@
 //! `Content`: what an atomic object holds.
 
-ghost use Rattle.std.specs.Prelude.{[], ◌++◌, ◌≡◌, ◌↔◌, ◌∷◌, true, map};
-ghost use Rattle.std.specs.Prelude.{IfOk, OnErr, OnOk};
+ghost use Rattle.std.specs.Prelude.{[], ◌++◌, ◌≡◌, ◌↔◌, ◌∷◌, true, map, IfOk, OnErr, OnOk};
 ghost use Rattle.argus_contents.specs.Content.{plain_content, plain_option};
 ghost use Rattle.argus_contents.specs.Decided.{said_equivalence, content_decided};
 ghost use Rattle.argus_contents.specs.Same.{same_content, same_values};

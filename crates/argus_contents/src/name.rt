@@ -2,9 +2,8 @@
 
 ghost use lib.Pointwise.{pointwise};
 ghost use Rattle.std.proofs.Common.{rules};
-ghost use Rattle.std.specs.Cmp.Rules.{comparing};
+ghost use Rattle.std.specs.{Cmp.Rules.comparing, List.list_all};
 ghost use Rattle.std.specs.Prelude.{◌≡◌, ◌↔◌, true, false, nat_eq, IfOk, IsErrOf};
-ghost use Rattle.std.specs.List.{list_all};
 ghost use Rattle.argus_contents.specs.Name.{is_name, is_name_byte};
 
 use crate::limits::MAX_NAME_BYTES;

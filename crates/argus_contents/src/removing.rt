@@ -1,12 +1,11 @@
 //! `remove`: a change that removes an item, and `removal_answer`: its answer before it is made.
 
 ghost use Rattle.std.specs.Prelude.{◌≡◌, ◌-◌, IfOk, length, slice_get, take, true};
-ghost use Rattle.argus_contents.specs.Answer.{plain_answer, value_or};
+ghost use Rattle.argus_contents.specs.{Answer.{plain_answer, value_or}, Value.plain_list};
 ghost use Rattle.argus_contents.specs.Change.{array_outcome, gives_value, Leaves, outcome};
 ghost use Rattle.argus_contents.specs.Change.{plain_change, reml};
 ghost use Rattle.argus_contents.specs.Content.{KeepsBounds, KeepsLimits, plain_content};
 ghost use Rattle.argus_contents.specs.Content.{plain_option, with_low};
-ghost use Rattle.argus_contents.specs.Value.{plain_list};
 
 use crate::altering::put_low;
 use crate::answer::Answer;

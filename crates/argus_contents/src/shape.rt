@@ -1,12 +1,9 @@
 //! `Shape`: what an object was declared to hold.
 
-ghost use Rattle.std.specs.Prelude.{◌≡◌, ◌↔◌, true, IfOk};
-ghost use Rattle.std.specs.Result.{result_err};
-ghost use Rattle.argus_contents.specs.Decided.{said_equivalence, shape_decided};
-ghost use Rattle.argus_contents.specs.Same.{same_shape};
+ghost use Rattle.std.specs.{Prelude.{◌≡◌, ◌↔◌, true, IfOk}, Result.result_err};
+ghost use Rattle.argus_contents.specs.{Decided.{said_equivalence, shape_decided}, Same.same_shape};
 ghost use Rattle.argus_contents.specs.Shape.{arr, fault_of, IsMakeable, rec, var};
-ghost use Rattle.argus_contents.specs.ShapeKind.{plain_kind};
-ghost use Rattle.argus_contents.specs.ShapeView.{plain_view};
+ghost use Rattle.argus_contents.specs.{ShapeKind.plain_kind, ShapeView.plain_view};
 ghost use Rattle.argus_contents.specs.Ty.{plain_fields, plain_ty};
 
 use crate::name::Name;

@@ -1,8 +1,7 @@
 //! Why parts don't make a shape.
 
 ghost use lib.Pointwise.{pointwise};
-ghost use Rattle.std.specs.Prelude.{◌≡◌, ◌||◌, nat_eq, nat_le, true, IfNone};
-ghost use Rattle.std.specs.List.{list_any};
+ghost use Rattle.std.specs.{Prelude.{◌≡◌, ◌||◌, nat_eq, nat_le, true, IfNone}, List.list_any};
 ghost use Rattle.argus_contents.specs.Shape.{anywhere, AreNamed, deepest_of, depth_in, depth_of};
 ghost use Rattle.argus_contents.specs.Shape.{fault_of, has_twice, HasNames, in_fields, in_ty};
 ghost use Rattle.argus_contents.specs.Shape.{IsMakeable, IsNamed, names_of};

@@ -2,8 +2,7 @@
 
 ghost use Rattle.std.specs.Prelude.{◌≡◌, ◌↔◌, true, IfOk};
 ghost use Rattle.argus_contents.specs.Decided.{said_equivalence, ty_decided};
-ghost use Rattle.argus_contents.specs.Same.{same_fields, same_ty};
-ghost use Rattle.argus_contents.specs.Ty.{plain_ty, plain_fields};
+ghost use Rattle.argus_contents.specs.{Same.{same_fields, same_ty}, Ty.{plain_ty, plain_fields}};
 
 use crate::name::Name;
 use argus_memory::{Heap, OutOfMemory, Room};

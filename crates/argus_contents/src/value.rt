@@ -1,11 +1,10 @@
 //! `Value`: an immutable value in a record, an array or a variant.
 
-ghost use Rattle.std.specs.Prelude.{◌≡◌, ◌↔◌, true, ◌++◌, IfOk, OnOk};
+ghost use Rattle.std.specs.Prelude.{◌≡◌, ◌↔◌, true, ◌++◌, IfOk, OnOk, string_bytes};
 ghost use Rattle.argus_contents.specs.Same.{same_value, same_values};
-ghost use Rattle.std.specs.Prelude.{string_bytes};
 ghost use Rattle.argus_contents.specs.Value.{plain_value, plain_list, listed};
-ghost use Rattle.argus_contents.specs.Value as said;
 ghost use Rattle.argus_contents.specs.Decided.{said_equivalence, value_decided};
+ghost use Rattle.argus_contents.specs.Value as said;
 
 use crate::obj_id::ObjId;
 use argus_memory::{Heap, OutOfMemory, Room};

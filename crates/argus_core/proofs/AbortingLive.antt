@@ -1,48 +1,30 @@
 -- Live topactions, and which are left after one more abort.
-use Rattle.std.proofs.Common.{Bool, List, None, [], ap, arith, cond, false, inl, inr, refl, subst, sym, true, ℕ}
-use Rattle.std.proofs.Common.{⊎_elim, ◌+◌, ◌-◌, ◌<◌, ◌∙◌, ◌∷◌, ◌≡◌, ◌≢◌, ◌≤◌, ◌++◌}
-use Rattle.std.proofs.Common.{Err, Ok, OnErr, Result}
-use Rattle.std.specs.List.{list_any}
-use Rattle.std.specs.Prelude.{filter, length, not, ◌&&◌, ◌==◌, ◌||◌}
-use Rattle.std.proofs.Math.Bool.{and_comm}
+use Rattle.std.proofs.Common.{Bool, List, None, [], ap, arith, cond, false, inl, inr, refl, subst, sym, true, ℕ, ⊎_elim}
+use Rattle.std.proofs.Common.{◌+◌, ◌-◌, ◌<◌, ◌∙◌, ◌∷◌, ◌≡◌, ◌≢◌, ◌≤◌, ◌++◌, Err, Ok, OnErr, Result}
+use Rattle.std.proofs.{Math.Bool.and_comm, lemmas.Bool.{lt-ltb, ne_eqb, not-true, or_cases, or_left, or_right}}
 use Rattle.std.proofs.lemmas.Bool.{and_from, and_parts, both_ways, cases_Bool, cases_eq, cases_lt, eq-eqb, eqb-true}
-use Rattle.std.proofs.lemmas.Bool.{lt-ltb, ne_eqb, not-true, or_cases, or_left, or_right}
 use Rattle.std.proofs.lemmas.List.{append-nil}
-use Rattle.argus_actions.specs.Rows.{is_live_at}
-use Rattle.argus_actions.specs.Tree.{next}
+use Rattle.std.specs.{List.list_any, Prelude.{filter, length, not, ◌&&◌, ◌==◌, ◌||◌}}
+use Rattle.argus_actions.specs.{Rows.is_live_at, Tree.next}
 use Rattle.argus_contents.specs.Answer.{done}
 use Rattle.argus_core.specs.AbortingLive.{IsPartlyAborted, after_aborts, live_topactions, live_without_parent}
-use Rattle.argus_core.specs.Checkpoint.{is_quiet}
-use Rattle.argus_core.specs.GuardianState.{StateInvariant, journal_view_of}
+use Rattle.argus_core.specs.{Checkpoint.is_quiet, GuardianState.{StateInvariant, journal_view_of}}
 use Rattle.argus_core.specs.declared.engine.guardian_state.GuardianState.{GuardianState}
-use Rattle.argus_core.proofs.Begun.{kept_orderly}
-use Rattle.argus_core.proofs.StatusTold.{live_told, none_folded, none_past}
-use Rattle.argus_entries.specs.Call.{abort}
-use Rattle.argus_entries.specs.Entry.{PlainEntry}
-use Rattle.argus_entries.specs.Reply.{answered}
+use Rattle.argus_core.proofs.{Begun.kept_orderly, StatusTold.{live_told, none_folded, none_past}}
+use Rattle.argus_entries.specs.{Call.abort, Entry.PlainEntry, Reply.answered}
 use Rattle.argus_entries.specs.declared.refusal.Refusal.TheVariants.{NoAction, Over}
-use Rattle.argus_journal.specs.Answers.{answer, if_live, or_refused, unless}
-use Rattle.argus_journal.specs.Events.{event_if, history, is_answered, with_event}
-use Rattle.argus_journal.specs.JournalFacts.{is_live_in, next_action_number}
+use Rattle.argus_journal.specs.{Answers.{answer, if_live, or_refused, unless}, LegalJournal.{entries_in, opening_in}}
+use Rattle.argus_journal.specs.{Events.{event_if, history, is_answered, with_event}, Numbering.all_in_program}
+use Rattle.argus_journal.specs.{JournalFacts.{is_live_in, next_action_number}, Opening.Opening}
 use Rattle.argus_journal.specs.JournalView.{JournalView, after, entry_of}
-use Rattle.argus_journal.specs.LegalJournal.{entries_in, opening_in}
-use Rattle.argus_journal.specs.Numbering.{all_in_program}
-use Rattle.argus_journal.specs.Opening.{Opening}
 use Rattle.argus_refinement.proofs.TreeAnswers.{next_is}
-use Rattle.argus_model.specs.Ancestors.{is_under, lineage, parent}
-use Rattle.argus_model.specs.Event.{Aborted}
+use Rattle.argus_model.specs.{Ancestors.{is_under, lineage, parent}, Event.Aborted, Numbers.contains, Status.is_live}
 use Rattle.argus_model.specs.History.{History, begun_actions, next_action, ◌▹◌}
-use Rattle.argus_model.specs.Numbers.{contains}
-use Rattle.argus_model.specs.Status.{is_live}
-use Rattle.argus_model.proofs.Ancestors.{ancestor_self, parent_older}
-use Rattle.argus_model.proofs.Bools.{same_bool}
+use Rattle.argus_model.proofs.{Ancestors.{ancestor_self, parent_older}, Bools.same_bool, Numbers.rising_same}
 use Rattle.argus_model.proofs.Live.{begun_below, begun_listed, begun_rising, contains_unfolded, is_begun_parts}
-use Rattle.argus_model.proofs.Live.{live_stands, stands_is_live}
-use Rattle.argus_model.proofs.NextLive.{live_after_abort, zero_not_live}
+use Rattle.argus_model.proofs.{Live.{live_stands, stands_is_live}, NextLive.{live_after_abort, zero_not_live}}
 use Rattle.argus_model.proofs.Numbers.{IsRising, any_found, contains_filter, filter_contains, rising_filter}
-use Rattle.argus_model.proofs.Numbers.{rising_same}
-use Rattle.argus_model.proofs.Serial.{lineage-base}
-use Rattle.argus_model.proofs.Siblings.{live_begun}
+use Rattle.argus_model.proofs.{Serial.lineage-base, Siblings.live_begun}
 use Rattle.argus_model.proofs.Standing.{Orderly, parent_is, parents_are_older, stands_upward}
 
 -- the first of a rising list that passes a test, and what is left where it alone passes no longer

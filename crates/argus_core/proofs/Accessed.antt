@@ -1,37 +1,23 @@
 -- The parts after a granted access.
 use Rattle.std.proofs.Common.{Bool, List, [], ap, arith, cond, eqb, false, inl, inr, length, refl, subst, sym, true, ℕ}
 use Rattle.std.proofs.Common.{◌+◌, ◌<◌, ◌≤◌, ◌∙◌, ◌∷◌, ◌≡◌, ◌≢◌, ◌||◌, ⊎_elim}
-use Rattle.std.specs.Prelude.{not, slice_index_or, ◌&&◌, ◌==◌}
 use Rattle.std.proofs.lemmas.Bool.{both_ways, cases_eq, eq-eqb, eqb-true, ne_eqb, or_cases, or_left}
-use Rattle.argus_actions.specs.Tree.{Tree}
-use Rattle.argus_actions.specs.declared.action_id.ActionId.{ActionId}
-use Rattle.argus_contents.specs.declared.obj_id.ObjId.{ObjId}
+use Rattle.std.specs.Prelude.{not, slice_index_or, ◌&&◌, ◌==◌}
+use Rattle.argus_actions.specs.{Tree.Tree, declared.action_id.ActionId.ActionId}
+use Rattle.argus_contents.specs.{declared.obj_id.ObjId.ObjId, declared.limits.TheConstants.MAX_OBJECTS}
 use Rattle.argus_entries.specs.Entry.{PlainEntry}
-use Rattle.argus_core.specs.Accessing.{IsAccessed, IsAsBefore}
+use Rattle.argus_core.specs.{Accessing.{IsAccessed, IsAsBefore}, Moving.{ChangedIf, is_listed}}
 use Rattle.argus_core.specs.StateRefinement.{StateRefinesHistory, StateRefinesJournal, holds}
-use Rattle.argus_core.specs.Moving.{ChangedIf, is_listed}
 use Rattle.argus_core.specs.declared.engine.atomic_object.AtomicObject.{AtomicObject}
-use Rattle.argus_core.proofs.Ends.{parts_lists, shapes_kept}
-use Rattle.argus_core.proofs.Noted.{is_listed_noted}
-use Rattle.argus_contents.specs.declared.limits.TheConstants.{MAX_OBJECTS}
-use Rattle.argus_journal.specs.Entries.{entries, is_write}
-use Rattle.argus_journal.specs.Events.{history}
-use Rattle.argus_journal.specs.Opening.{Opening, model_opening}
+use Rattle.argus_core.proofs.{Ends.{parts_lists, shapes_kept}, Noted.is_listed_noted}
+use Rattle.argus_journal.specs.{Entries.{entries, is_write}, Events.history, Opening.{Opening, model_opening}}
 use Rattle.argus_refinement.specs.CellRefinement.{IsCell}
-use Rattle.argus_refinement.proofs.CellAccesses.{access_tree, aside_cell}
-use Rattle.argus_refinement.proofs.CellHolders.{cell_same, orderly}
-use Rattle.argus_model.specs.Event.{Accessed}
-use Rattle.argus_model.specs.History.{History, ◌▹◌}
-use Rattle.argus_model.specs.Holders.{readers, writers}
-use Rattle.argus_model.specs.Lawful.{Lawful}
-use Rattle.argus_model.specs.Meaning.{reads}
-use Rattle.argus_model.specs.Numbers.{contains, insert}
-use Rattle.argus_model.proofs.Bools.{or_none}
-use Rattle.argus_model.proofs.NextHolders.{holders_after_access}
-use Rattle.argus_model.proofs.Numbers.{contains_insert}
+use Rattle.argus_refinement.proofs.{CellAccesses.{access_tree, aside_cell}, CellHolders.{cell_same, orderly}}
+use Rattle.argus_model.specs.{Event.Accessed, History.{History, ◌▹◌}, Holders.{readers, writers}, Lawful.Lawful}
+use Rattle.argus_model.specs.{Meaning.reads, Numbers.{contains, insert}}
+use Rattle.argus_model.proofs.{Bools.or_none, NextHolders.holders_after_access, Numbers.contains_insert}
 use Rattle.argus_model.proofs.Standing.{Orderly}
-use Rattle.argus_objects.specs.Holdings.{objects_held_by, noted}
-use Rattle.argus_objects.specs.Object.{Object, SameLocks}
+use Rattle.argus_objects.specs.{Holdings.{objects_held_by, noted}, Object.{Object, SameLocks}}
 use Rattle.argus_objects.specs.declared.holdings.Holdings.{Holdings}
 
 -- one more holder, for reading or for writing

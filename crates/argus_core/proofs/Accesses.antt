@@ -1,51 +1,30 @@
 -- The refusals of accesses are the journal's, and what is so where nothing refuses one.
 use Rattle.std.proofs.Common.{Bool, List, None, Option, Some, ap, arith, false, get_or, inl, inr, length, refl, subst}
-use Rattle.std.proofs.Common.{sym, true, ℕ, ◌+◌, ◌<◌, ◌≤◌, ◌∙◌, ◌≡◌}
-use Rattle.std.specs.Option.{option_map, option_or}
-use Rattle.std.specs.Prelude.{slice_get, slice_index_or}
-use Rattle.std.proofs.lemmas.Bool.{cases_lt, le-ltb, lt-ltb}
-use Rattle.std.proofs.lemmas.List.{length-map}
-use Rattle.std.proofs.lemmas.Option.{slice_get-get_or, slice_get-map, slice_get_within}
-use Rattle.argus_actions.specs.Refusals.{commit_refusal}
-use Rattle.argus_actions.specs.Tree.{Tree}
-use Rattle.argus_actions.specs.declared.action_id.ActionId.{ActionId}
+use Rattle.std.proofs.{Common.{sym, true, ℕ, ◌+◌, ◌<◌, ◌≤◌, ◌∙◌, ◌≡◌}, lemmas.Bool.{cases_lt, le-ltb, lt-ltb}}
+use Rattle.std.proofs.{lemmas.List.length-map, lemmas.Option.{slice_get-get_or, slice_get-map, slice_get_within}}
+use Rattle.std.specs.{Option.{option_map, option_or}, Prelude.{slice_get, slice_index_or}}
+use Rattle.argus_actions.specs.{Refusals.commit_refusal, Tree.Tree, declared.action_id.ActionId.ActionId}
 use Rattle.argus_actions.specs.declared.action_refusal.ActionRefusal.{ActionRefusal}
-use Rattle.argus_contents.specs.Content.{KeepsLimits}
-use Rattle.argus_contents.specs.Shape.{PlainShape}
-use Rattle.argus_contents.specs.declared.obj_id.ObjId.{ObjId}
-use Rattle.argus_entries.specs.Call.{PlainCall}
-use Rattle.argus_entries.specs.Entry.{PlainEntry}
-use Rattle.argus_entries.specs.Reply.{PlainReply, refused}
+use Rattle.argus_contents.specs.{Content.KeepsLimits, Shape.PlainShape, declared.obj_id.ObjId.ObjId}
+use Rattle.argus_entries.specs.{Call.PlainCall, Entry.PlainEntry, Reply.{PlainReply, refused}}
 use Rattle.argus_entries.specs.declared.refusal.Refusal.{Refusal}
 use Rattle.argus_entries.specs.declared.refusal.Refusal.TheVariants.{Conflict, IllTyped, NoObject}
-use Rattle.argus_core.specs.Accessing.{IsFree, access_refusal, refused_at, seen_at}
-use Rattle.argus_core.specs.GuardianState.{journal_view_of}
+use Rattle.argus_core.specs.{Accessing.{IsFree, access_refusal, refused_at, seen_at}, GuardianState.journal_view_of}
 use Rattle.argus_core.specs.StateRefinement.{StateRefinesJournal}
 use Rattle.argus_core.specs.declared.engine.atomic_object.AtomicObject.{AtomicObject}
 use Rattle.argus_core.specs.declared.engine.guardian_state.GuardianState.{GuardianState}
 use Rattle.argus_core.proofs.Ends.{commit_refused, some_object}
-use Rattle.argus_journal.specs.Answers.{granted, if_declared, if_free, or_refused, suits, unless}
-use Rattle.argus_journal.specs.Entries.{entries}
-use Rattle.argus_journal.specs.Events.{history}
-use Rattle.argus_journal.specs.JournalView.{refusal_to, reply_to}
-use Rattle.argus_journal.specs.LegalJournal.{entries_in, opening_in}
-use Rattle.argus_journal.specs.Objects.{declared, shape_of, shapes}
-use Rattle.argus_journal.specs.Opening.{Opening, model_opening}
-use Rattle.argus_journal.proofs.Contents.{content_fits}
-use Rattle.argus_journal.proofs.Fitting.{fits_keeps}
-use Rattle.argus_journal.proofs.Legal.{free_none, lawful}
+use Rattle.argus_journal.specs.{Answers.{granted, if_declared, if_free, or_refused, suits, unless}, Entries.entries}
+use Rattle.argus_journal.specs.{Events.history, JournalView.{refusal_to, reply_to}, Opening.{Opening, model_opening}}
+use Rattle.argus_journal.specs.{LegalJournal.{entries_in, opening_in}, Objects.{declared, shape_of, shapes}}
+use Rattle.argus_journal.proofs.{Contents.content_fits, Fitting.fits_keeps, Legal.{free_none, lawful}}
 use Rattle.argus_refinement.specs.TreeRefinement.{journal_refusal_if_any}
-use Rattle.argus_refinement.proofs.CellHolders.{may_read_is}
-use Rattle.argus_refinement.proofs.CellSeen.{may_write_is, visible_is}
+use Rattle.argus_refinement.proofs.{CellHolders.may_read_is, CellSeen.{may_write_is, visible_is}}
 use Rattle.argus_refinement.proofs.TreeRefusals.{free_rest}
-use Rattle.argus_model.specs.Contents.{sees}
-use Rattle.argus_model.specs.History.{History}
+use Rattle.argus_model.specs.{Contents.sees, History.History, Owner.{counts_for, owner}, Status.is_live}
 use Rattle.argus_model.specs.Holders as model
-use Rattle.argus_model.specs.Owner.{counts_for, owner}
-use Rattle.argus_model.specs.Status.{is_live}
-use Rattle.argus_objects.specs.Object.{Object}
+use Rattle.argus_objects.specs.{Object.Object, declared.holdings.Holdings.Holdings}
 use Rattle.argus_objects.specs.Rules as cell
-use Rattle.argus_objects.specs.declared.holdings.Holdings.{Holdings}
 
 -- the object that was found is the one of its place
 found_at : (objects : List AtomicObject) (o : ℕ) (x : AtomicObject) (d : AtomicObject) → slice_get objects o ≡ Some x

@@ -2,34 +2,21 @@
 use Rattle.std.proofs.Common.{List, None, ap, length, refl, sym, ◌+◌, ◌∙◌, ◌∷◌, ◌≡◌}
 use Rattle.std.specs.Prelude.{slice_get}
 use Rattle.argus_actions.specs.declared.action_id.ActionId.{ActionId}
-use Rattle.argus_contents.specs.Fitting.{change_suits}
-use Rattle.argus_contents.specs.Change.{PlainChange, outcome}
-use Rattle.argus_contents.specs.Answer.{PlainAnswer}
+use Rattle.argus_contents.specs.{Fitting.change_suits, Change.{PlainChange, outcome}, Answer.PlainAnswer}
 use Rattle.argus_contents.specs.declared.obj_id.ObjId.{ObjId}
-use Rattle.argus_entries.specs.Call.{alter}
-use Rattle.argus_entries.specs.Entry.{PlainEntry}
-use Rattle.argus_entries.specs.Reply.{answered}
+use Rattle.argus_entries.specs.{Call.alter, Entry.PlainEntry, Reply.answered}
 use Rattle.argus_entries.specs.declared.refusal.Refusal.TheVariants.{Conflict, IllTyped}
 use Rattle.argus_core.specs.Accessing.{IsAccessed, IsAltered, IsFree, access_refusal, seen_at}
-use Rattle.argus_core.specs.StateRefinement.{StateRefinesJournal}
-use Rattle.argus_core.specs.GuardianState.{StateInvariant, journal_view_of}
+use Rattle.argus_core.specs.{StateRefinement.StateRefinesJournal, GuardianState.{StateInvariant, journal_view_of}}
 use Rattle.argus_core.specs.declared.engine.atomic_object.AtomicObject.{AtomicObject}
 use Rattle.argus_core.specs.declared.engine.guardian_state.GuardianState.{GuardianState}
 use Rattle.argus_core.proofs.Accesses.{IsAccess, access_free, access_granted, access_is, acts, count, seen_is}
-use Rattle.argus_core.proofs.Accesses.{writes_agree}
-use Rattle.argus_core.proofs.Ends.{some_object}
-use Rattle.argus_core.proofs.FreeLocks.{writer_reads}
-use Rattle.argus_core.proofs.MadeAccesses.{made_change}
-use Rattle.argus_journal.specs.Answers.{if_declared, if_free, suits, unless}
-use Rattle.argus_journal.specs.Entries.{entries}
-use Rattle.argus_journal.specs.Events.{history}
-use Rattle.argus_journal.specs.JournalView.{entry_with, reply_to}
-use Rattle.argus_journal.specs.LegalJournal.{entries_in, opening_in}
-use Rattle.argus_journal.specs.Objects.{shapes}
-use Rattle.argus_journal.specs.Opening.{Opening}
+use Rattle.argus_core.proofs.{Accesses.writes_agree, Ends.some_object, FreeLocks.writer_reads, MadeAccesses.made_change}
+use Rattle.argus_journal.specs.{Answers.{if_declared, if_free, suits, unless}, Entries.entries, Events.history}
+use Rattle.argus_journal.specs.{JournalView.{entry_with, reply_to}, LegalJournal.{entries_in, opening_in}}
+use Rattle.argus_journal.specs.{Objects.shapes, Opening.Opening}
 use Rattle.argus_model.specs.Holders as model
-use Rattle.argus_objects.specs.Rules.{may_read, may_write}
-use Rattle.argus_objects.specs.declared.holdings.Holdings.{Holdings}
+use Rattle.argus_objects.specs.{Rules.{may_read, may_write}, declared.holdings.Holdings.Holdings}
 
 module _ (p : GuardianState) (k : StateInvariant p) (a : ActionId) (o : ObjId) (change : PlainChange) where
   pub alters : IsAccess p a o (alter a.0 o.0 change) (λ shape. change_suits shape (length p.objects.items) change)

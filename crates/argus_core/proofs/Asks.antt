@@ -1,30 +1,19 @@
 -- Queries, as the guardian refuses and grants them.
 use Rattle.std.proofs.Common.{List, None, ap, refl, sym, ◌+◌, ◌∙◌, ◌∷◌, ◌≡◌}
 use Rattle.argus_actions.specs.declared.action_id.ActionId.{ActionId}
-use Rattle.argus_contents.specs.Fitting.{query_suits}
-use Rattle.argus_contents.specs.Query.{reply}
-use Rattle.argus_contents.specs.Answer.{PlainAnswer}
-use Rattle.argus_contents.specs.declared.obj_id.ObjId.{ObjId}
+use Rattle.argus_contents.specs.{Fitting.query_suits, Query.reply, Answer.PlainAnswer, declared.obj_id.ObjId.ObjId}
 use Rattle.argus_contents.specs.declared.query.Query.{Query}
-use Rattle.argus_entries.specs.Call.{ask}
-use Rattle.argus_entries.specs.Reply.{answered}
-use Rattle.argus_core.specs.Accessing.{IsAccessed, IsFree, seen_at}
-use Rattle.argus_core.specs.Moving.{IsRead}
-use Rattle.argus_core.specs.StateRefinement.{StateRefinesJournal}
-use Rattle.argus_core.specs.GuardianState.{StateInvariant, journal_view_of}
+use Rattle.argus_entries.specs.{Call.ask, Reply.answered}
+use Rattle.argus_core.specs.{Accessing.{IsAccessed, IsFree, seen_at}, Moving.IsRead}
+use Rattle.argus_core.specs.{StateRefinement.StateRefinesJournal, GuardianState.{StateInvariant, journal_view_of}}
 use Rattle.argus_core.specs.declared.engine.atomic_object.AtomicObject.{AtomicObject}
 use Rattle.argus_core.specs.declared.engine.guardian_state.GuardianState.{GuardianState}
-use Rattle.argus_core.proofs.Accesses.{IsAccess, access_free, access_granted, access_is, acts, reads_agree}
-use Rattle.argus_core.proofs.Accesses.{seen_is}
-use Rattle.argus_core.proofs.Ends.{some_object}
-use Rattle.argus_core.proofs.MadeAccesses.{made_read}
-use Rattle.argus_journal.specs.Entries.{entries}
-use Rattle.argus_journal.specs.Events.{history}
-use Rattle.argus_journal.specs.JournalView.{entry_with, refusal_to, reply_to}
+use Rattle.argus_core.proofs.Accesses.{IsAccess, access_free, access_granted, access_is, acts, reads_agree, seen_is}
+use Rattle.argus_core.proofs.{Ends.some_object, MadeAccesses.made_read}
+use Rattle.argus_journal.specs.{Entries.entries, Events.history, JournalView.{entry_with, refusal_to, reply_to}}
 use Rattle.argus_journal.specs.LegalJournal.{entries_in, opening_in}
 use Rattle.argus_model.specs.Holders as model
-use Rattle.argus_objects.specs.Rules.{may_read}
-use Rattle.argus_objects.specs.declared.holdings.Holdings.{Holdings}
+use Rattle.argus_objects.specs.{Rules.may_read, declared.holdings.Holdings.Holdings}
 
 module _ (p : GuardianState) (k : StateInvariant p) (a : ActionId) (o : ObjId) (query : Query) where
   pub asks : IsAccess p a o (ask a.0 o.0 query) (λ shape. query_suits shape query) (λ c. may_read p.tree c a)

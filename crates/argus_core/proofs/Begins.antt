@@ -1,15 +1,12 @@
 -- The three calls that begin an action.
 use Rattle.std.proofs.Common.{List, refl, ℕ}
-use Rattle.argus_actions.specs.Refusals.{begin_nested_refusal, begin_sub_refusal, begin_top_refusal}
-use Rattle.argus_actions.specs.Tree.{Tree}
+use Rattle.argus_actions.specs.{Refusals.{begin_nested_refusal, begin_sub_refusal, begin_top_refusal}, Tree.Tree}
 use Rattle.argus_actions.specs.declared.origin.Origin.TheVariants as origin
-use Rattle.argus_entries.specs.Call.{begin_nested, begin_sub, begin_top}
-use Rattle.argus_entries.specs.Entry.{PlainEntry}
+use Rattle.argus_entries.specs.{Call.{begin_nested, begin_sub, begin_top}, Entry.PlainEntry}
 use Rattle.argus_core.specs.StateRefinement.{StateRefinesJournal}
 use Rattle.argus_core.specs.declared.engine.atomic_object.AtomicObject.{AtomicObject}
 use Rattle.argus_core.proofs.Begun.{IsBegin, kept_orderly}
-use Rattle.argus_journal.specs.Events.{history}
-use Rattle.argus_journal.specs.Opening.{Opening}
+use Rattle.argus_journal.specs.{Events.history, Opening.Opening}
 use Rattle.argus_refinement.proofs.TreeRefusals.{nested_is, sub_is, top_is}
 use Rattle.argus_objects.specs.declared.holdings.Holdings.{Holdings}
 

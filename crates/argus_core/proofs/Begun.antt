@@ -1,37 +1,24 @@
 -- One more entry: the parts stand to the history with its event. One more action.
 use Rattle.std.proofs.Common.{List, None, Option, Some, [], ap, arith, length, refl, subst, sym, ℕ, ◌+◌, ◌-◌, ◌≤◌, ◌++◌}
-use Rattle.std.proofs.Common.{◌∙◌, ◌∷◌, ◌≡◌, ◌||◌}
+use Rattle.std.proofs.{Common.{◌∙◌, ◌∷◌, ◌≡◌, ◌||◌}, lemmas.List.append-nil}
 use Rattle.std.specs.Prelude.{map, slice_index_or}
-use Rattle.std.proofs.lemmas.List.{append-nil}
 use Rattle.argus_actions.specs.Tree.{SameActions, Tree, after_begin, next}
 use Rattle.argus_actions.specs.declared.action_refusal.ActionRefusal.{ActionRefusal}
 use Rattle.argus_actions.specs.declared.origin.Origin as act_origin
 use Rattle.argus_contents.specs.declared.limits.TheConstants.{MAX_OBJECTS}
-use Rattle.argus_entries.specs.Call.{PlainCall}
-use Rattle.argus_entries.specs.Entry.{PlainEntry}
-use Rattle.argus_entries.specs.Reply.{begun, refused}
+use Rattle.argus_entries.specs.{Call.PlainCall, Entry.PlainEntry, Reply.{begun, refused}}
 use Rattle.argus_core.specs.StateRefinement.{StateRefinesHistory, StateRefinesJournal}
 use Rattle.argus_core.specs.declared.engine.atomic_object.AtomicObject.{AtomicObject}
-use Rattle.argus_journal.specs.Answers.{answer, granted, or_refused, refusal}
-use Rattle.argus_journal.specs.Entries.{entries}
-use Rattle.argus_journal.specs.Events.{happens, history}
-use Rattle.argus_journal.specs.Objects.{declared_by, shapes}
+use Rattle.argus_journal.specs.{Answers.{answer, granted, or_refused, refusal}, Entries.entries}
+use Rattle.argus_journal.specs.{Events.{happens, history}, Objects.{declared_by, shapes}}
 use Rattle.argus_journal.specs.Opening.{Opening, model_opening}
-use Rattle.argus_journal.proofs.Legal.{lawful}
-use Rattle.argus_journal.proofs.NextEntry.{by_event}
+use Rattle.argus_journal.proofs.{Legal.lawful, NextEntry.by_event}
 use Rattle.argus_refinement.specs.TreeRefinement.{history_origin, journal_refusal, journal_refusal_if_any}
-use Rattle.argus_refinement.proofs.CellBegins.{begin_cell}
-use Rattle.argus_refinement.proofs.CellHolders.{cell_same, orderly}
-use Rattle.argus_refinement.proofs.TreeAnswers.{next_is}
+use Rattle.argus_refinement.proofs.{CellBegins.begin_cell, CellHolders.{cell_same, orderly}, TreeAnswers.next_is}
 use Rattle.argus_refinement.proofs.TreeSteps.{begin_tree, same_tree}
-use Rattle.argus_model.specs.Event.{Began, Event}
-use Rattle.argus_model.specs.History.{History, next_action, ◌▹◌}
-use Rattle.argus_model.specs.Holders.{readers, writers}
-use Rattle.argus_model.specs.Lawful.{Lawful}
-use Rattle.argus_model.specs.Meaning.{reads}
-use Rattle.argus_model.specs.Numbers.{contains}
-use Rattle.argus_model.proofs.NextHolders.{holders_after_begin}
-use Rattle.argus_model.proofs.Standing.{Orderly}
+use Rattle.argus_model.specs.{Event.{Began, Event}, History.{History, next_action, ◌▹◌}, Holders.{readers, writers}}
+use Rattle.argus_model.specs.{Lawful.Lawful, Meaning.reads, Numbers.contains}
+use Rattle.argus_model.proofs.{NextHolders.holders_after_begin, Standing.Orderly}
 use Rattle.argus_objects.specs.declared.holdings.Holdings.{Holdings}
 
 -- what refuses the call by the tree is its reply

@@ -1,20 +1,16 @@
 -- Objects on a list are changed one after another.
 use Rattle.std.proofs.Common.{Bool, List, [], ap, arith, false, inl, inr, length, refl, subst, sym, true, suc, take}
 use Rattle.std.proofs.Common.{get_or, set, zero, ℕ, ◌+◌, ◌<◌, ◌≤◌, ◌∙◌, ◌∷◌, ◌≡◌, ◌≢◌, eqb, ◌||◌}
-use Rattle.std.specs.List.{IsDistinct}
-use Rattle.std.specs.Prelude.{slice_index_or}
-use Rattle.std.proofs.lemmas.Bool.{cases_eq, eq-eqb, eqb-true, ne_eqb, or_from, or_right}
-use Rattle.std.proofs.lemmas.List.{get_or-set_other, length-set}
-use Rattle.std.proofs.lemmas.Grind.{get_or-set_at}
-use Rattle.std.proofs.lemmas.List.Folds.{list_any_at, list_any_more}
+use Rattle.std.proofs.{lemmas.Bool.{cases_eq, eq-eqb, eqb-true, ne_eqb, or_from, or_right}, lemmas.Grind.get_or-set_at}
+use Rattle.std.proofs.{lemmas.List.{get_or-set_other, length-set}, lemmas.List.Folds.{list_any_at, list_any_more}}
 use Rattle.std.proofs.lemmas.Map.Keys.{IsDistinct-from_apart, apart_from_distinct}
+use Rattle.std.specs.{List.IsDistinct, Prelude.slice_index_or}
 use Rattle.argus_objects.proofs.InOrder.{any_default}
 use Rattle.argus_contents.specs.declared.obj_id.ObjId.{ObjId}
 use Rattle.argus_actions.specs.Tree.{Tree}
 use Rattle.argus_core.specs.Moving.{AreChanged, AreLawful, AreThere, ChangedIf, IsChanged, is_listed}
 use Rattle.argus_core.specs.declared.engine.atomic_object.AtomicObject.{AtomicObject}
-use Rattle.argus_objects.specs.Object.{Object}
-use Rattle.argus_objects.specs.Rules.{is_lawful}
+use Rattle.argus_objects.specs.{Object.Object, Rules.is_lawful}
 
 -- with nothing on the list nothing is changed
 pub start_changed : (R : Object → Object → Type 0) (objects : List AtomicObject) → AreChanged R [] objects objects

@@ -1,52 +1,31 @@
 -- A guardian of which no action is live, and its fold.
 use Rattle.std.proofs.Common.{List, None, Option, Some, [], ap, arith, eqb, false, inl, inr, length, map, not, refl}
 use Rattle.std.proofs.Common.{subst, suc, sym, true, zero, ℕ, ◌&&◌, ◌+◌, ◌-◌, ◌<◌, ◌∙◌, ◌∷◌, ◌≡◌, ◌≤◌}
-use Rattle.std.specs.List.{list_all, list_any}
-use Rattle.std.specs.Prelude.{slice_index_or}
 use Rattle.std.proofs.lemmas.Bool.{both_ways, cases_Bool, eq-eqb, or_left}
-use Rattle.argus_actions.specs.Rows.{is_live_at}
-use Rattle.argus_actions.specs.Tree.{Tree, next}
-use Rattle.argus_actions.specs.declared.action_id.ActionId.{ActionId}
-use Rattle.argus_contents.specs.Content.{PlainContent}
-use Rattle.argus_contents.specs.Shape.{PlainShape}
-use Rattle.argus_contents.specs.declared.limits.TheConstants.{MAX_ACTIONS}
+use Rattle.std.specs.{List.{list_all, list_any}, Prelude.slice_index_or}
+use Rattle.argus_actions.specs.{Rows.is_live_at, Tree.{Tree, next}, declared.action_id.ActionId.ActionId}
+use Rattle.argus_contents.specs.{Content.PlainContent, Shape.PlainShape, declared.limits.TheConstants.MAX_ACTIONS}
 use Rattle.argus_entries.specs.Entry.{PlainEntry}
-use Rattle.argus_core.specs.Checkpoint.{is_quiet, opened_objects}
-use Rattle.argus_core.specs.GuardianState.{StateInvariant, journal_view_of}
-use Rattle.argus_core.specs.StateRefinement.{StateRefinesJournal}
-use Rattle.argus_core.specs.Moving.{is_listed}
+use Rattle.argus_core.specs.{Checkpoint.{is_quiet, opened_objects}, GuardianState.{StateInvariant, journal_view_of}}
+use Rattle.argus_core.specs.{StateRefinement.StateRefinesJournal, Moving.is_listed}
 use Rattle.argus_core.specs.declared.engine.atomic_object.AtomicObject.{AtomicObject}
 use Rattle.argus_core.specs.declared.engine.guardian_state.GuardianState.{GuardianState}
-use Rattle.argus_core.proofs.Begun.{kept_orderly}
-use Rattle.argus_core.proofs.Ends.{some_object}
-use Rattle.argus_journal.specs.Entries.{entries}
-use Rattle.argus_journal.specs.Events.{event_of, history, with_event}
-use Rattle.argus_journal.specs.Folding.{fold, next_entry_number}
-use Rattle.argus_journal.specs.Legal.{Legal}
-use Rattle.argus_journal.specs.LegalJournal.{entries_in, opening_in}
-use Rattle.argus_journal.specs.Objects.{shapes}
+use Rattle.argus_core.proofs.{Begun.kept_orderly, Ends.some_object}
+use Rattle.argus_journal.specs.{Entries.entries, Events.{event_of, history, with_event}, Legal.Legal, Objects.shapes}
+use Rattle.argus_journal.specs.{Folding.{fold, next_entry_number}, LegalJournal.{entries_in, opening_in}}
 use Rattle.argus_journal.specs.Opening.{Opening, content_in, is_sound, opening_at}
 use Rattle.argus_journal.specs.JournalFacts.{base_of, next_action_number}
 use Rattle.argus_journal.specs.declared.limits.TheConstants.{MAX_FIRST_ENTRY}
 use Rattle.argus_journal.proofs.Folded.{fold_content, fold_made, fold_numbers, fold_sound, shapes-with_contents}
 use Rattle.argus_journal.proofs.Within.{actions_within}
 use Rattle.argus_refinement.specs.CellRefinement.{AreSeen, IsCell, history_numbers}
-use Rattle.argus_refinement.proofs.TreeAnswers.{live_is, next_is}
-use Rattle.argus_refinement.proofs.TreeSteps.{start_tree}
-use Rattle.argus_model.specs.Event.{Event}
-use Rattle.argus_model.specs.History.{History, begun_actions, folded}
-use Rattle.argus_model.specs.Holders.{readers, writers}
-use Rattle.argus_model.specs.Numbers.{contains}
-use Rattle.argus_model.specs.Status.{is_live}
-use Rattle.argus_model.proofs.Live.{begun_listed, is_begun_parts}
-use Rattle.argus_model.proofs.LockRules.{holders_live}
+use Rattle.argus_refinement.proofs.{TreeAnswers.{live_is, next_is}, TreeSteps.start_tree}
+use Rattle.argus_model.specs.{Event.Event, History.{History, begun_actions, folded}, Holders.{readers, writers}}
+use Rattle.argus_model.specs.{Numbers.contains, Status.is_live}
+use Rattle.argus_model.proofs.{Live.{begun_listed, is_begun_parts}, LockRules.holders_live, Siblings.live_begun}
 use Rattle.argus_model.proofs.Numbers.{any_found, any_from, contains_first, joined, joined_left}
-use Rattle.argus_model.proofs.Siblings.{live_begun}
-use Rattle.argus_objects.specs.Holdings.{objects_held_by}
-use Rattle.argus_objects.specs.CellChanges.{has_version}
-use Rattle.argus_objects.specs.Object.{Object, PlainVersion, holders}
-use Rattle.argus_objects.specs.Rules.{is_chain, is_related}
-use Rattle.argus_objects.specs.declared.holdings.Holdings.{Holdings}
+use Rattle.argus_objects.specs.{Holdings.objects_held_by, CellChanges.has_version, Rules.{is_chain, is_related}}
+use Rattle.argus_objects.specs.{Object.{Object, PlainVersion, holders}, declared.holdings.Holdings.Holdings}
 
 event_folds : (q : Option (Event PlainEntry)) (h : History PlainEntry) → folded (with_event q h) ≡ folded h
 event_folds None h = refl

@@ -1,33 +1,21 @@
 -- What a commit adds to the effects.
-use Rattle.std.proofs.Common.{List, None, Some, [], ap, arith, false, sym, true, ℕ, ◌+◌, ◌==◌}
-use Rattle.std.proofs.Common.{◌∙◌, ◌∷◌, ◌≡◌}
+use Rattle.std.proofs.Common.{List, None, Some, [], ap, arith, false, sym, true, ℕ, ◌+◌, ◌==◌, ◌∙◌, ◌∷◌, ◌≡◌}
 use Rattle.std.proofs.lemmas.Bool.Decides.{nat_tests}
-use Rattle.std.specs.Option.{option_to_list}
-use Rattle.std.specs.Prelude.{Err, IfOk, Ok, Result, if◌then◌else◌}
-use Rattle.argus_actions.specs.Refusals.{commit_refusal}
-use Rattle.argus_actions.specs.Tree.{Tree, parent_of}
-use Rattle.argus_actions.specs.declared.action_id.ActionId.{ActionId}
-use Rattle.argus_entries.specs.Call.{commit}
-use Rattle.argus_entries.specs.Entry.{PlainEntry}
-use Rattle.argus_entries.specs.Reply.{PlainReply}
-use Rattle.argus_core.specs.ReadyCommit.{added_by_call}
-use Rattle.argus_core.specs.Effect.{effect_if_live, effect_of}
-use Rattle.argus_journal.specs.Effects.{added_by}
-use Rattle.argus_journal.specs.Events.{event_if, history, is_answered}
-use Rattle.argus_journal.specs.Opening.{Opening}
+use Rattle.std.specs.{Option.option_to_list, Prelude.{Err, IfOk, Ok, Result, if◌then◌else◌}}
+use Rattle.argus_actions.specs.{Refusals.commit_refusal, Tree.{Tree, parent_of}, declared.action_id.ActionId.ActionId}
+use Rattle.argus_entries.specs.{Call.commit, Entry.PlainEntry, Reply.PlainReply}
+use Rattle.argus_core.specs.{ReadyCommit.added_by_call, Effect.{effect_if_live, effect_of}}
+use Rattle.argus_core.specs.StateRefinement.{StateRefinesJournal}
+use Rattle.argus_core.specs.declared.engine.atomic_object.AtomicObject.{AtomicObject}
+use Rattle.argus_journal.specs.{Effects.added_by, Events.{event_if, history, is_answered}, Opening.Opening}
+use Rattle.argus_journal.specs.JournalView.{JournalView}
 use Rattle.argus_refinement.proofs.TreeAnswers.{no_parent_is, parent_is}
 use Rattle.argus_journal.proofs.Legal.{free_none}
 use Rattle.argus_refinement.specs.TreeRefinement.{journal_refusal_if_any}
 use Rattle.argus_model.proofs.Siblings.{live_begun}
-use Rattle.argus_model.specs.Ancestors.{parent}
-use Rattle.argus_model.specs.Event.{Committed}
-use Rattle.argus_model.specs.Status.{is_live}
+use Rattle.argus_model.specs.{Ancestors.parent, Event.Committed, Status.is_live}
 use Rattle.argus_objects.specs.declared.holdings.Holdings.{Holdings}
-use Rattle.argus_core.proofs.Begun.{kept_orderly}
-use Rattle.argus_core.proofs.Ends.{commit_refused, committed_right}
-use Rattle.argus_core.specs.StateRefinement.{StateRefinesJournal}
-use Rattle.argus_journal.specs.JournalView.{JournalView}
-use Rattle.argus_core.specs.declared.engine.atomic_object.AtomicObject.{AtomicObject}
+use Rattle.argus_core.proofs.{Begun.kept_orderly, Ends.{commit_refused, committed_right}}
 
 pub if_ok : {A B : Type 0} {P Q : A → Type 0} (r : Result A B) → IfOk r P → ((x : A) → P x → Q x) → IfOk r Q
 if_ok (Ok x) p f = f x p

@@ -1,37 +1,25 @@
 -- All objects, and the lists of what each action holds, when an action commits.
 use Rattle.std.proofs.Common.{Bool, List, None, Some, [], ap, arith, cond, false, inl, inr, length, refl, subst, sym}
 use Rattle.std.proofs.Common.{true, ℕ, ◌+◌, ◌<◌, ◌∙◌, ◌≡◌, ◌≢◌, eqb, ◌||◌, ⊎_elim}
-use Rattle.std.specs.Option.{unwrap_or}
-use Rattle.std.specs.Prelude.{map, slice_index_or}
 use Rattle.std.proofs.lemmas.Bool.{both_ways, cases_eq, eq-eqb, ne_eqb, or_cases, or_parts}
-use Rattle.argus_actions.specs.Tree.{Tree, after_commit, parent_of}
-use Rattle.argus_actions.specs.declared.action_id.ActionId.{ActionId}
+use Rattle.std.specs.{Option.unwrap_or, Prelude.{map, slice_index_or}}
+use Rattle.argus_actions.specs.{Tree.{Tree, after_commit, parent_of}, declared.action_id.ActionId.ActionId}
 use Rattle.argus_entries.specs.Entry.{PlainEntry}
 use Rattle.argus_core.specs.StateRefinement.{StateRefinesHistory, holds}
-use Rattle.argus_refinement.specs.CellRefinement.{IsCell}
-use Rattle.argus_core.specs.Moving.{is_listed}
-use Rattle.argus_core.specs.Moving.{AreChanged, ChangedIf, IsInherited, IsSettled}
+use Rattle.argus_core.specs.Moving.{is_listed, AreChanged, ChangedIf, IsInherited, IsSettled}
 use Rattle.argus_core.specs.declared.engine.atomic_object.AtomicObject.{AtomicObject}
-use Rattle.argus_refinement.proofs.TreeSteps.{commit_tree}
-use Rattle.argus_core.proofs.Noted.{four, is_listed_passed, readers_none}
+use Rattle.argus_refinement.specs.CellRefinement.{IsCell}
+use Rattle.argus_refinement.proofs.{TreeSteps.commit_tree, CellLists.reader_said}
 use Rattle.argus_refinement.proofs.CellCommits.{no_parent, now, parent_less, sub_cell, top_cell, up_is}
-use Rattle.argus_refinement.proofs.CellLists.{reader_said}
-use Rattle.argus_journal.specs.Entries.{entries}
-use Rattle.argus_journal.specs.Opening.{Opening, model_opening}
+use Rattle.argus_core.proofs.Noted.{four, is_listed_passed, readers_none}
+use Rattle.argus_journal.specs.{Entries.entries, Opening.{Opening, model_opening}}
 use Rattle.argus_model.specs.Ancestors as model
-use Rattle.argus_model.specs.Event.{Committed}
-use Rattle.argus_model.specs.History.{History, ◌▹◌}
-use Rattle.argus_model.specs.Holders.{inherited, readers, writers}
-use Rattle.argus_model.specs.Lawful.{Lawful}
-use Rattle.argus_model.specs.Meaning.{reads}
-use Rattle.argus_model.specs.Numbers.{contains}
+use Rattle.argus_model.specs.{Event.Committed, History.{History, ◌▹◌}, Holders.{inherited, readers, writers}}
+use Rattle.argus_model.specs.{Lawful.Lawful, Meaning.reads, Numbers.contains}
 use Rattle.argus_model.proofs.NextHolders.{holders_after_commit, inherited_other, inherited_own, inherited_parent}
-use Rattle.argus_objects.specs.Holdings.{Lists, PassedOn, objects_held_by, passed}
+use Rattle.argus_objects.specs.{Holdings.{Lists, PassedOn, objects_held_by, passed}, Object.{Object, PlainVersion}}
 use Rattle.argus_objects.specs.CellChanges.{version_inherited, has_version, is_reader, versions_inherited, with_reader}
-use Rattle.argus_objects.specs.CellChanges.{without_reader}
-use Rattle.argus_objects.specs.CellChanges.{without_version}
-use Rattle.argus_objects.specs.Object.{Object, PlainVersion}
-use Rattle.argus_objects.specs.declared.holdings.Holdings.{Holdings}
+use Rattle.argus_objects.specs.{CellChanges.{without_reader, without_version}, declared.holdings.Holdings.Holdings}
 use Rattle.argus_objects.proofs.Stacks.{version_of_none, without_none}
 
 -- who doesn't hold the object isn't in its cell

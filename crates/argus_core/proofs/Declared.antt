@@ -1,41 +1,25 @@
 -- A declaration: one more object, which nobody holds.
 use Rattle.std.proofs.Common.{List, None, Option, Some, [], ap, arith, false, inl, inr, length, refl, subst, suc, sym}
-use Rattle.std.proofs.Common.{true, zero, ℕ, ◌+◌, ◌<◌, ◌≤◌, ◌++◌, ◌∙◌, ◌∷◌, ◌≡◌}
-use Rattle.std.specs.Prelude.{nat_lt, slice_index_or}
-use Rattle.std.proofs.Math.Seq.{get_or-append_seam}
-use Rattle.std.proofs.lemmas.Bool.{cases_Bool, cases_lt, or_parts}
-use Rattle.std.proofs.lemmas.Bool.Decides.{nat_tests}
+use Rattle.std.proofs.{Common.{true, zero, ℕ, ◌+◌, ◌<◌, ◌≤◌, ◌++◌, ◌∙◌, ◌∷◌, ◌≡◌}, Math.Seq.get_or-append_seam}
+use Rattle.std.proofs.{lemmas.Bool.{cases_Bool, cases_lt, or_parts}, lemmas.Bool.Decides.nat_tests}
 use Rattle.std.proofs.lemmas.List.{get_or_append_left, length-append, length-map, map-append}
 use Rattle.std.proofs.lemmas.Option.{slice_get_past}
-use Rattle.argus_actions.specs.Tree.{Tree}
-use Rattle.argus_actions.specs.declared.action_id.ActionId.{ActionId}
-use Rattle.argus_contents.specs.Content.{PlainContent}
-use Rattle.argus_contents.specs.Shape.{PlainShape}
-use Rattle.argus_contents.specs.declared.limits.TheConstants.{MAX_OBJECTS}
-use Rattle.argus_entries.specs.Call.{declare}
-use Rattle.argus_entries.specs.Entry.{PlainEntry}
-use Rattle.argus_entries.specs.Reply.{object, refused}
+use Rattle.std.specs.Prelude.{nat_lt, slice_index_or}
+use Rattle.argus_actions.specs.{Tree.Tree, declared.action_id.ActionId.ActionId}
+use Rattle.argus_contents.specs.{Content.PlainContent, Shape.PlainShape, declared.limits.TheConstants.MAX_OBJECTS}
+use Rattle.argus_entries.specs.{Call.declare, Entry.PlainEntry, Reply.{object, refused}}
 use Rattle.argus_entries.specs.declared.refusal.Refusal.TheVariants.{TooMany}
 use Rattle.argus_core.specs.StateRefinement.{StateRefinesJournal, holds}
-use Rattle.argus_journal.specs.JournalView.{entry_with}
 use Rattle.argus_core.specs.declared.engine.atomic_object.AtomicObject.{AtomicObject}
-use Rattle.argus_journal.specs.Answers.{answer, granted, or_refused, unless}
-use Rattle.argus_journal.specs.Entries.{entries}
-use Rattle.argus_journal.specs.Events.{history}
-use Rattle.argus_journal.specs.Objects.{declared, shapes}
+use Rattle.argus_journal.specs.{JournalView.entry_with, Answers.{answer, granted, or_refused, unless}, Entries.entries}
+use Rattle.argus_journal.specs.{Events.history, Objects.{declared, shapes}}
 use Rattle.argus_journal.specs.Opening.{Opening, fits_shape, model_opening}
-use Rattle.argus_journal.proofs.Contents.{content_fits}
-use Rattle.argus_journal.proofs.Fitting.{nothing}
-use Rattle.argus_journal.proofs.NextEntry.{readers_above}
+use Rattle.argus_journal.proofs.{Contents.content_fits, Fitting.nothing, NextEntry.readers_above}
 use Rattle.argus_refinement.specs.CellRefinement.{IsCell}
 use Rattle.argus_refinement.proofs.CellHolders.{cell_same}
-use Rattle.argus_model.specs.Contents.{base}
-use Rattle.argus_model.specs.Holders.{readers, writers}
-use Rattle.argus_model.specs.Numbers.{contains}
-use Rattle.argus_model.specs.Owner.{is_base, owner}
+use Rattle.argus_model.specs.{Contents.base, Holders.{readers, writers}, Numbers.contains, Owner.{is_base, owner}}
 use Rattle.argus_model.proofs.Numbers.{contains_first}
-use Rattle.argus_objects.specs.Object.{Object}
-use Rattle.argus_objects.specs.declared.holdings.Holdings.{Holdings}
+use Rattle.argus_objects.specs.{Object.Object, declared.holdings.Holdings.Holdings}
 
 -- a list without members is empty
 none_listed : (xs : List ℕ) → ((x : ℕ) → contains xs x ≡ false) → xs ≡ []

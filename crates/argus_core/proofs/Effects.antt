@@ -1,52 +1,31 @@
 -- The objects that an action has written, sorted, are what its commit would leave.
 use Rattle.std.proofs.Common.{Bool, Less, List, None, Option, Some, [], ap, arith, cond, eqb, false, get_or, inl, inr}
 use Rattle.std.proofs.Common.{length, map, refl, subst, suc, sym, true, zero, ℕ, ◌+◌, ◌<◌, ◌&&◌, ◌∙◌, ◌∷◌, ◌≡◌, ◌||◌}
-use Rattle.std.specs.List.{AllByRecursion, IsDistinct, list_any}
-use Rattle.std.specs.List.Sorted.{IsPermutation, IsSorted}
-use Rattle.std.specs.List.Sorted.{IsStrictlySortedBy}
-use Rattle.std.specs.Option.{unwrap_or}
-use Rattle.std.specs.Ordering.{nat_cmp}
-use Rattle.std.specs.Prelude.{slice_index_or}
 use Rattle.std.proofs.lemmas.Bool.{and_parts, cases_Bool, cases_eq, cases_lt, eq-eqb, ne_eqb, or_parts, or_right}
 use Rattle.std.proofs.lemmas.List.Sorted.{IsNonDecreasingBy-from_sort, list_any-IsPermutation}
 use Rattle.std.proofs.lemmas.Map.Keys.{IsDistinct-IsPermutation, IsDistinct-cons, IsDistinct-head, IsDistinct-tail}
 use Rattle.std.proofs.lemmas.Map.Keys.{IsStrictlyIncreasing-from_distinct, IsStrictlyIncreasing-from_sorted}
 use Rattle.std.proofs.lemmas.Map.Keys.{sorted_from_strictly_increasing}
-use Rattle.argus_actions.specs.Rows.{is_live_at}
-use Rattle.argus_actions.specs.Tree.{Tree}
-use Rattle.argus_actions.specs.declared.action_id.ActionId.{ActionId}
-use Rattle.argus_contents.specs.Content.{PlainContent}
+use Rattle.std.specs.{List.{AllByRecursion, IsDistinct, list_any}, Option.unwrap_or, Ordering.nat_cmp}
+use Rattle.std.specs.{List.Sorted.{IsPermutation, IsSorted, IsStrictlySortedBy}, Prelude.slice_index_or}
+use Rattle.argus_actions.specs.{Rows.is_live_at, Tree.Tree, declared.action_id.ActionId.ActionId}
+use Rattle.argus_contents.specs.{Content.PlainContent, declared.obj_id.ObjId.ObjId}
 use Rattle.argus_contents.specs.Shape as shape
 use Rattle.argus_contents.specs.Ty as ty
-use Rattle.argus_contents.specs.declared.obj_id.ObjId.{ObjId}
 use Rattle.argus_entries.specs.Entry.{PlainEntry}
-use Rattle.argus_core.specs.StateRefinement.{StateRefinesJournal}
-use Rattle.argus_core.specs.Effect.{effect_if_live, effect_of, version_in, written_in}
-use Rattle.argus_core.specs.GuardianState.{StateInvariant, journal_view_of}
-use Rattle.argus_core.specs.Moving.{is_listed}
+use Rattle.argus_core.specs.{StateRefinement.StateRefinesJournal, GuardianState.{StateInvariant, journal_view_of}}
+use Rattle.argus_core.specs.{Effect.{effect_if_live, effect_of, version_in, written_in}, Moving.is_listed}
 use Rattle.argus_core.specs.declared.engine.atomic_object.AtomicObject.{AtomicObject}
 use Rattle.argus_core.specs.declared.engine.guardian_state.GuardianState.{GuardianState}
 use Rattle.argus_core.proofs.Begun.{kept_orderly}
-use Rattle.argus_journal.specs.Entries.{entries}
-use Rattle.argus_journal.specs.Events.{history}
-use Rattle.argus_journal.specs.LegalJournal.{entries_in, opening_in}
-use Rattle.argus_journal.specs.Opening.{Opening, model_opening}
-use Rattle.argus_journal.specs.JournalFacts.{visible_to, written_by}
-use Rattle.argus_journal.proofs.Fitting.{nothing}
-use Rattle.argus_journal.proofs.Legal.{lawful}
-use Rattle.argus_refinement.proofs.CellCommits.{seen_at}
-use Rattle.argus_refinement.proofs.TreeAnswers.{live_is}
-use Rattle.argus_model.specs.Holders.{readers, writers}
-use Rattle.argus_model.specs.Numbers.{contains}
-use Rattle.argus_model.specs.Status.{is_live}
-use Rattle.argus_model.specs.Work.{work}
-use Rattle.argus_model.proofs.Bools.{eqb_sym}
-use Rattle.argus_model.proofs.Commits.{written_are_held}
-use Rattle.argus_model.proofs.Effects.{written-IsRising}
+use Rattle.argus_journal.specs.{Entries.entries, Events.history, LegalJournal.{entries_in, opening_in}}
+use Rattle.argus_journal.specs.{Opening.{Opening, model_opening}, JournalFacts.{visible_to, written_by}}
+use Rattle.argus_journal.proofs.{Fitting.nothing, Legal.lawful}
+use Rattle.argus_refinement.proofs.{CellCommits.seen_at, TreeAnswers.live_is}
+use Rattle.argus_model.specs.{Holders.{readers, writers}, Numbers.contains, Status.is_live, Work.work}
+use Rattle.argus_model.proofs.{Bools.eqb_sym, Commits.written_are_held, Effects.written-IsRising}
 use Rattle.argus_model.proofs.Numbers.{IsRising, contains_first, rising_same}
-use Rattle.argus_objects.specs.Holdings.{objects_held_by}
-use Rattle.argus_objects.specs.CellChanges.{has_version}
-use Rattle.argus_objects.specs.declared.holdings.Holdings.{Holdings}
+use Rattle.argus_objects.specs.{Holdings.objects_held_by, CellChanges.has_version, declared.holdings.Holdings.Holdings}
 
 contains_any : (xs : List ℕ) (x : ℕ) → contains xs x ≡ list_any (λ y. eqb x y) xs
 contains_any [] x = refl

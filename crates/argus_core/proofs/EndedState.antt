@@ -1,43 +1,26 @@
 -- All objects, and the lists of what each action holds, when actions are ended.
 use Rattle.std.proofs.Common.{Bool, List, Some, [], ap, arith, cond, false, inl, inr, length, refl, subst, sym, true, ℕ}
 use Rattle.std.proofs.Common.{◌+◌, ◌-◌, ◌<◌, ◌∙◌, ◌∷◌, ◌≡◌, ◌||◌, ⊎_elim}
-use Rattle.std.specs.List.{filter}
-use Rattle.std.specs.Prelude.{not, slice_index_or, ◌&&◌}
 use Rattle.std.proofs.lemmas.Bool.{and_parts, cases_Bool, or_cases}
-use Rattle.argus_actions.specs.Rows.{has_ancestor, under_at}
-use Rattle.argus_actions.specs.Tree.{Tree, is_ancestor, is_live_sibling}
+use Rattle.std.specs.{List.filter, Prelude.{not, slice_index_or, ◌&&◌}}
+use Rattle.argus_actions.specs.{Rows.{has_ancestor, under_at}, Tree.{Tree, is_ancestor, is_live_sibling}}
 use Rattle.argus_actions.specs.declared.action_id.ActionId.{ActionId}
 use Rattle.argus_contents.specs.declared.obj_id.ObjId.{ObjId}
 use Rattle.argus_entries.specs.Entry.{PlainEntry}
-use Rattle.argus_core.specs.StateRefinement.{StateRefinesHistory, holds}
-use Rattle.argus_core.specs.Moving.{is_listed}
-use Rattle.argus_core.specs.Sweeping.{AreCovered, AreEnded}
-use Rattle.argus_core.specs.declared.engine.atomic_object.AtomicObject.{AtomicObject}
-use Rattle.argus_journal.specs.Entries.{entries}
-use Rattle.argus_journal.specs.Opening.{Opening, model_opening}
+use Rattle.argus_core.specs.{StateRefinement.{StateRefinesHistory, holds}, Moving.is_listed}
+use Rattle.argus_core.specs.{Sweeping.{AreCovered, AreEnded}, declared.engine.atomic_object.AtomicObject.AtomicObject}
+use Rattle.argus_journal.specs.{Entries.entries, Opening.{Opening, model_opening}}
 use Rattle.argus_refinement.specs.TreeRefinement.{IsTree}
-use Rattle.argus_refinement.proofs.CellAborts.{ended_cell}
-use Rattle.argus_refinement.proofs.CellHolders.{orderly, reader_live, writer_live}
-use Rattle.argus_refinement.proofs.CellLists.{reader_said}
-use Rattle.argus_refinement.proofs.TreeAnswers.{ancestor_begun_is}
+use Rattle.argus_refinement.proofs.{CellAborts.ended_cell, CellHolders.{orderly, reader_live, writer_live}}
+use Rattle.argus_refinement.proofs.{CellLists.reader_said, TreeAnswers.ancestor_begun_is, TreeSteps.sibling_is}
 use Rattle.argus_refinement.proofs.TreeRows.{ancestor_found, ancestor_from}
-use Rattle.argus_refinement.proofs.TreeSteps.{sibling_is}
 use Rattle.argus_model.specs.Ancestors as model
-use Rattle.argus_model.specs.Event.{Aborted}
-use Rattle.argus_model.specs.History.{History, ◌▹◌}
-use Rattle.argus_model.specs.Holders.{readers, writers}
-use Rattle.argus_model.specs.Lawful.{Lawful}
-use Rattle.argus_model.specs.Meaning.{reads}
-use Rattle.argus_model.specs.Numbers.{contains}
-use Rattle.argus_model.specs.Status.{is_begun, is_live, is_sibling, live_siblings}
-use Rattle.argus_model.proofs.Bools.{or_none, same_bool}
-use Rattle.argus_model.proofs.Live.{contains_siblings, is_begun_parts}
-use Rattle.argus_model.proofs.NextHolders.{contains_filtered, holders_after_abort}
-use Rattle.argus_model.proofs.Numbers.{any_found, any_from}
+use Rattle.argus_model.specs.{Event.Aborted, History.{History, ◌▹◌}, Holders.{readers, writers}, Lawful.Lawful}
+use Rattle.argus_model.specs.{Meaning.reads, Numbers.contains, Status.{is_begun, is_live, is_sibling, live_siblings}}
+use Rattle.argus_model.proofs.{Bools.{or_none, same_bool}, Live.{contains_siblings, is_begun_parts}, Standing.Orderly}
+use Rattle.argus_model.proofs.{NextHolders.{contains_filtered, holders_after_abort}, Numbers.{any_found, any_from}}
 use Rattle.argus_model.proofs.Siblings.{live_begun}
-use Rattle.argus_model.proofs.Standing.{Orderly}
-use Rattle.argus_objects.specs.Holdings.{objects_held_by}
-use Rattle.argus_objects.specs.CellChanges.{has_version, is_reader}
+use Rattle.argus_objects.specs.{Holdings.objects_held_by, CellChanges.{has_version, is_reader}}
 use Rattle.argus_objects.specs.declared.holdings.Holdings.{Holdings}
 
 -- ended says of each live action whether it stands under one of those that the event names; t' is the tree after it

@@ -1,45 +1,27 @@
 -- The calls that end actions.
 use Rattle.std.proofs.Common.{List, None, Some, [], ap, arith, length, refl, subst, sym, true, ℕ, ◌+◌, ◌<◌, ◌≤◌, ◌∙◌}
-use Rattle.std.proofs.Common.{◌∷◌, ◌≡◌}
+use Rattle.std.proofs.{Common.{◌∷◌, ◌≡◌}, lemmas.List.{get_or-map, length-map, same_lists}}
 use Rattle.std.specs.Prelude.{map, slice_index_or}
-use Rattle.argus_actions.specs.Refusals.{abort_others_refusal, abort_refusal, commit_refusal}
-use Rattle.argus_actions.specs.Rows.{has_ancestor}
+use Rattle.argus_actions.specs.{Refusals.{abort_others_refusal, abort_refusal, commit_refusal}, Rows.has_ancestor}
 use Rattle.argus_actions.specs.Tree.{Tree, after_abort, after_abort_others, after_commit, is_ancestor, is_live_sibling}
-use Rattle.argus_actions.specs.Tree.{next, parent_of}
-use Rattle.argus_actions.specs.declared.action_id.ActionId.{ActionId}
-use Rattle.argus_contents.specs.Answer.{done}
-use Rattle.argus_contents.specs.declared.obj_id.ObjId.{ObjId}
-use Rattle.argus_entries.specs.Call.{abort, abort_others, commit}
-use Rattle.argus_entries.specs.Entry.{PlainEntry}
-use Rattle.argus_entries.specs.Reply.{answered}
-use Rattle.argus_core.specs.StateRefinement.{StateRefinesHistory, StateRefinesJournal}
+use Rattle.argus_actions.specs.{Tree.{next, parent_of}, declared.action_id.ActionId.ActionId}
+use Rattle.argus_contents.specs.{Answer.done, declared.obj_id.ObjId.ObjId}
+use Rattle.argus_entries.specs.{Call.{abort, abort_others, commit}, Entry.PlainEntry, Reply.answered}
+use Rattle.argus_core.specs.{StateRefinement.{StateRefinesHistory, StateRefinesJournal}, Sweeping.AreEnded}
 use Rattle.argus_core.specs.Moving.{AreChanged, IsInherited, IsSettled, is_listed}
-use Rattle.argus_core.specs.Sweeping.{AreEnded}
 use Rattle.argus_core.specs.declared.engine.atomic_object.AtomicObject.{AtomicObject}
-use Rattle.argus_core.proofs.Begun.{granted_reply, kept_event, kept_orderly}
-use Rattle.argus_core.proofs.CommittedState.{parts_sub, parts_top}
-use Rattle.argus_core.proofs.EndedState.{parts_ended, under_one, under_siblings_is}
-use Rattle.argus_core.proofs.Under.{others_under}
-use Rattle.argus_journal.specs.Answers.{answer, if_created, refusal}
-use Rattle.argus_journal.specs.Events.{history}
-use Rattle.argus_journal.specs.Objects.{shapes}
-use Rattle.argus_journal.specs.Opening.{Opening}
+use Rattle.argus_core.proofs.{Begun.{granted_reply, kept_event, kept_orderly}, CommittedState.{parts_sub, parts_top}}
+use Rattle.argus_core.proofs.{EndedState.{parts_ended, under_one, under_siblings_is}, Under.others_under}
+use Rattle.argus_journal.specs.{Answers.{answer, if_created, refusal}, Events.history, Objects.shapes, Opening.Opening}
 use Rattle.argus_journal.proofs.Legal.{free_none, lawful, live_none}
 use Rattle.argus_refinement.specs.TreeRefinement.{journal_refusal_if_any}
-use Rattle.argus_refinement.proofs.CellAborts.{abort_more, others_more}
-use Rattle.argus_refinement.proofs.CellCommits.{parent_less}
-use Rattle.argus_refinement.proofs.TreeAnswers.{next_is}
+use Rattle.argus_refinement.proofs.{CellAborts.{abort_more, others_more}, CellCommits.parent_less, TreeAnswers.next_is}
 use Rattle.argus_refinement.proofs.TreeRefusals.{abort_is, commit_is, others_is}
 use Rattle.argus_refinement.proofs.TreeSteps.{abort_others_tree, abort_tree}
-use Rattle.argus_model.specs.Event.{Aborted, Committed}
-use Rattle.argus_model.specs.History.{History, ◌▹◌}
-use Rattle.argus_model.specs.Status.{is_live, live_siblings}
-use Rattle.argus_model.proofs.Live.{is_begun_parts}
-use Rattle.argus_model.proofs.Siblings.{live_begun}
-use Rattle.argus_objects.specs.Holdings.{Lists, PassedOn, SameLists, objects_held_by}
-use Rattle.argus_objects.specs.Object.{Object}
+use Rattle.argus_model.specs.{Event.{Aborted, Committed}, History.{History, ◌▹◌}, Status.{is_live, live_siblings}}
+use Rattle.argus_model.proofs.{Live.is_begun_parts, Siblings.live_begun}
+use Rattle.argus_objects.specs.{Holdings.{Lists, PassedOn, SameLists, objects_held_by}, Object.Object}
 use Rattle.argus_objects.specs.declared.holdings.Holdings.{Holdings}
-use Rattle.std.proofs.lemmas.List.{get_or-map, length-map, same_lists}
 
 -- where there are objects, there is one
 pub some_object : (xs : List AtomicObject) (o : ℕ) → o < length xs → AtomicObject

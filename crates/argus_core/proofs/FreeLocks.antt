@@ -1,27 +1,18 @@
 -- What a test that says yes tells of the lock, and what a free lock is good for.
-use Rattle.std.proofs.Common.{Bool, None, Option, Some, length, refl, sym, true, ◌<◌, ◌∙◌, ◌≡◌}
+use Rattle.std.proofs.{Common.{Bool, None, Option, Some, length, refl, sym, true, ◌<◌, ◌∙◌, ◌≡◌}, lemmas.Bool.and_parts}
 use Rattle.std.specs.Prelude.{slice_index_or}
-use Rattle.std.proofs.lemmas.Bool.{and_parts}
 use Rattle.argus_actions.specs.declared.action_id.ActionId.{ActionId}
-use Rattle.argus_contents.specs.Answer.{PlainAnswer, flag}
-use Rattle.argus_contents.specs.Content.{KeepsLimits}
-use Rattle.argus_contents.specs.declared.obj_id.ObjId.{ObjId}
-use Rattle.argus_entries.specs.Call.{PlainCall}
-use Rattle.argus_entries.specs.Reply.{PlainReply, answered}
-use Rattle.argus_entries.specs.declared.refusal.Refusal.{Refusal}
+use Rattle.argus_contents.specs.{Answer.{PlainAnswer, flag}, Content.KeepsLimits, declared.obj_id.ObjId.ObjId}
+use Rattle.argus_entries.specs.{Call.PlainCall, Reply.{PlainReply, answered}, declared.refusal.Refusal.Refusal}
 use Rattle.argus_core.specs.Accessing.{IsFree, IsListedIfHeld, seen_at}
 use Rattle.argus_core.specs.GuardianState.{StateInvariant, journal_view_of}
-use Rattle.argus_journal.specs.JournalView.{refusal_to, reply_to}
 use Rattle.argus_core.specs.declared.engine.atomic_object.AtomicObject.{AtomicObject}
 use Rattle.argus_core.specs.declared.engine.guardian_state.GuardianState.{GuardianState}
-use Rattle.argus_core.proofs.Accesses.{acts, granted_to, seen_limits}
-use Rattle.argus_core.proofs.EndedState.{listed_if_held}
-use Rattle.argus_core.proofs.Tests.{IsTest, test_free, test_lock, tests}
-use Rattle.argus_journal.specs.Answers.{or_refused}
-use Rattle.argus_journal.specs.Events.{history}
+use Rattle.argus_journal.specs.{JournalView.{refusal_to, reply_to}, Answers.or_refused, Events.history}
 use Rattle.argus_journal.specs.LegalJournal.{entries_in, opening_in}
-use Rattle.argus_objects.specs.Object.{Object, holders}
-use Rattle.argus_objects.specs.Rules.{all_above, may_read, may_write}
+use Rattle.argus_core.proofs.{Accesses.{acts, granted_to, seen_limits}, EndedState.listed_if_held}
+use Rattle.argus_core.proofs.Tests.{IsTest, test_free, test_lock, tests}
+use Rattle.argus_objects.specs.{Object.{Object, holders}, Rules.{all_above, may_read, may_write}}
 
 -- what is answered isn't refused
 record IsGrantedWith (q : Option Refusal) (r : PlainReply) (x : PlainAnswer) : Type 0 where

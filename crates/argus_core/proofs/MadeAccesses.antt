@@ -1,36 +1,22 @@
 -- What a granted access leaves.
-use Rattle.std.proofs.Common.{List, Option, [], ap, false, sym, true, ◌+◌, ◌∙◌, ◌∷◌, ◌≡◌}
+use Rattle.std.proofs.{Common.{List, Option, [], ap, false, sym, true, ◌+◌, ◌∙◌, ◌∷◌, ◌≡◌}, lemmas.Bool.and_parts}
 use Rattle.std.specs.Prelude.{slice_index_or}
-use Rattle.std.proofs.lemmas.Bool.{and_parts}
 use Rattle.argus_actions.specs.declared.action_id.ActionId.{ActionId}
-use Rattle.argus_contents.specs.Change.{PlainChange, outcome}
-use Rattle.argus_contents.specs.Content.{PlainContent}
-use Rattle.argus_contents.specs.declared.obj_id.ObjId.{ObjId}
+use Rattle.argus_contents.specs.{Change.{PlainChange, outcome}, Content.PlainContent, declared.obj_id.ObjId.ObjId}
 use Rattle.argus_entries.specs.Entry.{PlainEntry}
-use Rattle.argus_core.specs.Accessing.{IsAccessEntry, IsAccessed, IsAltered, IsFree}
-use Rattle.argus_core.specs.StateRefinement.{StateRefinesJournal}
-use Rattle.argus_core.specs.Moving.{IsRead}
-use Rattle.argus_core.specs.GuardianState.{StateInvariant, journal_view_of}
-use Rattle.argus_journal.specs.JournalView.{reply_to}
+use Rattle.argus_core.specs.{Accessing.{IsAccessEntry, IsAccessed, IsAltered, IsFree}, Moving.IsRead}
+use Rattle.argus_core.specs.{StateRefinement.StateRefinesJournal, GuardianState.{StateInvariant, journal_view_of}}
 use Rattle.argus_core.specs.declared.engine.atomic_object.AtomicObject.{AtomicObject}
 use Rattle.argus_core.specs.declared.engine.guardian_state.GuardianState.{GuardianState}
-use Rattle.argus_core.proofs.Accessed.{parts_accessed}
-use Rattle.argus_core.proofs.Accesses.{acts, reads_agree}
-use Rattle.argus_core.proofs.Begun.{kept_event}
+use Rattle.argus_journal.specs.{JournalView.reply_to, Entries.{entries, content_after_call}, Events.history}
+use Rattle.argus_journal.specs.{LegalJournal.{entries_in, opening_in}, Opening.model_opening}
+use Rattle.argus_core.proofs.{Accessed.parts_accessed, Accesses.{acts, reads_agree}, Begun.kept_event}
 use Rattle.argus_core.proofs.Ends.{shapes_kept, some_object}
-use Rattle.argus_journal.specs.Entries.{entries, content_after_call}
-use Rattle.argus_journal.specs.Events.{history}
-use Rattle.argus_journal.specs.LegalJournal.{entries_in, opening_in}
-use Rattle.argus_journal.specs.Opening.{model_opening}
 use Rattle.argus_journal.proofs.Legal.{lawful}
-use Rattle.argus_refinement.proofs.CellAccesses.{read_cell, written_cell}
-use Rattle.argus_refinement.proofs.CellHolders.{may_read_is}
+use Rattle.argus_refinement.proofs.{CellAccesses.{read_cell, written_cell}, CellHolders.may_read_is}
 use Rattle.argus_refinement.proofs.CellSeen.{visible_is}
-use Rattle.argus_model.specs.Contents.{sees}
-use Rattle.argus_model.specs.Event.{Accessed}
-use Rattle.argus_objects.specs.CellChanges.{changed}
-use Rattle.argus_objects.specs.Object.{holders}
-use Rattle.argus_objects.specs.Rules.{all_above, may_read, may_write}
+use Rattle.argus_model.specs.{Contents.sees, Event.Accessed}
+use Rattle.argus_objects.specs.{CellChanges.changed, Object.holders, Rules.{all_above, may_read, may_write}}
 use Rattle.argus_objects.specs.declared.holdings.Holdings.{Holdings}
 
 -- the action is a reader, and the entry tells it

@@ -1,18 +1,14 @@
 -- Lists of objects, with more objects noted.
 use Rattle.std.proofs.Common.{Bool, List, [], ap, cond, false, inl, inr, refl, subst, sym, true, ℕ, ◌∙◌, ◌∷◌, ◌≡◌, eqb}
-use Rattle.std.proofs.Common.{arith, get_or, length, take, ◌+◌, ◌<◌, ◌||◌, ◌++◌}
-use Rattle.std.specs.List.{IsDistinct}
-use Rattle.std.specs.Prelude.{not}
-use Rattle.std.proofs.lemmas.Bool.{cases_Bool, cases_eq, ne_eqb, or_parts}
-use Rattle.std.proofs.lemmas.List.{take_more}
-use Rattle.std.proofs.lemmas.List.Folds.{list_any-append}
+use Rattle.std.proofs.{Common.{arith, get_or, length, take, ◌+◌, ◌<◌, ◌||◌, ◌++◌}, lemmas.List.take_more}
+use Rattle.std.proofs.{lemmas.Bool.{cases_Bool, cases_eq, ne_eqb, or_parts}, lemmas.List.Folds.list_any-append}
+use Rattle.std.specs.{List.IsDistinct, Prelude.not}
 use Rattle.argus_actions.specs.declared.action_id.ActionId.{ActionId}
 use Rattle.argus_contents.specs.declared.obj_id.ObjId.{ObjId}
 use Rattle.argus_core.specs.Moving.{is_listed}
 use Rattle.argus_core.proofs.Changes.{not_before}
 use Rattle.argus_model.proofs.Bools.{or_none}
-use Rattle.argus_objects.specs.Holdings.{noted, passed}
-use Rattle.argus_objects.specs.CellChanges.{is_reader, without_reader}
+use Rattle.argus_objects.specs.{Holdings.{noted, passed}, CellChanges.{is_reader, without_reader}}
 
 -- an object more on a list
 pub is_listed_noted : (x : ObjId) (list : List ObjId) (o : ℕ)

@@ -1,29 +1,21 @@
 -- What calls that begin and end actions count on, said of a guardian's state.
 use Rattle.std.proofs.Common.{None, Option, Some, ap, refl, sym, ℕ, ◌∙◌, ◌∷◌, ◌≡◌}
 use Rattle.argus_actions.specs.Refusals.{abort_others_refusal, abort_refusal, begin_nested_refusal, begin_sub_refusal}
-use Rattle.argus_actions.specs.Refusals.{begin_top_refusal, commit_refusal}
+use Rattle.argus_actions.specs.{Refusals.{begin_top_refusal, commit_refusal}, declared.action_id.ActionId.ActionId}
 use Rattle.argus_actions.specs.Tree.{SameActions, Tree, after_begin, next}
-use Rattle.argus_actions.specs.declared.action_id.ActionId.{ActionId}
 use Rattle.argus_actions.specs.declared.action_refusal.ActionRefusal.{ActionRefusal}
 use Rattle.argus_actions.specs.declared.origin.Origin as act_origin
 use Rattle.argus_actions.specs.declared.origin.Origin.TheVariants as origin
 use Rattle.argus_contents.specs.Answer.{done}
 use Rattle.argus_entries.specs.Call.{PlainCall, abort, abort_others, begin_nested, begin_sub, begin_top, commit}
 use Rattle.argus_entries.specs.Reply.{answered, begun, refused}
-use Rattle.argus_core.specs.StateRefinement.{StateRefinesJournal}
-use Rattle.argus_core.specs.GuardianState.{StateInvariant, journal_view_of}
-use Rattle.argus_journal.specs.JournalView.{JournalView, entry_with, refusal_to, reply_to}
-use Rattle.argus_core.specs.Sweeping.{AreCovered}
-use Rattle.argus_core.specs.declared.engine.guardian_state.GuardianState.{GuardianState}
-use Rattle.argus_core.proofs.Begins.{nested_begin, sub_begin, top_begin}
-use Rattle.argus_core.proofs.Begun.{IsBegin, begun_right, granted_reply, kept_begun, parts_room}
-use Rattle.argus_core.proofs.Begun.{refused_reply}
+use Rattle.argus_core.specs.{StateRefinement.StateRefinesJournal, GuardianState.{StateInvariant, journal_view_of}}
+use Rattle.argus_core.specs.{Sweeping.AreCovered, declared.engine.guardian_state.GuardianState.GuardianState}
+use Rattle.argus_journal.specs.{JournalView.{JournalView, entry_with, refusal_to, reply_to}, Answers.granted}
+use Rattle.argus_journal.specs.{Events.history, LegalJournal.{entries_in, opening_in}, Objects.shapes}
+use Rattle.argus_core.proofs.{Begins.{nested_begin, sub_begin, top_begin}, EndedState.parts_cover}
+use Rattle.argus_core.proofs.Begun.{IsBegin, begun_right, granted_reply, kept_begun, parts_room, refused_reply}
 use Rattle.argus_core.proofs.Ends.{abort_refused, commit_refused, others_refused}
-use Rattle.argus_core.proofs.EndedState.{parts_cover}
-use Rattle.argus_journal.specs.Answers.{granted}
-use Rattle.argus_journal.specs.Events.{history}
-use Rattle.argus_journal.specs.LegalJournal.{entries_in, opening_in}
-use Rattle.argus_journal.specs.Objects.{shapes}
 use Rattle.argus_refinement.specs.TreeRefinement.{journal_refusal, journal_refusal_if_any}
 
 -- what isn't refused in the journal's words isn't in the tree's

@@ -1,24 +1,15 @@
 -- A guardian that begins with an opening, and has made no entry.
-use Rattle.std.proofs.Common.{All, List, [], ap, arith, length, map, subst, suc, sym, true, zero, ℕ, ◌&&◌}
-use Rattle.std.proofs.Common.{◌<◌, ◌∙◌, ◌∷◌, ◌≡◌, ◌≤◌}
-use Rattle.std.specs.List.{list_all}
-use Rattle.std.specs.Prelude.{slice_index_or}
-use Rattle.std.proofs.lemmas.Bool.{both_ways}
-use Rattle.argus_actions.specs.Tree.{Tree}
-use Rattle.argus_actions.specs.declared.action_id.ActionId.{ActionId}
+use Rattle.std.proofs.Common.{All, List, [], ap, arith, length, map, subst, suc, sym, true, zero, ℕ, ◌&&◌, ◌<◌, ◌∙◌}
+use Rattle.std.proofs.{Common.{◌∷◌, ◌≡◌, ◌≤◌}, lemmas.Bool.both_ways}
+use Rattle.std.specs.{List.list_all, Prelude.slice_index_or}
+use Rattle.argus_actions.specs.{Tree.Tree, declared.action_id.ActionId.ActionId}
 use Rattle.argus_contents.specs.declared.limits.TheConstants.{MAX_OBJECTS}
-use Rattle.argus_core.specs.Checkpoint.{opened_objects}
-use Rattle.argus_core.specs.Moving.{is_listed}
-use Rattle.argus_core.specs.StateRefinement.{StateRefinesJournal}
+use Rattle.argus_core.specs.{Checkpoint.opened_objects, Moving.is_listed, StateRefinement.StateRefinesJournal}
 use Rattle.argus_core.specs.declared.engine.atomic_object.AtomicObject.{AtomicObject}
 use Rattle.argus_core.proofs.Checkpoints.{base_opened, length_opened, shapes_opened}
-use Rattle.argus_journal.specs.Events.{history}
-use Rattle.argus_journal.specs.Opening.{KeepsNumbers, Opening, content_in, is_sound}
-use Rattle.argus_objects.specs.CellChanges.{has_version}
-use Rattle.argus_objects.specs.Holdings.{objects_held_by}
-use Rattle.argus_objects.specs.Object.{Object, holders}
-use Rattle.argus_objects.specs.Rules.{is_chain, is_related}
-use Rattle.argus_objects.specs.declared.holdings.Holdings.{Holdings}
+use Rattle.argus_journal.specs.{Events.history, Opening.{KeepsNumbers, Opening, content_in, is_sound}}
+use Rattle.argus_objects.specs.{CellChanges.has_version, Holdings.objects_held_by, Object.{Object, holders}}
+use Rattle.argus_objects.specs.{Rules.{is_chain, is_related}, declared.holdings.Holdings.Holdings}
 use Rattle.argus_refinement.specs.CellRefinement.{AreSeen, IsCell, history_numbers}
 use Rattle.argus_refinement.proofs.TreeSteps.{start_tree}
 

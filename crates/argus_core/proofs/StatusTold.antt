@@ -1,32 +1,23 @@
 -- What the tree says of an action's status, and of who is live, is what the journal says.
-use Rattle.std.proofs.Common.{None, Option, Some, ap, arith, cond, false, inl, inr, sym, true, ℕ, ◌+◌, ◌<◌}
-use Rattle.std.proofs.Common.{◌∙◌, ◌≡◌, ◌≤◌}
-use Rattle.std.specs.Option.{IfNone, IfSome, option_map}
-use Rattle.std.specs.Prelude.{nat_lt, not, ◌&&◌}
-use Rattle.std.proofs.lemmas.Bool.{cases_lt, le-ltb, lt-ltb}
-use Rattle.std.proofs.lemmas.Option.{IfSome_then}
+use Rattle.std.proofs.Common.{None, Option, Some, ap, arith, cond, false, inl, inr, sym, true, ℕ, ◌+◌, ◌<◌, ◌∙◌, ◌≡◌}
+use Rattle.std.proofs.{Common.{◌≤◌}, lemmas.Bool.{cases_lt, le-ltb, lt-ltb}, lemmas.Option.IfSome_then}
+use Rattle.std.specs.{Option.{IfNone, IfSome, option_map}, Prelude.{nat_lt, not, ◌&&◌}}
 use Rattle.argus_actions.proofs.RowsLemmas.{numbered_past}
-use Rattle.argus_actions.specs.Rows.{is_live_at}
-use Rattle.argus_actions.specs.Tree.{next, row_of, status_of}
-use Rattle.argus_actions.specs.declared.action_id.ActionId.{ActionId}
-use Rattle.argus_actions.specs.declared.status.Status as tree_status
+use Rattle.argus_actions.specs.{Rows.is_live_at, Tree.{next, row_of, status_of}, declared.action_id.ActionId.ActionId}
 use Rattle.argus_actions.specs.declared.status.Status.TheVariants.{Aborted, Committed, Folded, Live}
+use Rattle.argus_actions.specs.declared.status.Status as tree_status
 use Rattle.argus_core.specs.GuardianState.{StateInvariant, journal_view_of}
 use Rattle.argus_core.specs.Statuses.{NoneLiveBetween, NoneLiveFrom, program_status, status_in}
 use Rattle.argus_core.specs.declared.engine.guardian_state.GuardianState.{GuardianState}
-use Rattle.argus_core.proofs.Begun.{kept_orderly}
-use Rattle.argus_core.proofs.Checkpoints.{folded_is}
+use Rattle.argus_core.proofs.{Begun.kept_orderly, Checkpoints.folded_is}
 use Rattle.argus_entries.specs.Entry.{PlainEntry}
-use Rattle.argus_journal.specs.Events.{history}
-use Rattle.argus_journal.specs.JournalFacts.{is_live_in}
-use Rattle.argus_journal.specs.LegalJournal.{entries_in, opening_in}
+use Rattle.argus_journal.specs.{Events.history, JournalFacts.is_live_in, LegalJournal.{entries_in, opening_in}}
 use Rattle.argus_refinement.specs.TreeRefinement.{history_status}
 use Rattle.argus_refinement.proofs.TreeAnswers.{begun_from_tree, live_is, next_is, status_is}
 use Rattle.argus_model.specs.History.{History, folded, next_action}
-use Rattle.argus_model.specs.Status as model
 use Rattle.argus_model.specs.Status.{IsAborted, IsCommitted, IsFolded, IsLive, has_committed, is_doomed, status}
-use Rattle.argus_model.proofs.Ancestors.{folded_next}
-use Rattle.argus_model.proofs.Standing.{Orderly}
+use Rattle.argus_model.specs.Status as model
+use Rattle.argus_model.proofs.{Ancestors.folded_next, Standing.Orderly}
 
 -- the program's word, back from the history's
 said_status : (q : Option tree_status.Status) (s : model.Status) → option_map history_status q ≡ Some s

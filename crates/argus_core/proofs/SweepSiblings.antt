@@ -1,32 +1,23 @@
 -- The walk over the siblings of an action: which of them were ended so far, and how many live ones are left.
 use Rattle.std.proofs.Common.{Bool, List, None, Option, Some, [], ap, arith, cond, false, inl, inr, length, refl, subst}
 use Rattle.std.proofs.Common.{sym, true, ℕ, ◌+◌, ◌-◌, ◌<◌, ◌≤◌, ◌∙◌, ◌∷◌, ◌≡◌, eqb, ◌||◌}
-use Rattle.std.specs.Option.{option_and_then, option_map_or}
-use Rattle.std.specs.Prelude.{nat_le, not, slice_index_or, ◌&&◌, ◌==◌}
-use Rattle.std.proofs.lemmas.Bool.{and_from, and_parts, and_right, cases_Bool, cases_eq, cases_lt, eq-eqb}
-use Rattle.std.proofs.lemmas.Bool.{le-leb, lt-leb, ne_eqb, or_left, or_right}
-use Rattle.std.proofs.lemmas.List.Elements.{filter_agree}
-use Rattle.argus_actions.proofs.Counted.{count}
-use Rattle.argus_actions.proofs.Marks.{one}
+use Rattle.std.proofs.lemmas.Bool.{and_from, and_parts, and_right, cases_Bool, cases_eq, cases_lt, eq-eqb, le-leb}
+use Rattle.std.proofs.{lemmas.Bool.{lt-leb, ne_eqb, or_left, or_right}, lemmas.List.Elements.filter_agree}
+use Rattle.std.specs.{Option.{option_and_then, option_map_or}, Prelude.{nat_le, not, slice_index_or, ◌&&◌, ◌==◌}}
+use Rattle.argus_actions.proofs.{Counted.count, Marks.one, RowsLemmas.row_begun}
 use Rattle.argus_actions.proofs.Newest.{came_row, newest_where_at, newest_where_most, newest_where_no}
-use Rattle.argus_actions.proofs.RowsLemmas.{row_begun}
 use Rattle.argus_actions.proofs.Siblings.{comes_under, others_first, others_past, others_step}
-use Rattle.argus_actions.specs.Row.{Row, is_begun_under, under_of}
-use Rattle.argus_actions.specs.Row as tree_row
+use Rattle.argus_actions.specs.{Row.{Row, is_begun_under, under_of}, Rows.{numbered, under_at}, Tree.older_sibling_of}
 use Rattle.argus_actions.specs.Rows.{has_ancestor, is_above, is_child_of, is_live_at, is_sibling_of, newest_child_below}
-use Rattle.argus_actions.specs.Rows.{numbered, under_at}
 use Rattle.argus_actions.specs.Tree.{Tree, is_ancestor, is_live_sibling, live_children, named, newest_child_of, next}
-use Rattle.argus_actions.specs.Tree.{older_sibling_of}
 use Rattle.argus_actions.specs.declared.action_id.ActionId.{ActionId}
+use Rattle.argus_actions.specs.Row as tree_row
 use Rattle.argus_actions.specs.declared.origin.Origin as tree_origin
 use Rattle.argus_actions.specs.declared.origin.Origin.TheVariants as begun
 use Rattle.argus_core.proofs.Sweeps.{all_both, named_none, named_some, none_ended, steps_left}
-use Rattle.argus_core.specs.Moving.{AreLawful}
-use Rattle.argus_core.specs.Sweeping.{AreEnded}
+use Rattle.argus_core.specs.{Moving.AreLawful, Sweeping.AreEnded}
 use Rattle.argus_core.specs.declared.engine.atomic_object.AtomicObject.{AtomicObject}
-use Rattle.argus_objects.specs.Holdings.{objects_held_by}
-use Rattle.argus_objects.specs.Object.{Object}
-use Rattle.argus_objects.specs.declared.holdings.Holdings.{Holdings}
+use Rattle.argus_objects.specs.{Holdings.objects_held_by, Object.Object, declared.holdings.Holdings.Holdings}
 
 -- an ancestor passes one of two tests
 has_either : (p q : ℕ → Bool) (n : ℕ) (rows : List Row) (y : ℕ)

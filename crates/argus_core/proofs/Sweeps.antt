@@ -1,33 +1,25 @@
 -- Actions that were ended, in all objects and lists; and the walk over those under an action: which were ended so far.
 use Rattle.std.proofs.Common.{Bool, List, None, Option, Some, [], ap, arith, cond, false, inl, inr, length, refl, subst}
 use Rattle.std.proofs.Common.{sym, true, ℕ, ◌+◌, ◌<◌, ◌≤◌, ◌∙◌, ◌∷◌, ◌≡◌, ◌≢◌, eqb, ◌||◌}
-use Rattle.std.specs.List.{filter}
-use Rattle.std.specs.Prelude.{not, slice_index_or, ◌&&◌, ◌==◌}
 use Rattle.std.proofs.lemmas.Bool.{and_parts, and_right, both_ways, cases_Bool, cases_eq, cases_lt, eq-eqb, eqb-true}
 use Rattle.std.proofs.lemmas.Bool.{false≢true, le-ltb, lt-ltb, ne_eqb, or_left, or_right}
-use Rattle.argus_actions.proofs.RowsLemmas.{is_above_low, is_above_past, numbered_low}
-use Rattle.argus_actions.proofs.Walks.{above_via, is_via, newest_sub_is, via_all, via_low, via_more}
-use Rattle.argus_actions.proofs.Walks.{via_past, via_unbegun}
-use Rattle.argus_actions.specs.Nodes.{AreLinked}
-use Rattle.argus_actions.specs.Rows.{is_above, is_live_at, newest_below}
-use Rattle.argus_actions.proofs.Newest.{newest_where_at}
-use Rattle.argus_actions.specs.Row.{Row, at_parent, is_live, is_sub_of}
-use Rattle.argus_actions.specs.Tree.{Tree, is_ancestor, named, newest_sub_of, next, older_sub_of, row_of, status_of}
+use Rattle.std.specs.{List.filter, Prelude.{not, slice_index_or, ◌&&◌, ◌==◌}}
 use Rattle.std.specs.Option.{option_and_then, option_map, option_map_or}
-use Rattle.argus_actions.specs.declared.status.Status.{Status}
-use Rattle.argus_actions.specs.declared.status.Status.TheVariants.{Folded}
-use Rattle.argus_actions.specs.declared.action_id.ActionId.{ActionId}
+use Rattle.argus_actions.proofs.{RowsLemmas.{is_above_low, is_above_past, numbered_low}, Walks.via_unbegun}
+use Rattle.argus_actions.proofs.Walks.{above_via, is_via, newest_sub_is, via_all, via_low, via_more, via_past}
+use Rattle.argus_actions.proofs.Newest.{newest_where_at}
+use Rattle.argus_actions.specs.{Nodes.AreLinked, Rows.{is_above, is_live_at, newest_below}}
+use Rattle.argus_actions.specs.{Row.{Row, at_parent, is_live, is_sub_of}, declared.status.Status.Status}
+use Rattle.argus_actions.specs.Tree.{Tree, is_ancestor, named, newest_sub_of, next, older_sub_of, row_of, status_of}
+use Rattle.argus_actions.specs.{declared.status.Status.TheVariants.Folded, declared.action_id.ActionId.ActionId}
 use Rattle.argus_contents.specs.declared.obj_id.ObjId.{ObjId}
 use Rattle.argus_core.specs.Moving.{AreChanged, AreLawful, ChangedIf, IsEnded, is_listed}
 use Rattle.argus_core.specs.Sweeping.{AreAllThere, AreCleared, AreCovered, AreEnded}
 use Rattle.argus_core.specs.declared.engine.atomic_object.AtomicObject.{AtomicObject}
 use Rattle.argus_objects.proofs.Later.{filter_all, filter_twice}
 use Rattle.argus_refinement.proofs.CellLists.{has_filtered}
-use Rattle.argus_objects.specs.Holdings.{Lists, objects_held_by}
-use Rattle.argus_objects.specs.CellChanges.{has_version, is_reader}
-use Rattle.argus_objects.specs.Object.{Object, PlainVersion}
-use Rattle.argus_objects.specs.Rules.{is_lawful}
-use Rattle.argus_objects.specs.declared.holdings.Holdings.{Holdings}
+use Rattle.argus_objects.specs.{Holdings.{Lists, objects_held_by}, CellChanges.{has_version, is_reader}}
+use Rattle.argus_objects.specs.{Object.{Object, PlainVersion}, Rules.is_lawful, declared.holdings.Holdings.Holdings}
 
 -- two endings, one after the other
 pub ended_both : (t : Tree) (p q both : ℕ → Bool) → ((x : ℕ) → both x ≡ (p x || q x)) → (a b c : Object)

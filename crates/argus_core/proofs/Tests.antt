@@ -1,32 +1,22 @@
 -- Tests of locks, as the guardian refuses and grants them.
-use Rattle.std.proofs.Common.{Bool, List, None, Option, [], ap, arith, inl, inr, length, refl, sym, true, ℕ}
-use Rattle.std.proofs.Common.{◌+◌, ◌<◌, ◌∙◌, ◌∷◌, ◌≡◌}
+use Rattle.std.proofs.Common.{Bool, List, None, Option, [], ap, arith, inl, inr, length, refl, sym, true, ℕ, ◌+◌, ◌<◌}
+use Rattle.std.proofs.{Common.{◌∙◌, ◌∷◌, ◌≡◌}, lemmas.Bool.{cases_lt, le-ltb}, lemmas.Option.slice_get-get_or}
 use Rattle.std.specs.Prelude.{slice_get, slice_index_or}
-use Rattle.std.proofs.lemmas.Bool.{cases_lt, le-ltb}
-use Rattle.std.proofs.lemmas.Option.{slice_get-get_or}
 use Rattle.argus_actions.specs.declared.action_id.ActionId.{ActionId}
-use Rattle.argus_contents.specs.Answer.{flag}
-use Rattle.argus_contents.specs.Shape.{PlainShape}
-use Rattle.argus_contents.specs.declared.obj_id.ObjId.{ObjId}
-use Rattle.argus_entries.specs.Call.{PlainCall, test_read, test_write}
-use Rattle.argus_entries.specs.Reply.{answered}
+use Rattle.argus_contents.specs.{Answer.flag, Shape.PlainShape, declared.obj_id.ObjId.ObjId}
+use Rattle.argus_entries.specs.{Call.{PlainCall, test_read, test_write}, Reply.answered}
 use Rattle.argus_entries.specs.declared.refusal.Refusal.{Refusal}
 use Rattle.argus_entries.specs.declared.refusal.Refusal.TheVariants.{Conflict, IllTyped, NoObject}
-use Rattle.argus_core.specs.Accessing.{IsFree, access_refusal}
-use Rattle.argus_core.specs.GuardianState.{StateInvariant, journal_view_of}
+use Rattle.argus_core.specs.{Accessing.{IsFree, access_refusal}, GuardianState.{StateInvariant, journal_view_of}}
 use Rattle.argus_core.specs.declared.engine.atomic_object.AtomicObject.{AtomicObject}
 use Rattle.argus_core.specs.declared.engine.guardian_state.GuardianState.{GuardianState}
-use Rattle.argus_core.proofs.Accesses.{IsAccess, access_free, access_granted, access_is, acts, granted_to}
-use Rattle.argus_core.proofs.Accesses.{history_of, reads_agree, shapes_of, writes_agree}
-use Rattle.argus_core.proofs.Ends.{some_object}
-use Rattle.argus_journal.specs.Answers.{if_declared, if_free, suits, unless}
-use Rattle.argus_journal.specs.Entries.{entries}
-use Rattle.argus_journal.specs.JournalView.{JournalView, refusal_to, reply_to}
-use Rattle.argus_journal.specs.LegalJournal.{entries_in, opening_in}
+use Rattle.argus_core.proofs.Accesses.{IsAccess, access_free, access_granted, access_is, acts, granted_to, history_of}
+use Rattle.argus_core.proofs.{Accesses.{reads_agree, shapes_of, writes_agree}, Ends.some_object}
+use Rattle.argus_journal.specs.{Answers.{if_declared, if_free, suits, unless}, Entries.entries}
+use Rattle.argus_journal.specs.{JournalView.{JournalView, refusal_to, reply_to}, LegalJournal.{entries_in, opening_in}}
 use Rattle.argus_model.specs.Holders as model
 use Rattle.argus_model.specs.Status.{is_live}
-use Rattle.argus_objects.specs.Object.{Object}
-use Rattle.argus_objects.specs.Rules.{may_read, may_write}
+use Rattle.argus_objects.specs.{Object.Object, Rules.{may_read, may_write}}
 
 -- a shape that is there suits where all shapes do
 all_suit : (xs : List PlainShape) (o : ℕ) → if_declared xs o

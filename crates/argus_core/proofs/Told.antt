@@ -1,19 +1,15 @@
 -- What a guardian tells of its objects is what its journal says.
 use Rattle.std.proofs.Common.{Bool, IsTrue, List, cond, None, Some, [], ap, false, length, map, refl, reverse, subst}
-use Rattle.std.proofs.Common.{sym, true, ℕ, ◌++◌, ◌∙◌, ◌∷◌, ◌≡◌, ◌↔◌}
-use Rattle.std.specs.Prelude.{nat_lt, slice_index_or}
-use Rattle.std.proofs.lemmas.Bool.{ltb-true}
+use Rattle.std.proofs.{Common.{sym, true, ℕ, ◌++◌, ◌∙◌, ◌∷◌, ◌≡◌, ◌↔◌}, lemmas.Bool.ltb-true}
 use Rattle.std.proofs.lemmas.List.{append-nil, append_assoc, reverse-append}
+use Rattle.std.specs.Prelude.{nat_lt, slice_index_or}
 use Rattle.argus_contents.specs.Answer.{flag}
-use Rattle.argus_entries.specs.Reply.{PlainReply, answered, refused}
-use Rattle.argus_entries.specs.declared.refusal.Refusal.{Refusal}
-use Rattle.argus_core.specs.GuardianState.{StateInvariant, journal_view_of}
-use Rattle.argus_core.specs.Objects.{version_pair, where_declared}
+use Rattle.argus_entries.specs.{Reply.{PlainReply, answered, refused}, declared.refusal.Refusal.Refusal}
+use Rattle.argus_core.specs.{GuardianState.{StateInvariant, journal_view_of}, Objects.{version_pair, where_declared}}
 use Rattle.argus_core.specs.declared.engine.atomic_object.AtomicObject.{AtomicObject}
 use Rattle.argus_core.specs.declared.engine.guardian_state.GuardianState.{GuardianState}
 use Rattle.argus_core.proofs.Accesses.{count}
-use Rattle.argus_journal.specs.Events.{history}
-use Rattle.argus_journal.specs.LegalJournal.{entries_in, opening_in}
+use Rattle.argus_journal.specs.{Events.history, LegalJournal.{entries_in, opening_in}}
 use Rattle.argus_refinement.specs.CellRefinement as laws
 use Rattle.argus_refinement.specs.CellRefinement.{IsCell}
 use Rattle.argus_objects.specs.Object.{PlainVersion, versions_newest_first, plain_version}

@@ -1,14 +1,11 @@
 -- The action that another was begun under is its parent or its creator.
 use Rattle.std.proofs.Common.{None, Option, Some, ap, refl, sym, ℕ, ◌∙◌, ◌≡◌}
 use Rattle.std.specs.Option.{is_none, option_and_then, option_map, option_or}
-use Rattle.argus_actions.specs.Refusals.{abort_others_refusal, commit_refusal, refused_if}
-use Rattle.argus_actions.specs.Row.{Row, under_of}
-use Rattle.argus_actions.specs.Rows.{under_at}
-use Rattle.argus_actions.specs.Tree.{Tree, creator_by_origin, parent_by_origin}
-use Rattle.argus_actions.specs.declared.action_id.ActionId.{ActionId}
+use Rattle.argus_actions.specs.{Refusals.{abort_others_refusal, commit_refusal, refused_if}, Row.{Row, under_of}}
+use Rattle.argus_actions.specs.{Rows.under_at, Tree.{Tree, creator_by_origin, parent_by_origin}}
+use Rattle.argus_actions.specs.{declared.action_id.ActionId.ActionId, declared.origin.Origin.Origin}
 use Rattle.argus_actions.specs.declared.action_refusal.ActionRefusal.{ActionRefusal}
 use Rattle.argus_actions.specs.declared.action_refusal.ActionRefusal.TheVariants.{NoSiblings}
-use Rattle.argus_actions.specs.declared.origin.Origin.{Origin}
 use Rattle.argus_actions.specs.declared.origin.Origin.TheVariants.{Nested, Sub, Top}
 
 at_parent : (o : Origin) (p : ActionId) → parent_by_origin o ≡ Some p → Some p.0 ≡ under_of o

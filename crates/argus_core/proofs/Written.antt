@@ -1,19 +1,13 @@
 -- What an action has written, as the walk over its list finds it.
-use Rattle.std.proofs.Common.{List, None, Option, Some, [], ap, cond, get_or, inl, inr, length, map}
-use Rattle.std.proofs.Common.{refl, sym, take, ℕ, ◌++◌, ◌+◌, ◌<◌, ◌||◌, ◌∙◌, ◌∷◌, ◌≡◌}
-use Rattle.std.specs.Option.{is_some, option_map}
-use Rattle.std.proofs.lemmas.Bool.{cases_Bool, cases_eq, eq-eqb, ne_eqb}
+use Rattle.std.proofs.Common.{List, None, Option, Some, [], ap, cond, get_or, inl, inr, length, map, refl, sym, take, ℕ}
+use Rattle.std.proofs.{Common.{◌++◌, ◌+◌, ◌<◌, ◌||◌, ◌∙◌, ◌∷◌, ◌≡◌}, lemmas.Bool.{cases_Bool, cases_eq, eq-eqb, ne_eqb}}
 use Rattle.std.proofs.lemmas.List.{map-append, take_more}
+use Rattle.std.specs.{Option.{is_some, option_map}, Prelude.slice_index_or}
 use Rattle.argus_actions.specs.declared.action_id.ActionId.{ActionId}
-use Rattle.argus_contents.specs.Content.{PlainContent, plain_option}
-use Rattle.argus_contents.specs.declared.content.Content.{Content}
-use Rattle.argus_contents.specs.declared.obj_id.ObjId.{ObjId}
-use Rattle.argus_core.specs.Effect.{version_in, written_in}
-use Rattle.argus_contents.specs.Effect.{plain_effect}
-use Rattle.argus_core.specs.declared.engine.atomic_object.AtomicObject.{AtomicObject}
-use Rattle.argus_objects.specs.CellChanges.{has_version, version_of}
-use Rattle.argus_objects.specs.Object.{PlainVersion}
-use Rattle.std.specs.Prelude.{slice_index_or}
+use Rattle.argus_contents.specs.{Content.{PlainContent, plain_option}, declared.content.Content.Content}
+use Rattle.argus_contents.specs.{declared.obj_id.ObjId.ObjId, Effect.plain_effect}
+use Rattle.argus_core.specs.{Effect.{version_in, written_in}, declared.engine.atomic_object.AtomicObject.AtomicObject}
+use Rattle.argus_objects.specs.{CellChanges.{has_version, version_of}, Object.PlainVersion}
 
 -- an action has a version where there is one of it
 pub has_where_found : (a : ActionId) (vs : List PlainVersion) → is_some (version_of a vs) ≡ has_version a vs

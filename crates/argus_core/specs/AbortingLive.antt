@@ -1,12 +1,8 @@
 -- The journal after all live actions are aborted.
 use Rattle.std.specs.Prelude.{List, [], filter, ℕ, ◌&&◌, ◌++◌, ◌==◌, ◌∷◌, ◌≡◌}
 use Rattle.argus_entries.specs.Call.{abort}
-use Rattle.argus_journal.specs.Events.{history}
-use Rattle.argus_journal.specs.JournalView.{JournalView, after}
-use Rattle.argus_journal.specs.Numbering.{all_in_program}
-use Rattle.argus_model.specs.Ancestors.{parent}
-use Rattle.argus_model.specs.History.{History, begun_actions}
-use Rattle.argus_model.specs.Status.{is_live}
+use Rattle.argus_journal.specs.{Events.history, JournalView.{JournalView, after}, Numbering.all_in_program}
+use Rattle.argus_model.specs.{Ancestors.parent, History.{History, begun_actions}, Status.is_live}
 
 -- the live actions that have no parent, in increasing number
 abbrev pub live_without_parent : {V : Type 0} → History V → List ℕ

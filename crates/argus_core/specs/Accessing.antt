@@ -1,32 +1,21 @@
 -- Why an access is refused, from the state; what a granted one needs, and what it does.
-use Rattle.std.specs.Option.{option_or}
-use Rattle.std.specs.Prelude.{Bool, List, None, Option, Some, [], length, not, slice_get}
-use Rattle.std.specs.Prelude.{slice_index_or, true, ℕ, ◌+◌, ◌<◌, ◌||◌, ◌∷◌, ◌≡◌}
-use Rattle.argus_actions.specs.Refusals.{commit_refusal}
-use Rattle.argus_actions.specs.Tree.{Tree}
-use Rattle.argus_actions.specs.declared.action_id.ActionId.{ActionId}
-use Rattle.argus_contents.specs.Change.{PlainChange}
-use Rattle.argus_contents.specs.Content.{PlainContent}
-use Rattle.argus_contents.specs.Shape.{PlainShape}
+use Rattle.std.specs.{Option.option_or, Prelude.{◌<◌, ◌||◌, ◌∷◌, ◌≡◌}}
+use Rattle.std.specs.Prelude.{Bool, List, None, Option, Some, [], length, not, slice_get, slice_index_or, true, ℕ, ◌+◌}
+use Rattle.argus_actions.specs.{Refusals.commit_refusal, Tree.Tree, declared.action_id.ActionId.ActionId}
+use Rattle.argus_contents.specs.{Change.PlainChange, Content.PlainContent, Shape.PlainShape}
 use Rattle.argus_contents.specs.declared.obj_id.ObjId.{ObjId}
-use Rattle.argus_entries.specs.Entry.{PlainEntry}
-use Rattle.argus_entries.specs.declared.refusal.Refusal.{Refusal}
+use Rattle.argus_entries.specs.{Entry.PlainEntry, declared.refusal.Refusal.Refusal}
 use Rattle.argus_entries.specs.declared.refusal.Refusal.TheVariants.{Conflict, IllTyped, NoObject}
 use Rattle.argus_core.specs.Moving.{AreChanged, IsWritten, is_listed}
 use Rattle.argus_core.specs.declared.engine.atomic_object.AtomicObject.{AtomicObject}
 use Rattle.argus_core.specs.declared.engine.guardian_state.GuardianState.{GuardianState}
-use Rattle.argus_journal.specs.Answers.{unless}
-use Rattle.argus_journal.specs.Entries.{is_write}
-use Rattle.argus_journal.specs.Events.{happens}
-use Rattle.argus_journal.specs.LegalJournal.{entries_in, opening_in}
+use Rattle.argus_journal.specs.{Answers.unless, Entries.is_write, Events.happens, LegalJournal.{entries_in, opening_in}}
 use Rattle.argus_journal.specs.Objects.{declared_by}
 use Rattle.argus_model.specs.Event.{Accessed}
 use Rattle.argus_refinement.specs.TreeRefinement.{journal_refusal_if_any}
 use Rattle.argus_objects.specs.Holdings.{Lists, SameLists, holdings_room_of, noted, objects_held_by}
-use Rattle.argus_objects.specs.CellChanges.{changed, has_version, is_reader}
-use Rattle.argus_objects.specs.Object.{Object, SameLocks}
-use Rattle.argus_objects.specs.Rules.{visible_content}
-use Rattle.argus_objects.specs.declared.holdings.Holdings.{Holdings}
+use Rattle.argus_objects.specs.{CellChanges.{changed, has_version, is_reader}, Object.{Object, SameLocks}}
+use Rattle.argus_objects.specs.{Rules.visible_content, declared.holdings.Holdings.Holdings}
 
 -- why the object that was found refuses an access: its shape doesn't suit, or the lock isn't free
 abbrev pub refused_at : Option AtomicObject → (PlainShape → Bool) → (Object → Bool) → Option Refusal

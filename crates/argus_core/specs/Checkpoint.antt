@@ -1,14 +1,9 @@
 -- A checkpoint of a guardian: when there can be one, and what it leaves.
-use Rattle.std.specs.List.{list_any}
-use Rattle.std.specs.Prelude.{Bool, List, Option, [], map, not}
-use Rattle.argus_contents.specs.Content.{PlainContent}
-use Rattle.argus_contents.specs.Shape.{PlainShape}
-use Rattle.argus_journal.specs.JournalView.{JournalView}
+use Rattle.std.specs.{List.list_any, Prelude.{Bool, List, Option, [], map, not}}
+use Rattle.argus_contents.specs.{Content.PlainContent, Shape.PlainShape}
+use Rattle.argus_journal.specs.{JournalView.JournalView, Events.history, Folding.fold}
 use Rattle.argus_core.specs.declared.engine.atomic_object.AtomicObject.{AtomicObject}
-use Rattle.argus_journal.specs.Events.{history}
-use Rattle.argus_journal.specs.Folding.{fold}
-use Rattle.argus_model.specs.History.{begun_actions}
-use Rattle.argus_model.specs.Status.{is_live}
+use Rattle.argus_model.specs.{History.begun_actions, Status.is_live}
 
 -- no action is live
 abbrev pub is_quiet : JournalView → Bool

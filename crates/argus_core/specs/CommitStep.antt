@@ -1,17 +1,11 @@
 -- What each step of a commit needs beforehand.
 use Rattle.std.specs.Prelude.{None, Some, length, ◌<◌, ◌≡◌, ◌≤◌}
-use Rattle.argus_actions.specs.Refusals.{commit_refusal}
-use Rattle.argus_actions.specs.Tree.{parent_of}
-use Rattle.argus_actions.specs.declared.action_id.ActionId.{ActionId}
-use Rattle.argus_entries.specs.Call.{commit}
-use Rattle.argus_entries.specs.Reply.{refused}
-use Rattle.argus_entries.specs.declared.refusal.Refusal.{Refusal}
-use Rattle.argus_core.specs.GuardianState.{journal_view_of}
-use Rattle.argus_core.specs.declared.engine.commit_step.CommitStep.{CommitStep}
-use Rattle.argus_core.specs.declared.engine.commit_step.CommitStep.TheVariants as step
+use Rattle.argus_actions.specs.{Refusals.commit_refusal, Tree.parent_of, declared.action_id.ActionId.ActionId}
+use Rattle.argus_entries.specs.{Call.commit, Reply.refused, declared.refusal.Refusal.Refusal}
+use Rattle.argus_core.specs.{GuardianState.journal_view_of, declared.engine.commit_step.CommitStep.CommitStep}
 use Rattle.argus_core.specs.declared.engine.guardian_state.GuardianState.{GuardianState}
-use Rattle.argus_journal.specs.JournalView.{reply_to}
-use Rattle.argus_journal.specs.LegalJournal.{room_in}
+use Rattle.argus_core.specs.declared.engine.commit_step.CommitStep.TheVariants as step
+use Rattle.argus_journal.specs.{JournalView.reply_to, LegalJournal.room_in}
 use Rattle.argus_objects.specs.Holdings.{HasPlace, holdings_room_of, objects_held_by}
 use Rattle.argus_objects.specs.declared.holdings.Holdings.{Holdings}
 

@@ -1,13 +1,10 @@
 -- What an action would leave for good.
 use Rattle.std.specs.Option.{unwrap_or}
-use Rattle.std.specs.Prelude.{List, None, Option, Some, if◌then◌else◌, map, slice_index_or, ℕ, ◌∷◌}
-use Rattle.std.specs.Prelude.{[]}
+use Rattle.std.specs.Prelude.{List, None, Option, Some, if◌then◌else◌, map, slice_index_or, ℕ, ◌∷◌, []}
 use Rattle.argus_actions.specs.declared.action_id.ActionId.{ActionId}
-use Rattle.argus_contents.specs.Content.{PlainContent}
-use Rattle.argus_contents.specs.declared.obj_id.ObjId.{ObjId}
-use Rattle.argus_journal.specs.JournalView.{JournalView}
+use Rattle.argus_contents.specs.{Content.PlainContent, declared.obj_id.ObjId.ObjId}
+use Rattle.argus_journal.specs.{JournalView.JournalView, JournalFacts.{is_live_in, visible_to, written_by}}
 use Rattle.argus_core.specs.declared.engine.atomic_object.AtomicObject.{AtomicObject}
-use Rattle.argus_journal.specs.JournalFacts.{is_live_in, visible_to, written_by}
 use Rattle.argus_objects.specs.CellChanges.{has_version, version_of}
 
 -- what the action sees in each object that it or a committed subaction has written, in increasing

@@ -1,8 +1,7 @@
 -- What a guardian keeps, and what contracts see of it.
 use Rattle.argus_core.specs.StateRefinement.{StateRefinesJournal}
-use Rattle.argus_journal.specs.JournalView.{JournalView}
 use Rattle.argus_core.specs.declared.engine.guardian_state.GuardianState.{GuardianState}
-use Rattle.argus_journal.specs.LegalJournal.{entries_in, opening_in}
+use Rattle.argus_journal.specs.{JournalView.JournalView, LegalJournal.{entries_in, opening_in}}
 
 -- the state agrees with its journal
 abbrev pub StateInvariant : GuardianState → Type 0

@@ -1,17 +1,11 @@
 -- What a call does to the objects on a list, and to the others.
-use Rattle.std.specs.List.{list_any}
-use Rattle.std.specs.Option.{unwrap_or}
-use Rattle.std.specs.Prelude.{Bool, List, Option, false, filter, length, not, slice_index_or, true}
-use Rattle.std.specs.Prelude.{ℕ, ◌<◌, ◌==◌, ◌≡◌}
-use Rattle.argus_actions.specs.Tree.{Tree}
-use Rattle.argus_actions.specs.declared.action_id.ActionId.{ActionId}
-use Rattle.argus_contents.specs.Content.{PlainContent}
-use Rattle.argus_contents.specs.declared.obj_id.ObjId.{ObjId}
+use Rattle.std.specs.{List.list_any, Option.unwrap_or}
+use Rattle.std.specs.Prelude.{Bool, List, Option, false, filter, length, not, slice_index_or, true, ℕ, ◌<◌, ◌==◌, ◌≡◌}
+use Rattle.argus_actions.specs.{Tree.Tree, declared.action_id.ActionId.ActionId}
+use Rattle.argus_contents.specs.{Content.PlainContent, declared.obj_id.ObjId.ObjId}
 use Rattle.argus_core.specs.declared.engine.atomic_object.AtomicObject.{AtomicObject}
-use Rattle.argus_objects.specs.CellChanges.{readers_inherited, version_of, versions_inherited}
-use Rattle.argus_objects.specs.CellChanges.{with_reader, with_version, without_reader}
-use Rattle.argus_objects.specs.CellChanges.{without_version}
-use Rattle.argus_objects.specs.Object.{Object}
+use Rattle.argus_objects.specs.CellChanges.{readers_inherited, version_of, versions_inherited, with_reader}
+use Rattle.argus_objects.specs.{CellChanges.{with_version, without_reader, without_version}, Object.Object}
 use Rattle.argus_objects.specs.Rules.{is_lawful}
 
 -- the number is on the list

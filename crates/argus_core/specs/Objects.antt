@@ -1,16 +1,11 @@
 -- What a guardian returns about its objects, as contracts see it.
-use Rattle.std.specs.Borrow.{Bor}
-use Rattle.std.specs.Prelude.{List, None, Option, Some, if◌then◌else◌, map, nat_lt, ℕ}
+use Rattle.std.specs.{Borrow.Bor, Prelude.{List, None, Option, Some, if◌then◌else◌, map, nat_lt, ℕ}}
 use Rattle.argus_actions.specs.declared.action_id.ActionId.{ActionId}
-use Rattle.argus_contents.specs.Content.{PlainContent, plain_option}
-use Rattle.argus_contents.specs.Shape.{PlainShape}
+use Rattle.argus_contents.specs.{Content.{PlainContent, plain_option}, Shape.PlainShape, declared.shape.Shape.Shape}
 use Rattle.argus_contents.specs.declared.content.Content.{Content}
-use Rattle.argus_contents.specs.declared.shape.Shape.{Shape}
-use Rattle.argus_entries.specs.Call.{PlainCall, abort, abort_others, alter, ask, begin_nested}
-use Rattle.argus_entries.specs.Call.{begin_sub, begin_top, commit, declare, test_read, test_write}
-use Rattle.argus_entries.specs.declared.refusal.Refusal.{Refusal}
-use Rattle.argus_journal.specs.JournalView.{JournalView, refusal_to}
-use Rattle.argus_journal.specs.Objects.{declared}
+use Rattle.argus_entries.specs.Call.{PlainCall, abort, abort_others, alter, ask, begin_nested, begin_sub, begin_top}
+use Rattle.argus_entries.specs.{Call.{commit, declare, test_read, test_write}, declared.refusal.Refusal.Refusal}
+use Rattle.argus_journal.specs.{JournalView.{JournalView, refusal_to}, Objects.declared}
 use Rattle.argus_objects.specs.declared.version.Version.{Version}
 
 -- the fact about the object, if it is declared

@@ -1,10 +1,8 @@
 -- A prepared commit, and what a call adds to the effects.
-use Rattle.std.specs.Coded.{Coded, code_by, coded_ℕ, coded×}
-use Rattle.std.specs.Prelude.{List, Option, refl, ℕ}
+use Rattle.std.specs.{Coded.{Coded, code_by, coded_ℕ, coded×}, Prelude.{List, Option, refl, ℕ}}
 use Rattle.argus_contents.specs.Content.{PlainContent}
 use Rattle.argus_entries.specs.Call.{PlainCall}
-use Rattle.argus_journal.specs.Effects.{added_by}
-use Rattle.argus_journal.specs.Events.{happens}
+use Rattle.argus_journal.specs.{Effects.added_by, Events.happens}
 use Rattle.argus_journal.specs.JournalView.{JournalView, entry_of, journal_view_coded}
 
 -- the journal before the commit, and the action that will commit

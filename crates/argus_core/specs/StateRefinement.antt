@@ -1,24 +1,14 @@
 -- How the guardian's state agrees with its journal.
-use Rattle.std.specs.Prelude.{Bool, List, length, map, slice_index_or, true, ℕ, ◌+◌, ◌<◌, ◌≡◌, ◌||◌}
-use Rattle.std.specs.Prelude.{◌≤◌}
-use Rattle.argus_actions.specs.Tree.{Tree}
-use Rattle.argus_actions.specs.declared.action_id.ActionId.{ActionId}
+use Rattle.std.specs.Prelude.{Bool, List, length, map, slice_index_or, true, ℕ, ◌+◌, ◌<◌, ◌≡◌, ◌||◌, ◌≤◌}
+use Rattle.argus_actions.specs.{Tree.Tree, declared.action_id.ActionId.ActionId}
 use Rattle.argus_contents.specs.declared.limits.TheConstants.{MAX_OBJECTS}
 use Rattle.argus_entries.specs.Entry.{PlainEntry}
-use Rattle.argus_core.specs.Moving.{is_listed}
-use Rattle.argus_core.specs.declared.engine.atomic_object.AtomicObject.{AtomicObject}
-use Rattle.argus_journal.specs.Entries.{entries}
-use Rattle.argus_journal.specs.Events.{history}
-use Rattle.argus_journal.specs.Legal.{Legal}
-use Rattle.argus_journal.specs.Objects.{shapes}
+use Rattle.argus_core.specs.{Moving.is_listed, declared.engine.atomic_object.AtomicObject.AtomicObject}
+use Rattle.argus_journal.specs.{Entries.entries, Events.history, Legal.Legal, Objects.shapes}
 use Rattle.argus_journal.specs.Opening.{KeepsNumbers, Opening, is_sound}
-use Rattle.argus_refinement.specs.CellRefinement.{IsCell}
-use Rattle.argus_refinement.specs.TreeRefinement.{IsTree}
-use Rattle.argus_model.specs.History.{History}
-use Rattle.argus_model.specs.Holders.{readers, writers}
-use Rattle.argus_model.specs.Numbers.{contains}
-use Rattle.argus_objects.specs.Holdings.{objects_held_by}
-use Rattle.argus_objects.specs.declared.holdings.Holdings.{Holdings}
+use Rattle.argus_refinement.specs.{CellRefinement.IsCell, TreeRefinement.IsTree}
+use Rattle.argus_model.specs.{History.History, Holders.{readers, writers}, Numbers.contains}
+use Rattle.argus_objects.specs.{Holdings.objects_held_by, declared.holdings.Holdings.Holdings}
 
 -- the action holds the object, for reading or for writing; both as the history numbers them
 abbrev pub holds : History PlainEntry → ℕ → ℕ → Bool

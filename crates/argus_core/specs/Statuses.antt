@@ -2,13 +2,9 @@
 use Rattle.std.specs.Prelude.{None, Option, Some, false, if◌then◌else◌, nat_lt, ℕ, ◌<◌, ◌≡◌, ◌≤◌}
 use Rattle.argus_actions.specs.declared.status.Status.{Status}
 use Rattle.argus_actions.specs.declared.status.Status.TheVariants.{Aborted, Committed, Folded, Live}
-use Rattle.argus_journal.specs.Events.{history}
-use Rattle.argus_journal.specs.JournalFacts.{is_live_in}
-use Rattle.argus_journal.specs.JournalView.{JournalView}
-use Rattle.argus_journal.specs.Numbering.{in_history}
-use Rattle.argus_model.specs.History.{next_action}
+use Rattle.argus_journal.specs.{Events.history, JournalFacts.is_live_in, JournalView.JournalView, Numbering.in_history}
+use Rattle.argus_model.specs.{History.next_action, Status.{IsAborted, IsCommitted, IsFolded, IsLive, status}}
 use Rattle.argus_model.specs.Status as model
-use Rattle.argus_model.specs.Status.{IsAborted, IsCommitted, IsFolded, IsLive, status}
 
 -- an action's status, in the program's words
 abbrev pub program_status : model.Status → Status

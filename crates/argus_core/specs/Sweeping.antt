@@ -1,12 +1,8 @@
 -- What happens to objects and lists when actions are ended.
-use Rattle.std.specs.Prelude.{Bool, List, [], if◌then◌else◌, length, slice_index_or, true, ℕ}
-use Rattle.std.specs.Prelude.{◌<◌, ◌||◌, ◌≡◌}
-use Rattle.argus_actions.specs.Tree.{Tree}
-use Rattle.argus_actions.specs.declared.action_id.ActionId.{ActionId}
-use Rattle.argus_core.specs.Moving.{IsEnded, is_listed}
-use Rattle.argus_core.specs.declared.engine.atomic_object.AtomicObject.{AtomicObject}
-use Rattle.argus_objects.specs.Holdings.{objects_held_by}
-use Rattle.argus_objects.specs.CellChanges.{has_version, is_reader}
+use Rattle.std.specs.Prelude.{Bool, List, [], if◌then◌else◌, length, slice_index_or, true, ℕ, ◌<◌, ◌||◌, ◌≡◌}
+use Rattle.argus_actions.specs.{Tree.Tree, declared.action_id.ActionId.ActionId}
+use Rattle.argus_core.specs.{Moving.{IsEnded, is_listed}, declared.engine.atomic_object.AtomicObject.AtomicObject}
+use Rattle.argus_objects.specs.{Holdings.objects_held_by, CellChanges.{has_version, is_reader}}
 use Rattle.argus_objects.specs.declared.holdings.Holdings.{Holdings}
 
 -- each number on a list has an object

@@ -2,8 +2,7 @@
 
 ghost use Rattle.std.specs.Prelude.{◌≡◌, ◌<◌, IfOk, OnErr, OnOk};
 ghost use Rattle.argus_contents.specs.Change.{plain_change};
-ghost use Rattle.argus_entries.specs.Call.{alter, ask};
-ghost use Rattle.argus_entries.specs.Reply.{plain_reply};
+ghost use Rattle.argus_entries.specs.{Call.{alter, ask}, Reply.plain_reply};
 ghost use Rattle.argus_journal.specs.JournalView.{after, reply_to};
 
 use crate::engine::accessing::ask;

@@ -1,8 +1,7 @@
 //! How actions begin.
 
 ghost use Rattle.std.specs.Prelude.{◌≡◌, IfOk, OnErr, OnOk};
-ghost use Rattle.argus_entries.specs.Call.{begin_nested, begin_sub, begin_top};
-ghost use Rattle.argus_entries.specs.Reply.{plain_reply};
+ghost use Rattle.argus_entries.specs.{Call.{begin_nested, begin_sub, begin_top}, Reply.plain_reply};
 ghost use Rattle.argus_journal.specs.JournalView.{after, reply_to};
 
 use crate::engine::beginning::{begin_nested, begin_sub, begin_top};

@@ -1,18 +1,14 @@
 //! How the journal's past is folded into its opening.
 
 ghost use Rattle.std.specs.Prelude.{IfOk, IsFalse, IsTrue, OnErr, OnOk, Some, false, map, true, ℕ};
-ghost use Rattle.std.specs.Prelude.{◌<◌, ◌↔◌, ◌≡◌, ◌≤◌};
-ghost use Rattle.std.specs.Result.{result_err};
-ghost use Rattle.argus_actions.specs.Rows.{is_live_at};
-ghost use Rattle.argus_actions.specs.Tree.{next};
+ghost use Rattle.std.specs.{Prelude.{◌<◌, ◌↔◌, ◌≡◌, ◌≤◌}, Result.result_err};
+ghost use Rattle.argus_actions.specs.{Rows.is_live_at, Tree.next};
 ghost use Rattle.argus_core.specs.Checkpoint.{after_checkpoint, is_quiet, opened_objects};
 ghost use Rattle.argus_core.specs.GuardianState.{StateInvariant, journal_view_of};
 ghost use Rattle.argus_core.specs.declared.checkpoint_error.CheckpointError.TheVariants.{Busy};
 ghost use Rattle.argus_core.specs.declared.checkpoint_error.CheckpointError.TheVariants.{Full};
-ghost use Rattle.argus_journal.specs.Folding.{next_entry_number};
-ghost use Rattle.argus_journal.specs.Objects.{shapes};
-ghost use Rattle.argus_journal.specs.Opening.{plain_object};
-ghost use Rattle.argus_journal.specs.JournalFacts.{base_of};
+ghost use Rattle.argus_journal.specs.{Folding.next_entry_number, Objects.shapes};
+ghost use Rattle.argus_journal.specs.{Opening.plain_object, JournalFacts.base_of};
 ghost use Rattle.argus_journal.specs.declared.limits.TheConstants.{MAX_FIRST_ENTRY};
 ghost use Rattle.argus_journal.specs.JournalView.{next_entry};
 

@@ -1,11 +1,9 @@
 //! What an action would leave for good, before it commits.
 
-ghost use Rattle.std.specs.Option.{option_map, unwrap_or};
+ghost use Rattle.std.specs.{Option.{option_map, unwrap_or}, Prelude.{◌<◌, ◌∷◌, ◌≡◌}};
 ghost use Rattle.std.specs.Prelude.{All, IfOk, None, OnOk, [], if◌then◌else◌, length, map, ◌++◌};
-ghost use Rattle.std.specs.Prelude.{◌<◌, ◌∷◌, ◌≡◌};
-ghost use Rattle.argus_contents.specs.Content.{plain_option};
+ghost use Rattle.argus_contents.specs.{Content.plain_option, Effect.plain_effect};
 ghost use Rattle.argus_core.specs.Effect.{effect_if_live, version_in, written_in};
-ghost use Rattle.argus_contents.specs.Effect.{plain_effect};
 ghost use Rattle.argus_core.specs.Moving.{AreThere};
 ghost use Rattle.argus_core.specs.GuardianState.{StateInvariant, journal_view_of};
 ghost use Rattle.argus_core.specs.declared.engine.atomic_object.AtomicObject.{AtomicObject};

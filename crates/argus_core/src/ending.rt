@@ -1,8 +1,7 @@
 //! How actions end.
 
 ghost use Rattle.std.specs.Prelude.{◌≡◌, IfOk, OnErr, OnOk};
-ghost use Rattle.argus_entries.specs.Call.{abort, abort_others, commit};
-ghost use Rattle.argus_entries.specs.Reply.{plain_reply};
+ghost use Rattle.argus_entries.specs.{Call.{abort, abort_others, commit}, Reply.plain_reply};
 ghost use Rattle.argus_journal.specs.JournalView.{after, reply_to};
 
 use crate::engine::ending::{abort, abort_others, commit};

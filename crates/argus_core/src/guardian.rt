@@ -1,8 +1,7 @@
 //! `Guardian`: the objects of one guardian, the actions on them, and the journal of its calls.
 
 ghost use Rattle.std.specs.Prelude.{◌≡◌, []};
-ghost use Rattle.argus_journal.specs.LegalJournal.{entries_in, opening_in};
-ghost use Rattle.argus_journal.specs.Opening.{empty};
+ghost use Rattle.argus_journal.specs.{LegalJournal.{entries_in, opening_in}, Opening.empty};
 
 use crate::engine::guardian_state::GuardianState;
 use argus_actions::ActionTree;

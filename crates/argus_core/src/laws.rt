@@ -3,16 +3,12 @@
 
 ghost use Rattle.std.specs.Prelude.{◌≡◌, ◌<◌, ◌∷◌, ◌++◌, ◌||◌, List, reverse, true, ℕ};
 ghost use Rattle.argus_entries.specs.Entry.{PlainEntry};
-ghost use Rattle.argus_journal.specs.Entries.{entries};
-ghost use Rattle.argus_journal.specs.Legal.{Legal};
-ghost use Rattle.argus_journal.specs.Objects.{declared, shape_of};
+ghost use Rattle.argus_journal.specs.{Entries.entries, Legal.Legal, Objects.{declared, shape_of}};
 ghost use Rattle.argus_journal.specs.Opening.{KeepsNumbers, content_in, fits_shape, is_sound};
-ghost use Rattle.argus_journal.specs.Serial.{AnswersAt};
+ghost use Rattle.argus_journal.specs.{Serial.AnswersAt, JournalFacts.writers_of};
 ghost use Rattle.argus_journal.specs.JournalFacts.{base_of, is_ancestor_in, is_live_in, readers_of};
 ghost use Rattle.argus_journal.specs.JournalFacts.{visible_to, serial_run, serial_run_to};
-ghost use Rattle.argus_journal.specs.JournalFacts.{writers_of};
-ghost use Rattle.argus_model.specs.Numbers.{contains};
-ghost use Rattle.argus_model.specs.Run.{AnswersAgain, run};
+ghost use Rattle.argus_model.specs.{Numbers.contains, Run.{AnswersAgain, run}};
 ghost use Rattle.argus_model.specs.Work.{Access, content_after};
 
 use crate::guardian::Guardian;

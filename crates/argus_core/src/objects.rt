@@ -3,16 +3,13 @@
 
 ghost use Rattle.std.specs.Prelude.{◌≡◌, ◌↔◌, true, IsTrue};
 ghost use Rattle.argus_contents.specs.Answer.{flag};
-ghost use Rattle.argus_entries.specs.Call.{plain_call, test_read, test_write};
-ghost use Rattle.argus_entries.specs.Reply.{answered};
-ghost use Rattle.argus_journal.specs.JournalView.{reply_to};
-ghost use Rattle.argus_core.specs.Objects.{action_numbers_found, plain_content_found};
-ghost use Rattle.argus_core.specs.Objects.{refusal_of_access};
-ghost use Rattle.argus_core.specs.Objects.{plain_shape_found};
-ghost use Rattle.argus_core.specs.Objects.{version_pairs_found, where_declared};
-ghost use Rattle.argus_journal.specs.Objects.{declared, shape_of};
+ghost use Rattle.argus_entries.specs.{Call.{plain_call, test_read, test_write}, Reply.answered};
+ghost use Rattle.argus_journal.specs.{JournalView.reply_to, Objects.{declared, shape_of}};
 ghost use Rattle.argus_journal.specs.Opening.{fits_shape};
 ghost use Rattle.argus_journal.specs.JournalFacts.{base_of, readers_of, versions_of};
+ghost use Rattle.argus_core.specs.Objects.{action_numbers_found, plain_content_found};
+ghost use Rattle.argus_core.specs.Objects.{refusal_of_access, plain_shape_found};
+ghost use Rattle.argus_core.specs.Objects.{version_pairs_found, where_declared};
 
 use crate::engine::answering::{is_readable, is_writable};
 use crate::engine::refusing::{alter_refusal, ask_refusal, test_refusal};

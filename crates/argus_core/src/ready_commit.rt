@@ -1,10 +1,7 @@
 //! `ReadyCommit`: a guardian with a prepared commit.
 
-ghost use Rattle.std.specs.Option.{option_map, option_to_list};
-ghost use Rattle.std.specs.Prelude.{IfErr, IfOk, ◌≡◌};
-ghost use Rattle.argus_entries.specs.Call.{commit};
-ghost use Rattle.argus_entries.specs.Entry.{plain_entry};
-ghost use Rattle.argus_entries.specs.Reply.{plain_reply};
+ghost use Rattle.std.specs.{Option.{option_map, option_to_list}, Prelude.{IfErr, IfOk, ◌≡◌}};
+ghost use Rattle.argus_entries.specs.{Call.commit, Entry.plain_entry, Reply.plain_reply};
 ghost use Rattle.argus_core.specs.ReadyCommit.{added_by_call};
 ghost use Rattle.argus_contents.specs.Effect.{plain_effect};
 ghost use Rattle.argus_journal.specs.JournalView.{after, entry_of, next_entry, reply_to};

@@ -1,9 +1,7 @@
 //! What became of actions. These calls make no entry in the journal, and take no memory.
 
-ghost use Rattle.std.specs.Prelude.{IfSome, false, true, ℕ, ◌<◌, ◌≡◌, ◌≤◌};
-ghost use Rattle.std.specs.Option.{IfNone};
-ghost use Rattle.argus_actions.specs.Rows.{is_live_at};
-ghost use Rattle.argus_actions.specs.Tree.{next};
+ghost use Rattle.std.specs.{Prelude.{IfSome, false, true, ℕ, ◌<◌, ◌≡◌, ◌≤◌}, Option.IfNone};
+ghost use Rattle.argus_actions.specs.{Rows.is_live_at, Tree.next};
 ghost use Rattle.argus_core.specs.Statuses.{NoneLiveBetween, NoneLiveFrom, status_in};
 ghost use Rattle.argus_journal.specs.JournalFacts.{is_live_in};
 

@@ -1,8 +1,7 @@
 //! How actions test locks.
 
 ghost use Rattle.std.specs.Prelude.{◌≡◌, ◌<◌, IfOk, OnErr, OnOk};
-ghost use Rattle.argus_entries.specs.Call.{test_read, test_write};
-ghost use Rattle.argus_entries.specs.Reply.{plain_reply};
+ghost use Rattle.argus_entries.specs.{Call.{test_read, test_write}, Reply.plain_reply};
 ghost use Rattle.argus_journal.specs.JournalView.{after, reply_to};
 
 use crate::engine::testing::test_read;

@@ -1,10 +1,8 @@
 -- Several calls: what one more call adds.
-use Rattle.std.proofs.Common.{List, [], ap, append_assoc, append-nil, arith, drop, length, refl, subst, suc, sym, ◌++◌, ◌∙◌, ◌∷◌, ◌≡◌, ◌≤◌}
-use Rattle.std.proofs.Math.Bool.{and-true, and_assoc}
+use Rattle.std.proofs.Common.{List, [], ap, append_assoc, append-nil, arith, drop, length, refl, subst, suc, sym, ◌++◌}
+use Rattle.std.proofs.{Common.{◌∙◌, ◌∷◌, ◌≡◌, ◌≤◌}, Math.Bool.{and-true, and_assoc}}
 use Rattle.std.specs.Prelude.{Bool, ◌&&◌}
-use Rattle.argus_journal.specs.Call.{PlainCall}
-use Rattle.argus_journal.specs.JournalView.{JournalView, after, reply_to}
-use Rattle.argus_journal.specs.Reply.{PlainReply}
+use Rattle.argus_journal.specs.{Call.PlainCall, JournalView.{JournalView, after, reply_to}, Reply.PlainReply}
 use Rattle.argus_embed.specs.declared.listed_call.ListedCall.{ListedCall}
 use Rattle.argus_embed.specs.CallEach.{SayEach, SaysAfter, after_calls, are_met, is_met, replies_to}
 

@@ -2,8 +2,7 @@
 use Rattle.std.proofs.Common.{ap, length, take, ℕ, ◌+◌, ◌-◌, ◌∙◌, ◌≡◌}
 use Rattle.argus_guardian.specs.JournalText.{journal_text}
 use Rattle.argus_journal.specs.JournalView.{JournalView}
-use Rattle.argus_embed.specs.Embedded.{EmbeddedState}
-use Rattle.argus_embed.specs.Resuming.{IsDropped}
+use Rattle.argus_embed.specs.{Embedded.EmbeddedState, Resuming.IsDropped}
 
 -- said of the guardian and of the journal that was taken, it is so of the states
 pub dropped_is : (old new : EmbeddedState) (dropped : ℕ) (guardian taken : JournalView) → new.journal ≡ guardian

@@ -1,9 +1,7 @@
 -- A test that would return yes, as a truth value.
-use Rattle.std.proofs.Common.{Bool, IsTrue, ap, false, refl, sym, true, ◌↔◌, ◌≡◌}
-use Rattle.std.proofs.lemmas.Bool.{false≢true}
+use Rattle.std.proofs.{Common.{Bool, IsTrue, ap, false, refl, sym, true, ◌↔◌, ◌≡◌}, lemmas.Bool.false≢true}
 use Rattle.argus_values.specs.Answer.{body, done, flag, num, signal, val}
-use Rattle.argus_journal.specs.Reply.{PlainReply, answered, begun, object, refused}
-use Rattle.argus_journal.specs.Events.{says_yes}
+use Rattle.argus_journal.specs.{Reply.{PlainReply, answered, begun, object, refused}, Events.says_yes}
 
 -- what is no yes isn't
 not_yes : (reply : PlainReply) → (reply ≡ answered (flag true) → IsTrue false) → false ≡ says_yes reply

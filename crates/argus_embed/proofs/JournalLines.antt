@@ -1,18 +1,12 @@
 -- Lines of the journal, one after another.
-use Rattle.std.proofs.Common.{List, String, [], ap, append-nil, arith, cond, drop, inl, inr, length, map, refl, rules, string_bytes, subst, sym, take, ℕ, ◌++◌, ◌+◌}
-use Rattle.std.proofs.Common.{◌-◌, ◌<◌, ◌∙◌, ◌∷◌, ◌≡◌, ◌≢◌, ◌≤◌, ◌⊎◌}
-use Rattle.std.specs.List.{flat_map, range_with_len}
-use Rattle.std.specs.String.{string_len}
-use Rattle.std.specs.declared.alloc.Global.{Global}
-use Rattle.std.proofs.lemmas.Grind.{flat_map-append}
-use Rattle.std.proofs.lemmas.List.Folds.{flat_map-map}
-use Rattle.std.proofs.lemmas.List.FromFn.{map-range_with_len_more}
+use Rattle.std.proofs.Common.{List, String, [], ap, append-nil, arith, cond, drop, inl, inr, length, map, refl, rules}
+use Rattle.std.proofs.Common.{string_bytes, subst, sym, take, ℕ, ◌++◌, ◌+◌, ◌-◌, ◌<◌, ◌∙◌, ◌∷◌, ◌≡◌, ◌≢◌, ◌≤◌, ◌⊎◌}
+use Rattle.std.proofs.{lemmas.Grind.flat_map-append, lemmas.List.Folds.flat_map-map, lemmas.Bool.ne_eqb}
+use Rattle.std.proofs.{lemmas.List.FromFn.map-range_with_len_more, Math.Seq.{take-append_seam, take-length}}
+use Rattle.std.specs.{List.{flat_map, range_with_len}, String.string_len, declared.alloc.Global.Global}
 use Rattle.argus_values.specs.memory_declared.limited.Limited.{Limited}
 use Rattle.argus_journal.specs.JournalView.{JournalView}
-use Rattle.std.proofs.Math.Seq.{take-append_seam, take-length}
-use Rattle.std.proofs.lemmas.Bool.{ne_eqb}
-use Rattle.argus_embed.specs.JournalLines.{AreLines, IsFitting, line_at, lines_from, next_of}
-use Rattle.argus_embed.specs.Kept.{IsPut}
+use Rattle.argus_embed.specs.{JournalLines.{AreLines, IsFitting, line_at, lines_from, next_of}, Kept.IsPut}
 use Rattle.argus_embed.specs.declared.lines_writing.Fitting.{Fitting}
 
 -- one line more

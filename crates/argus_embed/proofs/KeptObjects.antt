@@ -1,24 +1,15 @@
 -- The objects of a fold, one after another, and that a guardian may begin with copies of them.
-use Rattle.std.proofs.Common.{List, None, Option, Some, [], ap, arith, cond, length, map, refl, subst, suc, sym, take, true, zero}
-use Rattle.std.proofs.Common.{ℕ, ◌++◌, ◌+◌, ◌<◌, ◌∙◌, ◌∷◌, ◌≡◌, ◌≤◌}
+use Rattle.std.proofs.Common.{List, None, Option, Some, [], ap, arith, cond, length, map, refl, subst, suc, sym, take}
+use Rattle.std.proofs.{Common.{true, zero, ℕ, ◌++◌, ◌+◌, ◌<◌, ◌∙◌, ◌∷◌, ◌≡◌, ◌≤◌}, lemmas.Bool.lt-ltb}
+use Rattle.std.proofs.{lemmas.List.{length-map, take_all}, lemmas.Option.slice_get_within}
 use Rattle.std.specs.Prelude.{slice_get}
-use Rattle.std.proofs.lemmas.Bool.{lt-ltb}
-use Rattle.std.proofs.lemmas.List.{length-map, take_all}
-use Rattle.std.proofs.lemmas.Option.{slice_get_within}
-use Rattle.argus_values.specs.Content.{PlainContent}
-use Rattle.argus_values.specs.Shape.{PlainShape}
-use Rattle.argus_values.specs.contents_declared.content.Content.{Content}
-use Rattle.argus_values.specs.contents_declared.limits.TheConstants.{MAX_OBJECTS}
-use Rattle.argus_values.specs.contents_declared.shape.Shape.{Shape}
+use Rattle.argus_values.specs.{Content.PlainContent, Shape.PlainShape, contents_declared.content.Content.Content}
+use Rattle.argus_values.specs.{contents_declared.limits.TheConstants.MAX_OBJECTS, contents_declared.shape.Shape.Shape}
 use Rattle.argus_guardian.specs.Objects.{where_declared}
-use Rattle.argus_journal.specs.Folding.{fold, next_entry_number, with_contents}
-use Rattle.argus_journal.specs.JournalFacts.{base_of}
-use Rattle.argus_journal.specs.JournalView.{JournalView, next_entry}
-use Rattle.argus_journal.specs.Legal.{Legal}
-use Rattle.argus_journal.specs.Objects.{declared, shape_of, shapes}
+use Rattle.argus_journal.specs.{Folding.{fold, next_entry_number, with_contents}, JournalFacts.base_of, Legal.Legal}
+use Rattle.argus_journal.specs.{JournalView.{JournalView, next_entry}, Objects.{declared, shape_of, shapes}}
 use Rattle.argus_journal.specs.Opening.{KeepsNumbers, Opening, is_sound, opening_at, opening_with, plain_object}
-use Rattle.argus_journal.specs.declared.limits.TheConstants.{MAX_FIRST_ENTRY}
-use Rattle.argus_journal.specs.Entry.{PlainEntry}
+use Rattle.argus_journal.specs.{declared.limits.TheConstants.MAX_FIRST_ENTRY, Entry.PlainEntry}
 use Rattle.argus_journal.proofs.Folded.{fold_numbers, fold_sound}
 
 -- an object of these shapes, by its number: its shape, and the content that the function gives it

@@ -1,15 +1,11 @@
 -- What a call of a list stands for.
 use Rattle.std.proofs.Common.{List, None, Some, ap, get_or, inr, length, map, suc, sym, ℕ, ◌<◌, ◌∙◌, ◌≡◌, ◌≤◌}
 use Rattle.std.proofs.lemmas.Option.{slice_get-get_or, slice_get-map, slice_get_past}
-use Rattle.std.specs.Option.{option_map}
-use Rattle.std.specs.Prelude.{Option}
-use Rattle.argus_journal.specs.Call.{PlainCall}
-use Rattle.argus_journal.specs.Reply.{PlainReply, plain_reply}
-use Rattle.argus_journal.specs.declared.Reply.{Reply}
-use Rattle.argus_embed.specs.CallEach.{IsUnreadWith, SaysWith, action_begun, action_by, request_of}
-use Rattle.argus_embed.specs.Requests.{IsRead}
-use Rattle.argus_embed.specs.declared.embed_error.EmbedError.TheVariants as error
+use Rattle.std.specs.{Option.option_map, Prelude.Option}
+use Rattle.argus_journal.specs.{Call.PlainCall, Reply.{PlainReply, plain_reply}, declared.Reply.Reply}
+use Rattle.argus_embed.specs.{CallEach.{IsUnreadWith, SaysWith, action_begun, action_by, request_of}, Requests.IsRead}
 use Rattle.argus_embed.specs.declared.listed_call.ListedCall.{ListedCall}
+use Rattle.argus_embed.specs.declared.embed_error.EmbedError.TheVariants as error
 
 -- out of memory may come in place of each call that it stands for
 pub unread_for_memory : (found : Option ℕ) (each : ListedCall) (call : PlainCall) → SaysWith found each call

@@ -4,29 +4,20 @@ use Rattle.std.proofs.Common.{refl, subst, sym, take, true, ℕ, ◌++◌, ◌+�
 use Rattle.std.proofs.lemmas.List.{take-append-drop}
 use Rattle.argus_values.specs.contents_declared.limits.TheConstants.{MAX_VALUE_DEPTH}
 use Rattle.argus_guardian.specs.AbortingLive.{IsPartlyAborted, after_aborts, live_topactions, live_without_parent}
-use Rattle.argus_guardian.specs.Calls.{IsReadableCall}
-use Rattle.argus_guardian.specs.JournalText.{journal_text}
+use Rattle.argus_guardian.specs.{Calls.IsReadableCall, JournalText.journal_text, SoundFront.sound_front}
 use Rattle.argus_guardian.specs.ResumeLaws.{GuardiansAreWhole, IsListable, ListingsAreTakenBack, ListingsHaveNoFault}
-use Rattle.argus_guardian.specs.SoundFront.{sound_front}
-use Rattle.argus_guardian.specs.Taking.{IsFaulty, IsTorn}
-use Rattle.argus_guardian.specs.resume_declared.line_fault.LineFault.{LineFault}
+use Rattle.argus_guardian.specs.{Taking.{IsFaulty, IsTorn}, resume_declared.line_fault.LineFault.LineFault}
 use Rattle.argus_guardian.specs.resume_declared.line_fault.LineFault.TheVariants as fault
 use Rattle.argus_guardian.specs.resume_declared.taken_end.TakenEnd.TheVariants as taken_end
 use Rattle.argus_journal.proofs.Within.{actions_within}
-use Rattle.argus_journal.specs.Call.{PlainCall, abort}
-use Rattle.argus_journal.specs.Events.{history}
-use Rattle.argus_journal.specs.JournalView.{JournalView, after}
-use Rattle.argus_journal.specs.Legal.{Legal}
-use Rattle.argus_journal.specs.Numbering.{all_in_program}
-use Rattle.argus_journal.specs.Opening.{KeepsNumbers}
+use Rattle.argus_journal.specs.{Call.{PlainCall, abort}, Events.history, JournalView.{JournalView, after}, Legal.Legal}
+use Rattle.argus_journal.specs.{Numbering.all_in_program, Opening.KeepsNumbers}
 use Rattle.argus_model.specs.Event.{Aborted, Accessed, Began, Committed}
 use Rattle.argus_model.specs.History.{History, Opened, begun_actions, next_action, ◌▹◌}
-use Rattle.argus_embed.specs.Embedded.{EmbeddedState}
-use Rattle.argus_embed.specs.Listed.{CanBeRead, IsNoFault, IsTakenBack, IsWhole}
-use Rattle.argus_embed.specs.Resuming.{IsEndOf, IsTextTaken}
-use Rattle.argus_embed.specs.declared.text_end.TextEnd.{TextEnd}
-use Rattle.argus_embed.specs.declared.text_end.TextEnd.TheVariants as text_end
+use Rattle.argus_embed.specs.{Embedded.EmbeddedState, Listed.{CanBeRead, IsNoFault, IsTakenBack, IsWhole}}
+use Rattle.argus_embed.specs.{Resuming.{IsEndOf, IsTextTaken}, declared.text_end.TextEnd.TextEnd}
 use Rattle.argus_embed.specs.declared.text_taken.TextTaken.{TextTaken}
+use Rattle.argus_embed.specs.declared.text_end.TextEnd.TheVariants as text_end
 
 -- EACH CALL CAN BE READ
 

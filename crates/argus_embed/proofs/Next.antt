@@ -1,12 +1,10 @@
 -- One more call of a list, made.
-use Rattle.std.proofs.Common.{List, [], ap, drop, drop-cons, get_or, length, subst, suc, sym, true, ℕ, ◌<◌, ◌++◌, ◌∙◌, ◌∷◌, ◌≡◌}
+use Rattle.std.proofs.Common.{List, [], ap, drop, drop-cons, get_or, length, subst, suc, sym, true, ℕ, ◌<◌, ◌++◌, ◌∙◌}
+use Rattle.std.proofs.Common.{◌∷◌, ◌≡◌}
 use Rattle.std.specs.Prelude.{Bool, ◌&&◌}
-use Rattle.argus_journal.specs.Call.{PlainCall}
-use Rattle.argus_journal.specs.JournalView.{JournalView, reply_to}
-use Rattle.argus_journal.specs.Reply.{PlainReply}
-use Rattle.argus_embed.specs.CallEach.{IsNext, SayEach, SaysAfter, after_calls, after_next, after_nexts, are_met, is_met}
-use Rattle.argus_embed.specs.CallEach.{replies_to}
-use Rattle.argus_embed.specs.Embedded.{EmbeddedState}
+use Rattle.argus_journal.specs.{Call.PlainCall, JournalView.{JournalView, reply_to}, Reply.PlainReply}
+use Rattle.argus_embed.specs.CallEach.{IsNext, SayEach, SaysAfter, after_calls, after_next, after_nexts, are_met}
+use Rattle.argus_embed.specs.{CallEach.{is_met, replies_to}, Embedded.EmbeddedState}
 use Rattle.argus_embed.specs.declared.listed_call.ListedCall.{ListedCall}
 use Rattle.argus_embed.proofs.CallEach.{calls_more, met_more, replies_count, replies_more, say_more}
 

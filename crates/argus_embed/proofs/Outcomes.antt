@@ -1,16 +1,11 @@
 -- The outcomes in a list, call by call.
-use Rattle.std.proofs.Common.{List, [], ap, arith, get_or, length, map, refl, subst, suc, sym, take, zero, ℕ, ◌+◌, ◌<◌, ◌∙◌, ◌≤◌, ◌∷◌, ◌≡◌}
+use Rattle.std.proofs.Common.{List, [], ap, arith, get_or, length, map, refl, subst, suc, sym, take, zero, ℕ, ◌+◌, ◌<◌}
+use Rattle.std.proofs.{Common.{◌∙◌, ◌≤◌, ◌∷◌, ◌≡◌}, lemmas.List.{get_or-map, length-map}, Math.ListN.set}
 use Rattle.std.specs.Prelude.{ℤ}
-use Rattle.std.proofs.lemmas.List.{get_or-map, length-map}
-use Rattle.std.proofs.Math.ListN.{set}
-use Rattle.argus_embed.specs.CallEach.{with_codes, with_error, with_outcomes}
-use Rattle.argus_embed.specs.Codes.{error_codes, outcome_codes}
-use Rattle.argus_embed.specs.Embedded.{outcome_of}
-use Rattle.argus_embed.specs.declared.embed_error.EmbedError.{EmbedError}
-use Rattle.argus_embed.specs.declared.listed_call.ListedCall.{ListedCall}
-use Rattle.argus_embed.specs.declared.outcome.Outcome.{Outcome}
-use Rattle.argus_journal.specs.Reply.{PlainReply, plain_reply}
-use Rattle.argus_journal.specs.declared.Reply.{Reply}
+use Rattle.argus_embed.specs.{CallEach.{with_codes, with_error, with_outcomes}, Codes.{error_codes, outcome_codes}}
+use Rattle.argus_embed.specs.{Embedded.outcome_of, declared.embed_error.EmbedError.EmbedError}
+use Rattle.argus_embed.specs.{declared.listed_call.ListedCall.ListedCall, declared.outcome.Outcome.Outcome}
+use Rattle.argus_journal.specs.{Reply.{PlainReply, plain_reply}, declared.Reply.Reply}
 
 pub failed_here : (listed : List ListedCall) (at : ℕ) (d : ListedCall) (e : EmbedError) (codes : ℕ × ℤ) (x : ListedCall)
     → at < length listed → x ≡ with_codes (get_or listed at d) codes → codes ≡ error_codes e

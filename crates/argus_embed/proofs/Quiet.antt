@@ -1,20 +1,12 @@
 -- Whether an action is live, as a host sees it: by the first live one.
 use Rattle.std.proofs.Common.{None, Option, Some, ap, arith, false, inl, inr, true, ℕ, ◌+◌, ◌-◌, ◌∙◌, ◌≡◌}
-use Rattle.std.specs.List.{list_any}
-use Rattle.std.specs.Option.{IfNone, IfSome, is_some}
-use Rattle.std.specs.Prelude.{not}
 use Rattle.std.proofs.lemmas.Bool.{both_ways, cases_Bool}
+use Rattle.std.specs.{List.list_any, Option.{IfNone, IfSome, is_some}, Prelude.not}
 use Rattle.argus_actions.specs.declared.action_id.ActionId.{ActionId}
-use Rattle.argus_guardian.specs.Checkpoint.{is_quiet}
-use Rattle.argus_guardian.specs.Statuses.{NoneLiveFrom}
-use Rattle.argus_journal.specs.Events.{history}
-use Rattle.argus_journal.specs.JournalFacts.{is_live_in}
-use Rattle.argus_journal.specs.JournalView.{JournalView}
-use Rattle.argus_model.specs.History.{begun_actions}
-use Rattle.argus_model.specs.Status.{is_live}
-use Rattle.argus_model.proofs.Live.{begun_listed, is_begun_parts}
-use Rattle.argus_model.proofs.Numbers.{any_found, any_from}
-use Rattle.argus_model.proofs.Siblings.{live_begun}
+use Rattle.argus_guardian.specs.{Checkpoint.is_quiet, Statuses.NoneLiveFrom}
+use Rattle.argus_journal.specs.{Events.history, JournalFacts.is_live_in, JournalView.JournalView}
+use Rattle.argus_model.specs.{History.begun_actions, Status.is_live}
+use Rattle.argus_model.proofs.{Live.{begun_listed, is_begun_parts}, Numbers.{any_found, any_from}, Siblings.live_begun}
 
 -- where one is live, the journal isn't quiet
 pub busy_where : (journal : JournalView) (a : ℕ) → is_live_in journal.opening journal.entries a ≡ true

@@ -1,14 +1,11 @@
 -- The end of a text whose lines were taken, as the host gets it.
 use Rattle.std.proofs.Common.{List, ap, subst, sym, ℕ, ◌∙◌, ◌≡◌}
 use Rattle.argus_journal.specs.JournalView.{JournalView, next_entry}
-use Rattle.argus_guardian.specs.Taking.{EndsTaking, IsFaulty}
-use Rattle.argus_guardian.specs.resume_declared.line_fault.LineFault.{LineFault}
-use Rattle.argus_guardian.specs.resume_declared.line_fault.LineFault.TheVariants as fault
+use Rattle.argus_guardian.specs.{Taking.{EndsTaking, IsFaulty}, resume_declared.line_fault.LineFault.LineFault}
 use Rattle.argus_guardian.specs.resume_declared.taken_end.TakenEnd.{TakenEnd}
+use Rattle.argus_guardian.specs.resume_declared.line_fault.LineFault.TheVariants as fault
 use Rattle.argus_guardian.specs.resume_declared.taken_end.TakenEnd.TheVariants as taken
-use Rattle.argus_embed.specs.Embedded.{EmbeddedState}
-use Rattle.argus_embed.specs.Resuming.{EndsText, IsEndOf}
-use Rattle.argus_embed.specs.declared.text_end.TextEnd.{TextEnd}
+use Rattle.argus_embed.specs.{Embedded.EmbeddedState, Resuming.{EndsText, IsEndOf}, declared.text_end.TextEnd.TextEnd}
 
 -- neither what was taken nor the guardian changes
 pub told_same : (end : TakenEnd) (old new : EmbeddedState) (told : TextEnd) → EndsText end old new told

@@ -1,24 +1,17 @@
 -- Several calls, one after another, up to the first whose outcome isn't as demanded.
-use Rattle.std.specs.Prelude.{Bool, List, None, Option, Some, [], drop, false, length, suc, true}
-use Rattle.std.specs.Prelude.{slice_get, zero, ℕ, ℤ, ◌&&◌, ◌++◌, ◌∷◌, ◌≡◌, ◌≢◌, ◌⊎◌}
-use Rattle.std.specs.Str.{IsUtf8}
-use Rattle.argus_journal.specs.Call.{PlainCall}
-use Rattle.argus_journal.specs.JournalView.{JournalView, after, reply_to}
+use Rattle.std.specs.Prelude.{Bool, List, None, Option, Some, [], drop, false, length, suc, true, slice_get, zero, ℕ, ℤ}
+use Rattle.std.specs.{Prelude.{◌&&◌, ◌++◌, ◌∷◌, ◌≡◌, ◌≢◌, ◌⊎◌}, Str.IsUtf8}
+use Rattle.argus_journal.specs.{Call.PlainCall, JournalView.{JournalView, after, reply_to}}
 use Rattle.argus_journal.specs.Reply.{PlainReply, answered, begun, object, refused}
-use Rattle.argus_embed.specs.Codes.{error_codes, outcome_codes}
-use Rattle.argus_embed.specs.Embedded.{EmbeddedState, outcome_of, reply_lines}
-use Rattle.argus_embed.specs.Requests.{IsRead, IsUnread, Says}
-use Rattle.argus_embed.specs.declared.calls_made.CallsMade.{CallsMade}
-use Rattle.argus_embed.specs.declared.demand.Demand.{Demand}
+use Rattle.argus_embed.specs.{Codes.{error_codes, outcome_codes}, Embedded.{EmbeddedState, outcome_of, reply_lines}}
+use Rattle.argus_embed.specs.{Requests.{IsRead, IsUnread, Says}, declared.calls_made.CallsMade.CallsMade}
+use Rattle.argus_embed.specs.{declared.demand.Demand.Demand, declared.embed_error.EmbedError.EmbedError}
 use Rattle.argus_embed.specs.declared.demand.Demand.TheVariants.{NoRefusal, NoSignal, Nothing}
-use Rattle.argus_embed.specs.declared.embed_error.EmbedError.{EmbedError}
-use Rattle.argus_embed.specs.declared.embed_error.EmbedError.TheVariants as error
-use Rattle.argus_embed.specs.declared.list_end.ListEnd.{ListEnd}
+use Rattle.argus_embed.specs.{declared.list_end.ListEnd.ListEnd, declared.listed_call.ListedCall.ListedCall}
 use Rattle.argus_embed.specs.declared.list_end.ListEnd.TheVariants.{Failed, Unmet, Whole}
-use Rattle.argus_embed.specs.declared.listed_call.ListedCall.{ListedCall}
-use Rattle.argus_embed.specs.declared.outcome.Outcome.{Outcome}
+use Rattle.argus_embed.specs.{declared.outcome.Outcome.Outcome, declared.request.Request.Request}
+use Rattle.argus_embed.specs.declared.embed_error.EmbedError.TheVariants as error
 use Rattle.argus_embed.specs.declared.outcome.Outcome.TheVariants as outcome
-use Rattle.argus_embed.specs.declared.request.Request.{Request}
 
 -- what a number demands
 abbrev pub demand_of : ℕ → Option Demand

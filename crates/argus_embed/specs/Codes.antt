@@ -4,20 +4,16 @@ use Rattle.std.specs.Prelude.{Bool, false, if◌then◌else◌, nat_lt, pos, tru
 use Rattle.argus_actions.specs.declared.status.Status.{Status}
 use Rattle.argus_actions.specs.declared.status.Status.TheVariants.{Aborted, Committed, Folded, Live}
 use Rattle.argus_values.specs.contents_declared.signal.Signal.{Signal}
-use Rattle.argus_values.specs.contents_declared.signal.Signal.TheVariants.{Absent, Bounds, Exists}
-use Rattle.argus_values.specs.contents_declared.signal.Signal.TheVariants.{Limits, NegativeSize}
+use Rattle.argus_values.specs.contents_declared.signal.Signal.TheVariants.{Absent, Bounds, Exists, Limits, NegativeSize}
 use Rattle.argus_values.specs.contents_declared.signal.Signal.TheVariants.{WrongTag}
 use Rattle.argus_journal.specs.entries_declared.refusal.Refusal.{Refusal}
-use Rattle.argus_journal.specs.entries_declared.refusal.Refusal.TheVariants.{Conflict, IllTyped}
-use Rattle.argus_journal.specs.entries_declared.refusal.Refusal.TheVariants.{NoAction, NoObject}
-use Rattle.argus_journal.specs.entries_declared.refusal.Refusal.TheVariants.{NoSiblings, Over}
-use Rattle.argus_journal.specs.entries_declared.refusal.Refusal.TheVariants.{Suspended, TooDeep}
+use Rattle.argus_journal.specs.entries_declared.refusal.Refusal.TheVariants.{Conflict, IllTyped, NoAction, NoObject}
+use Rattle.argus_journal.specs.entries_declared.refusal.Refusal.TheVariants.{NoSiblings, Over, Suspended, TooDeep}
 use Rattle.argus_journal.specs.entries_declared.refusal.Refusal.TheVariants.{TooMany}
-use Rattle.argus_embed.specs.declared.embed_error.EmbedError.{EmbedError}
-use Rattle.argus_embed.specs.declared.embed_error.EmbedError.TheVariants as error
-use Rattle.argus_embed.specs.declared.outcome.Outcome.{Outcome}
-use Rattle.argus_embed.specs.declared.outcome.Outcome.TheVariants as outcome
+use Rattle.argus_embed.specs.{declared.embed_error.EmbedError.EmbedError, declared.outcome.Outcome.Outcome}
 use Rattle.argus_embed.specs.declared.text_end.TextEnd.{TextEnd}
+use Rattle.argus_embed.specs.declared.embed_error.EmbedError.TheVariants as error
+use Rattle.argus_embed.specs.declared.outcome.Outcome.TheVariants as outcome
 use Rattle.argus_embed.specs.declared.text_end.TextEnd.TheVariants as text_end
 
 -- a signal's number

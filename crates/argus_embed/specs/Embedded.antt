@@ -1,21 +1,14 @@
 -- What contracts see of an embedded guardian, and what it is after a call and a question.
-use Rattle.std.specs.Coded.{Coded, code_by, coded_list, coded_option, coded_ℕ, coded×}
-use Rattle.std.specs.List.{flat_map}
+use Rattle.std.specs.{Coded.{Coded, code_by, coded_list, coded_option, coded_ℕ, coded×}, List.flat_map}
 use Rattle.std.specs.Prelude.{List, None, Option, Some, [], false, refl, true, ℕ, ◌++◌, ◌<◌, ◌∷◌, ◌≡◌, ◌≢◌}
-use Rattle.argus_values.specs.Answer.{PlainAnswer, body, done, flag, num, signal, val}
-use Rattle.argus_values.specs.Value.{PlainValue}
+use Rattle.argus_values.specs.{Answer.{PlainAnswer, body, done, flag, num, signal, val}, Value.PlainValue}
+use Rattle.argus_values.specs.{ContentSpelling.content_spelling, Spelling.spelling}
 use Rattle.argus_values.specs.Value as value
-use Rattle.argus_journal.specs.Call.{PlainCall}
-use Rattle.argus_journal.specs.Reply.{PlainReply, answered, begun, object, refused}
-use Rattle.argus_guardian.specs.AbortingLive.{IsPartlyAborted, after_aborts, live_topactions}
+use Rattle.argus_journal.specs.{Call.PlainCall, Reply.{PlainReply, answered, begun, object, refused}}
+use Rattle.argus_journal.specs.{Folding.{fold, next_entry_number}, declared.limits.TheConstants.MAX_FIRST_ENTRY}
+use Rattle.argus_journal.specs.{Opening.opening_at, JournalView.{JournalView, after, journal_view_coded, reply_to}}
+use Rattle.argus_guardian.specs.{AbortingLive.{IsPartlyAborted, after_aborts, live_topactions}, JournalText.no_journal}
 use Rattle.argus_guardian.specs.Checkpoint.{after_checkpoint, is_quiet}
-use Rattle.argus_journal.specs.Folding.{fold, next_entry_number}
-use Rattle.argus_journal.specs.declared.limits.TheConstants.{MAX_FIRST_ENTRY}
-use Rattle.argus_guardian.specs.JournalText.{no_journal}
-use Rattle.argus_journal.specs.Opening.{opening_at}
-use Rattle.argus_journal.specs.JournalView.{JournalView, after, journal_view_coded, reply_to}
-use Rattle.argus_values.specs.ContentSpelling.{content_spelling}
-use Rattle.argus_values.specs.Spelling.{spelling}
 use Rattle.argus_embed.specs.declared.outcome.Outcome.{Outcome}
 use Rattle.argus_embed.specs.declared.outcome.Outcome.TheVariants as outcome
 

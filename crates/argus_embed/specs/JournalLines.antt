@@ -1,14 +1,9 @@
 -- Whole lines of the journal, as many as fit into a room.
-use Rattle.std.specs.List.{flat_map, range_with_len}
-use Rattle.std.specs.Option.{option_map}
+use Rattle.std.specs.{List.{flat_map, range_with_len}, Option.option_map}
 use Rattle.std.specs.Prelude.{List, drop, if◌then◌else◌, length, ℕ, ◌+◌, ◌++◌, ◌<◌, ◌==◌, ◌≡◌, ◌≤◌, ◌⊎◌}
-use Rattle.argus_journal.specs.EntrySpelling.{entry_spelling}
-use Rattle.argus_journal.specs.Folding.{next_entry_number}
-use Rattle.argus_journal.specs.Journal.{entry_at}
+use Rattle.argus_journal.specs.{EntrySpelling.entry_spelling, Folding.next_entry_number, Journal.entry_at}
 use Rattle.argus_journal.specs.JournalView.{JournalView}
-use Rattle.argus_embed.specs.Embedded.{text_line}
-use Rattle.argus_embed.specs.declared.lines.Lines.{Lines}
-use Rattle.argus_embed.specs.declared.lines_writing.Fitting.{Fitting}
+use Rattle.argus_embed.specs.{Embedded.text_line, declared.lines.Lines.Lines, declared.lines_writing.Fitting.Fitting}
 
 -- the number that the journal's next entry gets
 abbrev pub next_of : JournalView → ℕ

@@ -1,9 +1,7 @@
 -- The text that is kept.
 use Rattle.std.specs.Prelude.{Bool, List, None, Option, Some, drop, false, length, map, true, ℕ, ◌++◌, ◌<◌, ◌≡◌, ◌≤◌}
-use Rattle.argus_journal.specs.EntrySpelling.{reply_spelling}
-use Rattle.argus_journal.specs.Reply.{plain_reply}
-use Rattle.argus_embed.specs.Embedded.{reply_lines, reply_text}
-use Rattle.argus_embed.specs.declared.kept.Kept.{Kept}
+use Rattle.argus_journal.specs.{EntrySpelling.reply_spelling, Reply.plain_reply}
+use Rattle.argus_embed.specs.{Embedded.{reply_lines, reply_text}, declared.kept.Kept.Kept}
 use Rattle.argus_embed.specs.declared.kept.Kept.TheVariants as kept
 
 -- the text of the reply, a line for each text of the replies, the text itself, or the reply as its

@@ -1,13 +1,10 @@
 -- The listing of a guardian that a host holds can be taken again, by this guardian or by another one.
 use Rattle.std.specs.Prelude.{List, [], ℕ, ◌++◌, ◌≡◌, ◌≢◌, ◌⊎◌}
-use Rattle.argus_guardian.specs.JournalText.{IsEmptyOrReadable, journal_text}
-use Rattle.argus_guardian.specs.ReadableCalls.{HaveReadableCalls}
+use Rattle.argus_guardian.specs.{JournalText.{IsEmptyOrReadable, journal_text}, ReadableCalls.HaveReadableCalls}
 use Rattle.argus_journal.specs.JournalView.{JournalView}
-use Rattle.argus_embed.specs.Embedded.{EmbeddedState}
-use Rattle.argus_embed.specs.Resuming.{IsTextTaken, after_resumption}
-use Rattle.argus_embed.specs.declared.text_end.TextEnd.{TextEnd}
+use Rattle.argus_embed.specs.{Embedded.EmbeddedState, Resuming.{IsTextTaken, after_resumption}}
+use Rattle.argus_embed.specs.{declared.text_end.TextEnd.TextEnd, declared.text_taken.TextTaken.TextTaken}
 use Rattle.argus_embed.specs.declared.text_end.TextEnd.TheVariants as text_end
-use Rattle.argus_embed.specs.declared.text_taken.TextTaken.{TextTaken}
 
 -- the opening of the journal can be read, and so can each of its calls
 pub record CanBeRead (journal : JournalView) : Type 0 where

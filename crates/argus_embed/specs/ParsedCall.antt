@@ -1,13 +1,9 @@
 -- A call that was read of its request, and what comes of it once it is made.
-use Rattle.std.specs.Coded.{Coded}
-use Rattle.std.specs.Prelude.{List, ℕ, ◌≡◌}
+use Rattle.std.specs.{Coded.Coded, Prelude.{List, ℕ, ◌≡◌}}
 use Rattle.argus_entries.specs.EntryCode.{call_coded}
-use Rattle.argus_journal.specs.Call.{PlainCall}
-use Rattle.argus_journal.specs.JournalView.{reply_to}
-use Rattle.argus_embed.specs.Embedded.{EmbeddedState, after_call, outcome_of}
-use Rattle.argus_embed.specs.Requests.{IsRead, Says}
-use Rattle.argus_embed.specs.declared.outcome.Outcome.{Outcome}
-use Rattle.argus_embed.specs.declared.request.Request.{Request}
+use Rattle.argus_journal.specs.{Call.PlainCall, JournalView.reply_to}
+use Rattle.argus_embed.specs.{Embedded.{EmbeddedState, after_call, outcome_of}, Requests.{IsRead, Says}}
+use Rattle.argus_embed.specs.{declared.outcome.Outcome.Outcome, declared.request.Request.Request}
 
 -- what is read of a request: the call
 abbrev pub ParsedState : Type 0

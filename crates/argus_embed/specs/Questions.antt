@@ -1,35 +1,20 @@
 -- The answer to a question, by the journal.
-use Rattle.std.specs.Fmt.{decimal}
-use Rattle.std.specs.List.{flat_map, range_with_len}
-use Rattle.std.specs.Option.{option_map}
-use Rattle.std.specs.Prelude.{List, None, Option, Some, [], codes, map, pos, true, ℕ, ◌++◌, ◌∷◌, ◌≡◌, ◌≢◌}
-use Rattle.std.specs.Prelude.{◌≤◌}
+use Rattle.std.specs.{Fmt.decimal, List.{flat_map, range_with_len}, Option.option_map}
+use Rattle.std.specs.Prelude.{List, None, Option, Some, [], codes, map, pos, true, ℕ, ◌++◌, ◌∷◌, ◌≡◌, ◌≢◌, ◌≤◌}
 use Rattle.argus_actions.specs.declared.status.Status.{Status}
-use Rattle.argus_values.specs.Content.{PlainContent}
-use Rattle.argus_values.specs.ShapeSpelling.{shape_spelling}
-use Rattle.argus_journal.specs.Call.{test_read, test_write}
-use Rattle.argus_journal.specs.EntrySpelling.{entry_spelling}
-use Rattle.argus_guardian.specs.Objects.{where_declared}
-use Rattle.argus_guardian.specs.Statuses.{NoneLiveBetween, NoneLiveFrom, status_in}
-use Rattle.argus_journal.specs.Events.{says_yes}
-use Rattle.argus_journal.specs.Folding.{next_entry_number}
-use Rattle.argus_journal.specs.Journal.{entry_at}
-use Rattle.argus_journal.specs.Objects.{declared, shape_of}
-use Rattle.argus_journal.specs.JournalFacts.{base_of, is_live_in, next_action_number, readers_of}
-use Rattle.argus_journal.specs.JournalFacts.{versions_of}
-use Rattle.argus_guardian.specs.Listing.{listing_of}
-use Rattle.argus_guardian.specs.OpeningLanguages.{content_text}
+use Rattle.argus_values.specs.{Content.PlainContent, ShapeSpelling.shape_spelling}
+use Rattle.argus_journal.specs.{Call.{test_read, test_write}, EntrySpelling.entry_spelling, Events.says_yes}
+use Rattle.argus_journal.specs.{Folding.next_entry_number, Journal.entry_at, Objects.{declared, shape_of}}
+use Rattle.argus_journal.specs.JournalFacts.{base_of, is_live_in, next_action_number, readers_of, versions_of}
 use Rattle.argus_journal.specs.JournalView.{JournalView, reply_to}
-use Rattle.argus_embed.specs.Codes.{as_number, status_code}
-use Rattle.argus_embed.specs.Embedded.{EmbeddedState}
-use Rattle.argus_embed.specs.declared.embed_error.EmbedError.{EmbedError}
+use Rattle.argus_guardian.specs.{Objects.where_declared, Statuses.{NoneLiveBetween, NoneLiveFrom, status_in}}
+use Rattle.argus_guardian.specs.{Listing.listing_of, OpeningLanguages.content_text}
+use Rattle.argus_guardian.specs.listings_declared.listing.Listing.TheVariants.{Audit, Bases, Journal, Stacks}
+use Rattle.argus_embed.specs.{Codes.{as_number, status_code}, Embedded.EmbeddedState, declared.outcome.Outcome.Outcome}
+use Rattle.argus_embed.specs.{declared.embed_error.EmbedError.EmbedError, declared.question.Question.Question}
 use Rattle.argus_embed.specs.declared.embed_error.EmbedError.TheVariants as error
-use Rattle.argus_embed.specs.declared.outcome.Outcome.{Outcome}
 use Rattle.argus_embed.specs.declared.outcome.Outcome.TheVariants as outcome
-use Rattle.argus_embed.specs.declared.question.Question.{Question}
 use Rattle.argus_embed.specs.declared.question.Question.TheVariants as question
-use Rattle.argus_guardian.specs.listings_declared.listing.Listing.TheVariants.{Audit, Bases}
-use Rattle.argus_guardian.specs.listings_declared.listing.Listing.TheVariants.{Journal, Stacks}
 
 -- the numbers stand for the question
 abbrev pub Asks : ℕ → ℕ → ℕ → ℕ → Question → Type 0

@@ -1,9 +1,6 @@
 -- An embedded guardian with a prepared commit, what the commit leaves, and its line.
-use Rattle.std.specs.Coded.{Coded, code_by, coded_ℕ, coded×}
-use Rattle.std.specs.Prelude.{List, refl, ℕ}
-use Rattle.argus_journal.specs.Call.{commit}
-use Rattle.argus_journal.specs.EntrySpelling.{entry_line}
-use Rattle.argus_journal.specs.JournalView.{entry_of, next_entry, reply_to}
+use Rattle.std.specs.{Coded.{Coded, code_by, coded_ℕ, coded×}, Prelude.{List, refl, ℕ}}
+use Rattle.argus_journal.specs.{Call.commit, EntrySpelling.entry_line, JournalView.{entry_of, next_entry, reply_to}}
 use Rattle.argus_embed.specs.Embedded.{EmbeddedState, after_call, embedded_state_coded, outcome_of}
 use Rattle.argus_embed.specs.declared.outcome.Outcome.{Outcome}
 

@@ -1,36 +1,24 @@
 -- Which call the numbers and the text of a request stand for, and why one stands for none.
-use Rattle.std.specs.Ordering.{int_eq}
-use Rattle.std.specs.Prelude.{List, int_lt, not, pos, true, ℕ, ℤ, ◌<◌, ◌||◌, ◌≡◌, ◌≤◌, ◌⊎◌}
-use Rattle.argus_values.specs.Change.{PlainChange, addh, addl, change_tag, create, remh, reml}
-use Rattle.argus_values.specs.Change.{set_field, set_low, store, touch, trim}
-use Rattle.argus_values.specs.contents_declared.query.Query.{Query}
-use Rattle.argus_values.specs.contents_declared.query.Query.TheVariants.{Bottom, Fetch, Field, High}
-use Rattle.argus_values.specs.contents_declared.query.Query.TheVariants.{IsTag, Low, Size, TagValue}
-use Rattle.argus_values.specs.contents_declared.query.Query.TheVariants.{Top, Whole}
-use Rattle.argus_journal.specs.Call.{PlainCall, abort, abort_others, alter, ask, begin_nested}
-use Rattle.argus_journal.specs.Call.{begin_sub, begin_top, commit, declare, test_read, test_write}
-use Rattle.argus_values.specs.ContentSpelling.{content_spelling}
-use Rattle.argus_values.specs.Fault.{IsContentText, IsFault, IsValueText}
+use Rattle.std.specs.{Ordering.int_eq, Prelude.{List, int_lt, not, pos, true, ℕ, ℤ, ◌<◌, ◌||◌, ◌≡◌, ◌≤◌, ◌⊎◌}}
+use Rattle.argus_values.specs.Change.{PlainChange, addh, addl, change_tag, create, remh, reml, set_field, set_low}
+use Rattle.argus_values.specs.{Change.{store, touch, trim}, contents_declared.query.Query.Query, Spelling.spelling}
+use Rattle.argus_values.specs.contents_declared.query.Query.TheVariants.{Bottom, Fetch, Field, High, IsTag, Low, Size}
+use Rattle.argus_values.specs.{contents_declared.query.Query.TheVariants.{TagValue, Top, Whole}, Value.PlainValue}
+use Rattle.argus_values.specs.{ContentSpelling.content_spelling, Fault.{IsContentText, IsFault, IsValueText}}
 use Rattle.argus_values.specs.ShapeSpelling.{IsShapeText, shape_spelling}
-use Rattle.argus_values.specs.Spelling.{spelling}
-use Rattle.argus_values.specs.Value.{PlainValue}
+use Rattle.argus_journal.specs.Call.{PlainCall, abort, abort_others, alter, ask, begin_nested, begin_sub, begin_top}
+use Rattle.argus_journal.specs.{Call.{commit, declare, test_read, test_write}, JournalView.reply_to}
 use Rattle.argus_values.specs.Value as value
-use Rattle.argus_embed.specs.Embedded.{EmbeddedState, after_call, outcome_of}
-use Rattle.argus_embed.specs.declared.embed_error.EmbedError.{EmbedError}
+use Rattle.argus_embed.specs.{Embedded.{EmbeddedState, after_call, outcome_of}, declared.outcome.Outcome.Outcome}
+use Rattle.argus_embed.specs.{declared.embed_error.EmbedError.EmbedError, declared.request.Request.Request}
+use Rattle.argus_embed.specs.declared.kinds.TheConstants.{ABORT, ABORT_OTHERS, ADDH, ADDH_BOOL, ADDH_INT, ADDL}
+use Rattle.argus_embed.specs.declared.kinds.TheConstants.{ADDL_BOOL, ADDL_INT, BEGIN_NESTED, BEGIN_SUB, BEGIN_TOP}
+use Rattle.argus_embed.specs.declared.kinds.TheConstants.{BOTTOM, CHANGE_TAG, CHANGE_TAG_BOOL, CHANGE_TAG_INT, COMMIT}
+use Rattle.argus_embed.specs.declared.kinds.TheConstants.{CREATE, DECLARE, FETCH, FIELD, HIGH, IS_TAG, LOW, REMH, REML}
+use Rattle.argus_embed.specs.declared.kinds.TheConstants.{SET_FIELD, SET_FIELD_BOOL, SET_FIELD_INT, SET_LOW, SIZE}
+use Rattle.argus_embed.specs.declared.kinds.TheConstants.{STORE, STORE_BOOL, STORE_INT, TAG_VALUE, TEST_READ}
+use Rattle.argus_embed.specs.declared.kinds.TheConstants.{TEST_WRITE, TOP, TOUCH, TRIM, WHOLE}
 use Rattle.argus_embed.specs.declared.embed_error.EmbedError.TheVariants as error
-use Rattle.argus_embed.specs.declared.kinds.TheConstants.{ABORT, ABORT_OTHERS, ADDH, ADDH_BOOL}
-use Rattle.argus_embed.specs.declared.kinds.TheConstants.{ADDH_INT, ADDL, ADDL_BOOL, ADDL_INT}
-use Rattle.argus_embed.specs.declared.kinds.TheConstants.{BEGIN_NESTED, BEGIN_SUB, BEGIN_TOP, BOTTOM}
-use Rattle.argus_embed.specs.declared.kinds.TheConstants.{CHANGE_TAG, CHANGE_TAG_BOOL}
-use Rattle.argus_embed.specs.declared.kinds.TheConstants.{CHANGE_TAG_INT, COMMIT, CREATE, DECLARE}
-use Rattle.argus_embed.specs.declared.kinds.TheConstants.{FETCH, FIELD, HIGH, IS_TAG, LOW, REMH, REML}
-use Rattle.argus_embed.specs.declared.kinds.TheConstants.{SET_FIELD, SET_FIELD_BOOL, SET_FIELD_INT}
-use Rattle.argus_embed.specs.declared.kinds.TheConstants.{SET_LOW, SIZE, STORE, STORE_BOOL, STORE_INT}
-use Rattle.argus_embed.specs.declared.kinds.TheConstants.{TAG_VALUE, TEST_READ, TEST_WRITE, TOP, TOUCH}
-use Rattle.argus_embed.specs.declared.kinds.TheConstants.{TRIM, WHOLE}
-use Rattle.argus_embed.specs.declared.outcome.Outcome.{Outcome}
-use Rattle.argus_embed.specs.declared.request.Request.{Request}
-use Rattle.argus_journal.specs.JournalView.{reply_to}
 
 -- the kind and the first number are those of the query
 abbrev pub SaysQuery : ℕ → ℤ → Query → Type 0

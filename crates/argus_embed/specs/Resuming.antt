@@ -1,19 +1,14 @@
 -- How a guardian is made again from the lines of a journal.
 use Rattle.std.specs.Prelude.{List, None, Some, [], drop, length, take, ℕ, ◌+◌, ◌++◌, ◌-◌, ◌≡◌, ◌≤◌}
-use Rattle.argus_journal.specs.EntrySpelling.{reply_spelling}
-use Rattle.argus_journal.specs.JournalView.{next_entry}
-use Rattle.argus_journal.specs.Reply.{plain_reply}
+use Rattle.argus_journal.specs.{EntrySpelling.reply_spelling, JournalView.next_entry, Reply.plain_reply}
 use Rattle.argus_journal.specs.entries_declared.reply.Reply.{Reply}
-use Rattle.argus_guardian.specs.JournalText.{IsReadableJournal, journal_text, no_journal}
-use Rattle.argus_guardian.specs.SoundFront.{sound_front}
-use Rattle.argus_guardian.specs.Taking.{IsFaulty, IsTorn, line_count}
+use Rattle.argus_guardian.specs.{JournalText.{IsReadableJournal, journal_text, no_journal}, SoundFront.sound_front}
+use Rattle.argus_guardian.specs.{Taking.{IsFaulty, IsTorn, line_count}, resume_declared.taken_end.TakenEnd.TakenEnd}
 use Rattle.argus_guardian.specs.resume_declared.line_fault.LineFault.TheVariants as fault
-use Rattle.argus_guardian.specs.resume_declared.taken_end.TakenEnd.{TakenEnd}
 use Rattle.argus_guardian.specs.resume_declared.taken_end.TakenEnd.TheVariants as taken
-use Rattle.argus_embed.specs.Embedded.{EmbeddedState}
-use Rattle.argus_embed.specs.declared.text_end.TextEnd.{TextEnd}
-use Rattle.argus_embed.specs.declared.text_end.TextEnd.TheVariants as text_end
+use Rattle.argus_embed.specs.{Embedded.EmbeddedState, declared.text_end.TextEnd.TextEnd}
 use Rattle.argus_embed.specs.declared.text_taken.TextTaken.{TextTaken}
+use Rattle.argus_embed.specs.declared.text_end.TextEnd.TheVariants as text_end
 
 -- the next line isn't that of the next entry, which has this number
 pub record IsNotNext (state : EmbeddedState) (left : List ℕ) (wanted : ℕ) : Type 0 where

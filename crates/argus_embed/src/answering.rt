@@ -1,13 +1,11 @@
 //! How a host's questions are answered.
 
-ghost use Rattle.std.specs.Option.{option_map};
-ghost use Rattle.std.specs.Prelude.{IfErr, IfOk, None, OnErr, ◌≡◌};
-ghost use Rattle.argus_embed.specs.Questions.{IsAnswerTo, IsText, IsUnanswered};
-ghost use Rattle.argus_embed.specs.Questions.{IsFirstLive, IsStatus};
+ghost use Rattle.std.specs.{Option.option_map, Prelude.{IfErr, IfOk, None, OnErr, ◌≡◌}};
+ghost use Rattle.argus_embed.specs.Questions.{IsAnswerTo, IsText, IsUnanswered, IsFirstLive};
+ghost use Rattle.argus_embed.specs.Questions.{IsStatus};
 ghost use Rattle.argus_embed.specs.declared.embed_error.EmbedError.TheVariants.{NotThere};
 ghost use Rattle.argus_guardian.specs.Statuses.{NoneLiveFrom, status_in};
-ghost use Rattle.argus_journal.specs.Call.{test_read, test_write};
-ghost use Rattle.argus_journal.specs.Events.{says_yes};
+ghost use Rattle.argus_journal.specs.{Call.{test_read, test_write}, Events.says_yes};
 ghost use Rattle.argus_journal.specs.JournalView.{reply_to};
 
 use crate::codes::{as_number, status_code};

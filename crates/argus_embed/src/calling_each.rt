@@ -1,11 +1,10 @@
 //! How a host makes several calls at once.
 
-ghost use Rattle.std.specs.Prelude.{[], IfErr, IfOk, OnErr, OnOk, length, map, ◌+◌, ◌<◌};
-ghost use Rattle.std.specs.Prelude.{◌≡◌, ◌≤◌};
-ghost use Rattle.argus_embed.specs.CallEach.{AreCalled, AreMade, IsNext, IsUnreadAfter};
-ghost use Rattle.argus_embed.specs.CallEach.{with_error, with_lines};
-ghost use Rattle.argus_embed.specs.declared.embed_error.EmbedError.TheVariants as error;
+ghost use Rattle.std.specs.Prelude.{[], IfErr, IfOk, OnErr, OnOk, length, map, ◌+◌, ◌<◌, ◌≡◌, ◌≤◌};
+ghost use Rattle.argus_embed.specs.CallEach.{AreCalled, AreMade, IsNext, IsUnreadAfter, with_error};
+ghost use Rattle.argus_embed.specs.CallEach.{with_lines};
 ghost use Rattle.argus_embed.specs.declared.list_end.ListEnd.TheVariants.{Failed};
+ghost use Rattle.argus_embed.specs.declared.embed_error.EmbedError.TheVariants as error;
 ghost use Rattle.argus_journal.specs.Reply.{plain_reply};
 
 use crate::calls_made::CallsMade;

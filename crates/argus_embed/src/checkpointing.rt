@@ -1,7 +1,6 @@
 //! How a host folds the journal's past.
 
-ghost use Rattle.std.specs.Prelude.{IfErr, OnErr, OnOk, Some, ◌↔◌, ◌≡◌, ◌⊎◌};
-ghost use Rattle.std.specs.Result.{result_err};
+ghost use Rattle.std.specs.{Prelude.{IfErr, OnErr, OnOk, Some, ◌↔◌, ◌≡◌, ◌⊎◌}, Result.result_err};
 ghost use Rattle.argus_embed.specs.Embedded.{IsBusy, IsFull, after_fold};
 ghost use Rattle.argus_embed.specs.declared.embed_error.EmbedError.TheVariants.{Busy, Full};
 ghost use Rattle.argus_embed.specs.declared.embed_error.EmbedError.TheVariants.{OutOfMemory};

@@ -1,10 +1,8 @@
 //! An entry's line, and the listings, as texts.
 
-ghost use Rattle.std.specs.Option.{option_map};
-ghost use Rattle.std.specs.Prelude.{IfOk, None, OnErr, ◌≡◌, ◌≢◌};
+ghost use Rattle.std.specs.{Option.option_map, Prelude.{IfOk, None, OnErr, ◌≡◌, ◌≢◌}};
 ghost use Rattle.argus_embed.specs.Questions.{object_name, object_names};
-ghost use Rattle.argus_journal.specs.EntrySpelling.{entry_spelling};
-ghost use Rattle.argus_journal.specs.Journal.{entry_at};
+ghost use Rattle.argus_journal.specs.{EntrySpelling.entry_spelling, Journal.entry_at};
 ghost use Rattle.argus_journal.specs.Objects.{declared};
 ghost use Rattle.argus_guardian.specs.Listing.{listing_of};
 

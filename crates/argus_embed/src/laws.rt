@@ -1,12 +1,10 @@
 //! The laws of a guardian that a host holds. Each function changes nothing: its contract is the law.
 
 ghost use Rattle.std.specs.Prelude.{Some, ◌≡◌};
-ghost use Rattle.argus_embed.specs.Laws.{RenewalsLeaveListable};
-ghost use Rattle.argus_embed.specs.Listed.{IsTakenBack};
+ghost use Rattle.argus_embed.specs.{Laws.RenewalsLeaveListable, Listed.IsTakenBack};
 ghost use Rattle.argus_embed.specs.Questions.{text_to};
 ghost use Rattle.argus_embed.specs.declared.question.Question.TheVariants as question;
-ghost use Rattle.argus_guardian.specs.JournalText.{journal_text};
-ghost use Rattle.argus_guardian.specs.ResumeLaws.{IsListable};
+ghost use Rattle.argus_guardian.specs.{JournalText.journal_text, ResumeLaws.IsListable};
 ghost use Rattle.argus_guardian.specs.listings_declared.listing.Listing.TheVariants.{Journal};
 
 use crate::embedded::Embedded;

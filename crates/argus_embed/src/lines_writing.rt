@@ -1,8 +1,7 @@
 //! Whole lines of the journal, as the host gets them.
 
 ghost use Rattle.std.specs.Prelude.{IfErr, IfOk, OnErr, OnOk, Some, length, string_bytes, ◌++◌};
-ghost use Rattle.std.specs.Prelude.{◌↔◌, ◌≡◌, ◌≤◌, ◌⊎◌};
-ghost use Rattle.std.specs.Result.{result_err};
+ghost use Rattle.std.specs.{Prelude.{◌↔◌, ◌≡◌, ◌≤◌, ◌⊎◌}, Result.result_err};
 ghost use Rattle.argus_embed.specs.JournalLines.{AreLines, HasNoPlace, IsFitting, line_at};
 ghost use Rattle.argus_embed.specs.declared.embed_error.EmbedError.TheVariants as error;
 

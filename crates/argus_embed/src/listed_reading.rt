@@ -1,11 +1,10 @@
 //! The call that a call of a list stands for.
 
 ghost use Rattle.std.specs.Prelude.{IfErr, IfOk, Some, map, ◌≡◌};
-ghost use Rattle.argus_embed.specs.CallEach.{IsUnreadWith, SaysWith, action_begun};
-ghost use Rattle.argus_embed.specs.CallEach.{action_by, request_of};
+ghost use Rattle.argus_embed.specs.CallEach.{IsUnreadWith, SaysWith, action_begun, action_by};
+ghost use Rattle.argus_embed.specs.CallEach.{request_of};
 ghost use Rattle.argus_guardian.specs.Calls.{IsReadableCall};
-ghost use Rattle.argus_journal.specs.Call.{plain_call};
-ghost use Rattle.argus_journal.specs.Reply.{plain_reply};
+ghost use Rattle.argus_journal.specs.{Call.plain_call, Reply.plain_reply};
 
 use crate::embed_error::EmbedError;
 use crate::listed_call::ListedCall;

@@ -1,15 +1,13 @@
 //! An object's base, its shape and its holders, as texts.
 
-ghost use Rattle.std.specs.Fmt.{decimal};
-ghost use Rattle.std.specs.Option.{option_map};
+ghost use Rattle.std.specs.{Fmt.decimal, Option.option_map};
 ghost use Rattle.std.specs.Prelude.{IfOk, None, OnErr, OnOk, map, string_bytes, ◌++◌, ◌≡◌, ◌≢◌};
-ghost use Rattle.argus_values.specs.Content.{plain_option};
-ghost use Rattle.argus_values.specs.ShapeSpelling.{shape_spelling};
+ghost use Rattle.argus_values.specs.{Content.plain_option, ShapeSpelling.shape_spelling};
 ghost use Rattle.argus_embed.specs.Questions.{action_line, action_lines, seen_line, seen_lines};
 ghost use Rattle.argus_guardian.specs.Objects.{version_pair, where_declared};
+ghost use Rattle.argus_guardian.specs.OpeningLanguages.{content_text};
 ghost use Rattle.argus_journal.specs.JournalFacts.{base_of, readers_of, versions_of};
 ghost use Rattle.argus_journal.specs.Objects.{shape_of};
-ghost use Rattle.argus_guardian.specs.OpeningLanguages.{content_text};
 
 use argus_actions::ActionId;
 use argus_guardian::Guardian;

@@ -1,8 +1,7 @@
 //! `ParsedCall`: a call that was read of its request, and isn't made yet.
 
 ghost use Rattle.std.specs.Prelude.{IfErr, IfOk, OnErr, ◌≡◌};
-ghost use Rattle.argus_embed.specs.ParsedCall.{IsMadeOf, IsParsed};
-ghost use Rattle.argus_embed.specs.Requests.{IsUnread};
+ghost use Rattle.argus_embed.specs.{ParsedCall.{IsMadeOf, IsParsed}, Requests.IsUnread};
 
 use crate::embed_error::EmbedError;
 use crate::embedded::Embedded;

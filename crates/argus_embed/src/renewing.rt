@@ -1,15 +1,11 @@
 //! How a guardian starts over, with the same objects and action numbers from 0.
 
-ghost use Rattle.std.specs.Option.{option_map};
+ghost use Rattle.std.specs.{Option.option_map, Prelude.{◌<◌, ◌↔◌, ◌≡◌, ◌⊎◌}, Result.result_err};
 ghost use Rattle.std.specs.Prelude.{IfErr, IfOk, OnErr, OnOk, Some, false, map, slice_get, true};
-ghost use Rattle.std.specs.Prelude.{◌<◌, ◌↔◌, ◌≡◌, ◌⊎◌};
-ghost use Rattle.std.specs.Result.{result_err};
 ghost use Rattle.argus_embed.specs.Embedded.{IsBusy, IsFull, after_renewal, renewed};
 ghost use Rattle.argus_embed.specs.declared.embed_error.EmbedError.TheVariants as error;
 ghost use Rattle.argus_guardian.specs.Checkpoint.{is_quiet};
-ghost use Rattle.argus_journal.specs.Folding.{fold};
-ghost use Rattle.argus_journal.specs.JournalView.{next_entry};
-ghost use Rattle.argus_journal.specs.Opening.{plain_object};
+ghost use Rattle.argus_journal.specs.{Folding.fold, JournalView.next_entry, Opening.plain_object};
 ghost use Rattle.argus_journal.specs.declared.limits.TheConstants.{MAX_FIRST_ENTRY};
 
 use crate::embed_error::EmbedError;

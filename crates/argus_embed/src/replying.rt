@@ -1,15 +1,11 @@
 //! The text that is kept, as the host gets it.
 
-ghost use Rattle.std.specs.Option.{option_map};
-ghost use Rattle.std.specs.Prelude.{IfOk, None, OnErr, OnOk, length, map, string_bytes, ◌++◌};
-ghost use Rattle.std.specs.Prelude.{◌≡◌, ◌≢◌};
-ghost use Rattle.argus_values.specs.Answer.{plain_answer};
-ghost use Rattle.argus_embed.specs.Kept.{IsAppended, IsCopied, IsPut};
-ghost use Rattle.argus_values.specs.Value.{plain_value};
+ghost use Rattle.std.specs.{Option.option_map, Prelude.{◌≢◌}};
+ghost use Rattle.std.specs.Prelude.{IfOk, None, OnErr, OnOk, length, map, string_bytes, ◌++◌, ◌≡◌};
+ghost use Rattle.argus_values.specs.{Answer.plain_answer, Value.plain_value};
+ghost use Rattle.argus_embed.specs.{Kept.{IsAppended, IsCopied, IsPut}, Embedded.value_text};
 ghost use Rattle.argus_embed.specs.Embedded.{answer_text, reply_lines, reply_text, text_line};
-ghost use Rattle.argus_embed.specs.Embedded.{value_text};
-ghost use Rattle.argus_journal.specs.EntrySpelling.{reply_spelling};
-ghost use Rattle.argus_journal.specs.Reply.{plain_reply};
+ghost use Rattle.argus_journal.specs.{EntrySpelling.reply_spelling, Reply.plain_reply};
 
 use crate::embedded::Embedded;
 use crate::kept::Kept;

@@ -1,8 +1,7 @@
 //! The outcome that a reply is.
 
 ghost use Rattle.std.specs.Prelude.{◌≡◌};
-ghost use Rattle.argus_values.specs.Answer.{plain_answer};
-ghost use Rattle.argus_values.specs.Value.{plain_value};
+ghost use Rattle.argus_values.specs.{Answer.plain_answer, Value.plain_value};
 ghost use Rattle.argus_embed.specs.Embedded.{answer_outcome, outcome_of, value_outcome};
 ghost use Rattle.argus_journal.specs.Reply.{plain_reply};
 

@@ -1,19 +1,17 @@
 //! The call that a request stands for.
 
 ghost use Rattle.std.specs.Prelude.{IfErr, IfOk, List, OnOk, pos, ℕ, ◌<◌, ◌^◌, ◌≡◌, ◌≤◌};
-ghost use Rattle.argus_values.specs.Change.{plain_change};
-ghost use Rattle.argus_values.specs.Content.{plain_content};
-ghost use Rattle.argus_values.specs.Value.{plain_value};
+ghost use Rattle.argus_values.specs.{Change.plain_change, Content.plain_content, Value.plain_value};
 ghost use Rattle.argus_values.specs.Fault.{IsContentText, IsValueText};
-ghost use Rattle.argus_embed.specs.Requests.{HasNumbers, IsNoPart, IsRead, IsUnread, LacksPart};
-ghost use Rattle.argus_embed.specs.declared.kinds.TheConstants as kinds;
-ghost use Rattle.argus_embed.specs.Requests.{Says, SaysChange, SaysQuery, TakesPart, TakesValue};
-ghost use Rattle.argus_journal.specs.Call.{plain_call};
-ghost use Rattle.argus_entries.specs.Laws.{ChangeWithin, QueryWithin};
-ghost use Rattle.argus_guardian.specs.Calls.{IsReadableCall};
 ghost use Rattle.argus_values.specs.ContentSpelling.{PartsWithin, content_spelling};
 ghost use Rattle.argus_values.specs.Spelling.{Within, spelling};
 ghost use Rattle.argus_values.specs.contents_declared.limits.TheConstants.{MAX_VALUE_DEPTH};
+ghost use Rattle.argus_embed.specs.Requests.{HasNumbers, IsNoPart, IsRead, IsUnread, LacksPart};
+ghost use Rattle.argus_embed.specs.Requests.{Says, SaysChange, SaysQuery, TakesPart, TakesValue};
+ghost use Rattle.argus_embed.specs.declared.kinds.TheConstants as kinds;
+ghost use Rattle.argus_journal.specs.Call.{plain_call};
+ghost use Rattle.argus_entries.specs.Laws.{ChangeWithin, QueryWithin};
+ghost use Rattle.argus_guardian.specs.Calls.{IsReadableCall};
 
 use crate::embed_error::EmbedError;
 use crate::kinds::{

@@ -2,8 +2,7 @@
 
 ghost use Rattle.std.specs.Prelude.{IfErr, IfOk, OnErr, OnOk, ◌≡◌};
 ghost use Rattle.argus_guardian.specs.JournalText.{IsReadableJournal};
-ghost use Rattle.argus_embed.specs.Resuming.{EndsText, IsDropped, IsTextTaken};
-ghost use Rattle.argus_embed.specs.Resuming.{after_resumption};
+ghost use Rattle.argus_embed.specs.Resuming.{EndsText, IsDropped, IsTextTaken, after_resumption};
 ghost use Rattle.argus_embed.specs.declared.embed_error.EmbedError.TheVariants.{OutOfMemory};
 
 use crate::embed_error::EmbedError;

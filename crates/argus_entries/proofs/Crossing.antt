@@ -1,9 +1,8 @@
 -- Calls, replies and entries may cross to another thread, and be looked at from there: as a set for `search`,
 -- `crosses`.
 use denote.Param.Send.{IsSend, IsSync, sendable}
-use Rattle.argus_contents.proofs.Crossing.{answer_field_sends, answer_field_syncs, change_field_sends}
+use Rattle.argus_contents.proofs.Crossing.{answer_field_sends, answer_field_syncs, change_field_sends, shape_syncs}
 use Rattle.argus_contents.proofs.Crossing.{change_field_syncs, query_field_sends, query_field_syncs, shape_sends}
-use Rattle.argus_contents.proofs.Crossing.{shape_syncs}
 use Rattle.argus_contents.proofs.Crossing as contents
 use Rattle.argus_entries.specs.contracts.call.Call.{the_field as call_field, the_row as call_row}
 use Rattle.argus_entries.specs.contracts.entry.Entry.{the_row as entry_row}

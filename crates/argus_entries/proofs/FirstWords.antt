@@ -1,27 +1,21 @@
 -- The words with which a text begins tell what kind of query, change, call, answer or reply it is, and which signal or
 -- refusal.
 use Rattle.std.proofs.Common.{Bool, List, ap, false, get_or, refl, sym, true, ℕ, ◌+◌, ◌++◌, ◌∙◌, ◌≡◌}
-use Rattle.std.specs.Prelude.{if◌then◌else◌, ◌==◌}
 use Rattle.std.proofs.lemmas.Bool.{eq-eqb}
-use Rattle.argus_contents.specs.Answer.{PlainAnswer}
-use Rattle.argus_contents.specs.Answer as answer
-use Rattle.argus_contents.specs.Change.{PlainChange}
-use Rattle.argus_contents.specs.Change as change
-use Rattle.argus_contents.specs.declared.query.Query.{Query}
-use Rattle.argus_contents.specs.declared.query.Query.TheVariants as query
-use Rattle.argus_contents.specs.declared.signal.Signal.{Signal}
+use Rattle.std.specs.Prelude.{if◌then◌else◌, ◌==◌}
+use Rattle.argus_contents.specs.{Answer.PlainAnswer, Change.PlainChange, declared.query.Query.Query}
+use Rattle.argus_contents.specs.{declared.signal.Signal.Signal, declared.signal.Signal.TheVariants.WrongTag}
 use Rattle.argus_contents.specs.declared.signal.Signal.TheVariants.{Absent, Bounds, Exists, Limits, NegativeSize}
-use Rattle.argus_contents.specs.declared.signal.Signal.TheVariants.{WrongTag}
-use Rattle.argus_entries.specs.Call.{PlainCall}
-use Rattle.argus_entries.specs.Call as call
+use Rattle.argus_contents.specs.Answer as answer
+use Rattle.argus_contents.specs.Change as change
+use Rattle.argus_contents.specs.declared.query.Query.TheVariants as query
+use Rattle.argus_entries.specs.{Call.PlainCall, EntrySpelling.signal_spelling, Reply.PlainReply}
 use Rattle.argus_entries.specs.EntrySpelling.{answer_spelling, call_spelling, refusal_name, reply_spelling}
-use Rattle.argus_entries.specs.EntrySpelling.{signal_spelling}
-use Rattle.argus_entries.specs.OperationSpelling.{change_spelling, query_spelling}
-use Rattle.argus_entries.specs.Reply.{PlainReply}
-use Rattle.argus_entries.specs.Reply as reply
-use Rattle.argus_entries.specs.declared.refusal.Refusal.{Refusal}
+use Rattle.argus_entries.specs.{OperationSpelling.{change_spelling, query_spelling}, declared.refusal.Refusal.Refusal}
 use Rattle.argus_entries.specs.declared.refusal.Refusal.TheVariants.{Conflict, IllTyped, NoAction, NoObject, NoSiblings}
 use Rattle.argus_entries.specs.declared.refusal.Refusal.TheVariants.{Over, Suspended, TooDeep, TooMany}
+use Rattle.argus_entries.specs.Call as call
+use Rattle.argus_entries.specs.Reply as reply
 
 -- QUERIES
 

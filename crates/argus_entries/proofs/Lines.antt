@@ -1,30 +1,20 @@
 -- A line tells its number, its call and its reply.
-use Rattle.std.proofs.Common.{List, [], ap, append_assoc, arith, inl, refl, sym, true, ℕ}
-use Rattle.std.proofs.Common.{◌++◌, ◌<◌, ◌^◌, ◌∙◌, ◌∷◌, ◌≡◌}
-use Rattle.std.specs.Fmt.{decimal, signed_decimal}
-use Rattle.std.specs.Prelude.{codes, ◌==◌}
+use Rattle.std.proofs.Common.{List, [], ap, append_assoc, arith, inl, refl, sym, true, ℕ, ◌++◌, ◌<◌, ◌^◌, ◌∙◌, ◌∷◌, ◌≡◌}
 use Rattle.std.proofs.lemmas.Bool.{false≢true}
+use Rattle.std.specs.{Fmt.{decimal, signed_decimal}, Prelude.{codes, ◌==◌}}
 use Rattle.argus_contents.specs.Answer.{PlainAnswer}
 use Rattle.argus_contents.specs.Answer as answer
-use Rattle.argus_texts.specs.ContentSpelling.{content_spelling}
-use Rattle.argus_texts.specs.Languages.{NotDigit}
-use Rattle.argus_texts.specs.Spelling.{spelling}
-use Rattle.argus_texts.proofs.Contents.{one_content}
-use Rattle.argus_texts.proofs.Digits.{one_decimal}
-use Rattle.argus_texts.proofs.Lists.{cancel, tail_of}
-use Rattle.argus_texts.proofs.ShapeForms.{one_shape}
-use Rattle.argus_entries.specs.Call.{PlainCall}
-use Rattle.argus_entries.specs.Call as call
-use Rattle.argus_entries.specs.Entry.{PlainEntry}
+use Rattle.argus_texts.specs.{ContentSpelling.content_spelling, Languages.NotDigit, Spelling.spelling}
+use Rattle.argus_texts.proofs.{Contents.one_content, Digits.one_decimal, Lists.{cancel, tail_of}, ShapeForms.one_shape}
+use Rattle.argus_entries.specs.{Call.PlainCall, Entry.PlainEntry, OperationSpelling.{change_spelling, query_spelling}}
 use Rattle.argus_entries.specs.EntrySpelling.{answer_spelling, call_spelling, entry_spelling, place_spelling}
-use Rattle.argus_entries.specs.EntrySpelling.{refusal_name, reply_spelling, signal_spelling}
+use Rattle.argus_entries.specs.{EntrySpelling.{refusal_name, reply_spelling, signal_spelling}, Reply.PlainReply}
 use Rattle.argus_entries.specs.Laws.{AnswerWithin, CallWithin, EntryWithin, ReplyWithin}
-use Rattle.argus_entries.specs.OperationSpelling.{change_spelling, query_spelling}
-use Rattle.argus_entries.specs.Reply.{PlainReply}
+use Rattle.argus_entries.specs.Call as call
 use Rattle.argus_entries.specs.Reply as reply
-use Rattle.argus_entries.proofs.FirstWords.{answer_kind, call_kind, flag_at, flag_back, one_answer_kind}
-use Rattle.argus_entries.proofs.FirstWords.{one_call_kind, one_reply_kind, refusal_at, refusal_back, reply_kind}
-use Rattle.argus_entries.proofs.FirstWords.{signal_at, signal_back}
+use Rattle.argus_entries.proofs.FirstWords.{answer_kind, call_kind, flag_at, flag_back, one_answer_kind, one_call_kind}
+use Rattle.argus_entries.proofs.FirstWords.{one_reply_kind, refusal_at, refusal_back, reply_kind, signal_at}
+use Rattle.argus_entries.proofs.FirstWords.{signal_back}
 use Rattle.argus_entries.proofs.Operations.{behind_word, four_pieces, one_change, one_int, one_query, one_value, wide}
 
 -- an action and an object behind a word

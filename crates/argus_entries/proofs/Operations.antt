@@ -1,23 +1,15 @@
 -- The written forms of queries and changes tell them apart, whatever stands behind them.
-use Rattle.std.proofs.Common.{List, ap, append_assoc, arith, inl, refl, sym, true, ℕ, ℤ, ◌++◌, ◌<◌, ◌^◌}
-use Rattle.std.proofs.Common.{◌∙◌, ◌∷◌, ◌≡◌}
-use Rattle.std.specs.Fmt.{decimal, signed_decimal}
-use Rattle.std.specs.Prelude.{codes, ◌==◌}
+use Rattle.std.proofs.Common.{List, ap, append_assoc, arith, inl, refl, sym, true, ℕ, ℤ, ◌++◌, ◌<◌, ◌^◌, ◌∙◌, ◌∷◌, ◌≡◌}
 use Rattle.std.proofs.lemmas.Bool.{false≢true}
-use Rattle.argus_contents.specs.Change.{PlainChange}
+use Rattle.std.specs.{Fmt.{decimal, signed_decimal}, Prelude.{codes, ◌==◌}}
+use Rattle.argus_contents.specs.{Change.PlainChange, Value.PlainValue, declared.query.Query.Query}
 use Rattle.argus_contents.specs.Change as change
-use Rattle.argus_contents.specs.Value.{PlainValue}
 use Rattle.argus_contents.specs.Value as value
-use Rattle.argus_contents.specs.declared.query.Query.{Query}
 use Rattle.argus_contents.specs.declared.query.Query.TheVariants as query
-use Rattle.argus_texts.specs.Languages.{NotDigit}
-use Rattle.argus_texts.specs.Spelling.{IsI64, Within, spelling}
-use Rattle.argus_texts.proofs.Contents.{one_content}
-use Rattle.argus_texts.proofs.Digits.{one_decimal}
-use Rattle.argus_texts.proofs.Forms.{one_form, value_ends}
+use Rattle.argus_texts.specs.{Languages.NotDigit, Spelling.{IsI64, Within, spelling}}
+use Rattle.argus_texts.proofs.{Contents.one_content, Digits.one_decimal, Forms.{one_form, value_ends}}
 use Rattle.argus_texts.proofs.Lists.{cancel, tail_of}
-use Rattle.argus_entries.specs.Laws.{ChangeWithin, QueryWithin}
-use Rattle.argus_entries.specs.OperationSpelling.{change_spelling, query_spelling}
+use Rattle.argus_entries.specs.{Laws.{ChangeWithin, QueryWithin}, OperationSpelling.{change_spelling, query_spelling}}
 use Rattle.argus_entries.proofs.FirstWords.{change_kind, one_change_kind, one_query_kind, query_kind}
 
 pub wide : (n : ℕ) → n < 2 ^ 32 → n < 2 ^ 64

@@ -1,15 +1,11 @@
 -- A change that suits a shape is no deeper than the shape's types.
-use Rattle.std.proofs.Common.{◌≡◌, ℕ, true}
-use Rattle.std.proofs.lemmas.Bool.{false≢true}
+use Rattle.std.proofs.{Common.{◌≡◌, ℕ, true}, lemmas.Bool.false≢true}
 use Rattle.argus_contents.specs.Change.{PlainChange, addh, addl, change_tag, create, remh, reml, set_field, set_low}
-use Rattle.argus_contents.specs.Change.{store, touch, trim}
-use Rattle.argus_contents.specs.Fitting.{change_suits, field_suits, item_suits, tag_suits}
-use Rattle.argus_contents.specs.Shape.{IsMakeable, PlainShape, arr, rec, var}
-use Rattle.argus_contents.specs.Value.{PlainValue}
+use Rattle.argus_contents.specs.{Change.{store, touch, trim}, Shape.{IsMakeable, PlainShape, arr, rec, var}}
+use Rattle.argus_contents.specs.{Fitting.{change_suits, field_suits, item_suits, tag_suits}, Value.PlainValue}
 use Rattle.argus_contents.specs.declared.limits.TheConstants.{MAX_VALUE_DEPTH}
 use Rattle.argus_texts.specs.Spelling.{Within}
-use Rattle.argus_texts.proofs.Fitting.{fitting_depth, typed_at_within, typed_within}
-use Rattle.argus_texts.proofs.Makeable.{makeable_depth}
+use Rattle.argus_texts.proofs.{Fitting.{fitting_depth, typed_at_within, typed_within}, Makeable.makeable_depth}
 use Rattle.argus_entries.specs.Laws.{ChangeWithin}
 
 field_depth : (s : PlainShape) (n k i : ℕ) (v : PlainValue) → IsMakeable s → field_suits s n i v ≡ true → Within k v

@@ -1,8 +1,6 @@
 -- What a call says.
 use Rattle.std.specs.Prelude.{ℕ}
-use Rattle.argus_contents.specs.Change.{PlainChange, plain_change}
-use Rattle.argus_contents.specs.Shape.{PlainShape}
-use Rattle.argus_contents.specs.declared.query.Query.{Query}
+use Rattle.argus_contents.specs.{Change.{PlainChange, plain_change}, Shape.PlainShape, declared.query.Query.Query}
 use Rattle.argus_entries.specs.declared.call.Call.{Call}
 use Rattle.argus_entries.specs.declared.call.Call.TheVariants as call
 

@@ -1,20 +1,14 @@
 -- The tests of what is said say exactly whether it is the same.
 use Rattle.std.proofs.Common.{Bool, ap, refl, true, ◌∙◌, ◌≡◌}
-use Rattle.std.specs.Bool.{Decides, one_answer}
-use Rattle.std.specs.Cmp.{signed_Decides}
-use Rattle.std.specs.Prelude.{◌&&◌, ◌==◌, ◌↔◌}
 use Rattle.std.proofs.lemmas.Bool.{and_from, and_parts, eq-eqb, eqb-true, false≢true}
-use Rattle.argus_contents.specs.Decided.{answer_decided, change_decided, decided, shape_decided}
-use Rattle.argus_contents.specs.Same.{same_change}
+use Rattle.std.specs.{Bool.{Decides, one_answer}, Cmp.signed_Decides, Prelude.{◌&&◌, ◌==◌, ◌↔◌}}
+use Rattle.argus_contents.specs.{Decided.{answer_decided, change_decided, decided, shape_decided}, Same.same_change}
 use Rattle.argus_contents.specs.declared.query.Query.{Query}
 use Rattle.argus_contents.specs.declared.query.Query.TheVariants as query
-use Rattle.argus_entries.specs.Call.{PlainCall}
-use Rattle.argus_entries.specs.Call as call
-use Rattle.argus_entries.specs.Entry.{PlainEntry}
-use Rattle.argus_entries.specs.Reply.{PlainReply}
-use Rattle.argus_entries.specs.Reply as reply
+use Rattle.argus_entries.specs.{Call.PlainCall, Entry.PlainEntry, Reply.PlainReply, declared.refusal.Refusal.Refusal}
 use Rattle.argus_entries.specs.Same.{same_call, same_entry, same_query, same_refusal, same_reply}
-use Rattle.argus_entries.specs.declared.refusal.Refusal.{Refusal}
+use Rattle.argus_entries.specs.Call as call
+use Rattle.argus_entries.specs.Reply as reply
 use Rattle.argus_entries.specs.declared.refusal.Refusal.TheVariants as refusal
 
 -- queries that the test finds the same are equal

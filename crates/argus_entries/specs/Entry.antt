@@ -1,6 +1,5 @@
 -- What an entry says.
-use Rattle.argus_entries.specs.Call.{PlainCall, plain_call}
-use Rattle.argus_entries.specs.Reply.{PlainReply, plain_reply}
+use Rattle.argus_entries.specs.{Call.{PlainCall, plain_call}, Reply.{PlainReply, plain_reply}}
 use Rattle.argus_entries.specs.declared.entry.Entry.{Entry}
 
 -- a plain call with its plain reply

@@ -1,21 +1,15 @@
 -- The code of a plain entry, which a model whose value holds entries needs.
 use Rattle.std.specs.Coded.{Coded, code_by, coded_option, coded_ℕ, coded×}
 use Rattle.std.specs.Prelude.{None, Option, Some, if◌then◌else◌, refl, ℕ, ◌==◌, ◌≡◌}
-use Rattle.argus_contents.specs.Answer.{PlainAnswer, done}
-use Rattle.argus_contents.specs.Change.{PlainChange, touch}
-use Rattle.argus_contents.specs.Shape.{PlainShape}
-use Rattle.argus_contents.specs.ShapeCode.{shape_coded}
-use Rattle.argus_contents.specs.declared.query.Query.{Query}
+use Rattle.argus_contents.specs.{Answer.{PlainAnswer, done}, Change.{PlainChange, touch}, Shape.PlainShape}
+use Rattle.argus_contents.specs.{ShapeCode.shape_coded, declared.query.Query.Query}
 use Rattle.argus_contents.specs.declared.query.Query.TheVariants.{Whole}
-use Rattle.argus_entries.specs.Call.{PlainCall, abort, abort_others, alter, ask, begin_nested}
-use Rattle.argus_entries.specs.Call.{begin_sub, begin_top, commit, declare, test_read, test_write}
-use Rattle.argus_entries.specs.Entry.{PlainEntry}
+use Rattle.argus_entries.specs.Call.{PlainCall, abort, abort_others, alter, ask, begin_nested, begin_sub, begin_top}
+use Rattle.argus_entries.specs.{Call.{commit, declare, test_read, test_write}, Entry.PlainEntry}
 use Rattle.argus_entries.specs.OperationCode.{answer_coded, change_coded, query_coded}
-use Rattle.argus_entries.specs.Reply.{PlainReply, answered, begun, object, refused}
-use Rattle.argus_entries.specs.declared.refusal.Refusal.{Refusal}
-use Rattle.argus_entries.specs.declared.refusal.Refusal.TheVariants.{Conflict, IllTyped, NoAction}
-use Rattle.argus_entries.specs.declared.refusal.Refusal.TheVariants.{NoObject, NoSiblings, Over}
-use Rattle.argus_entries.specs.declared.refusal.Refusal.TheVariants.{Suspended, TooDeep, TooMany}
+use Rattle.argus_entries.specs.{Reply.{PlainReply, answered, begun, object, refused}, declared.refusal.Refusal.Refusal}
+use Rattle.argus_entries.specs.declared.refusal.Refusal.TheVariants.{Conflict, IllTyped, NoAction, NoObject, NoSiblings}
+use Rattle.argus_entries.specs.declared.refusal.Refusal.TheVariants.{Over, Suspended, TooDeep, TooMany}
 
 -- a refusal as it is stored: its number
 abbrev pub refusal_number : Refusal → ℕ

@@ -2,20 +2,15 @@
 -- again.
 use Rattle.std.proofs.Common.{ap, sym, ◌∙◌}
 use Rattle.std.specs.Coded.{Coded, code_by, coded_bool, coded_option, coded_ℕ, coded_ℤ, coded×}
-use Rattle.std.specs.Prelude.{Bool, None, Option, Some, false, if◌then◌else◌, pos, refl, ℕ, ℤ, ◌==◌}
-use Rattle.std.specs.Prelude.{◌≡◌}
-use Rattle.argus_contents.specs.Answer.{PlainAnswer, body, done, flag, num, signal, val}
-use Rattle.argus_contents.specs.Change.{PlainChange, addh, addl, change_tag, create, reml, remh}
-use Rattle.argus_contents.specs.Change.{set_field, set_low, store, touch, trim}
-use Rattle.argus_contents.specs.Content.{PlainContent}
-use Rattle.argus_contents.specs.ContentCode.{content_coded, seen, value_back, value_code}
-use Rattle.argus_contents.specs.Value.{PlainValue, null}
-use Rattle.argus_contents.specs.declared.query.Query.{Query}
-use Rattle.argus_contents.specs.declared.query.Query.TheVariants.{Bottom, Fetch, Field, High, IsTag}
-use Rattle.argus_contents.specs.declared.query.Query.TheVariants.{Low, Size, TagValue, Top, Whole}
-use Rattle.argus_contents.specs.declared.signal.Signal.{Signal}
-use Rattle.argus_contents.specs.declared.signal.Signal.TheVariants.{Absent, Bounds, Exists, Limits}
-use Rattle.argus_contents.specs.declared.signal.Signal.TheVariants.{NegativeSize, WrongTag}
+use Rattle.std.specs.Prelude.{Bool, None, Option, Some, false, if◌then◌else◌, pos, refl, ℕ, ℤ, ◌==◌, ◌≡◌}
+use Rattle.argus_contents.specs.{Answer.{PlainAnswer, body, done, flag, num, signal, val}, Change.{store, touch, trim}}
+use Rattle.argus_contents.specs.Change.{PlainChange, addh, addl, change_tag, create, reml, remh, set_field, set_low}
+use Rattle.argus_contents.specs.{Content.PlainContent, ContentCode.{content_coded, seen, value_back, value_code}}
+use Rattle.argus_contents.specs.{Value.{PlainValue, null}, declared.query.Query.Query, declared.signal.Signal.Signal}
+use Rattle.argus_contents.specs.declared.query.Query.TheVariants.{Bottom, Fetch, Field, High, IsTag, Low, Size}
+use Rattle.argus_contents.specs.declared.query.Query.TheVariants.{TagValue, Top, Whole}
+use Rattle.argus_contents.specs.declared.signal.Signal.TheVariants.{Absent, Bounds, Exists, Limits, NegativeSize}
+use Rattle.argus_contents.specs.declared.signal.Signal.TheVariants.{WrongTag}
 
 -- two values that are stored alike are equal
 pub value_injective : (v w : PlainValue) → value_code v ≡ value_code w → v ≡ w

@@ -1,15 +1,10 @@
 -- Tests of what is said: whether two calls, replies or entries say the same.
-use Rattle.std.specs.Prelude.{Bool, false, true, ◌&&◌, ◌==◌}
-use Rattle.std.specs.Ordering.{int_eq}
-use Rattle.argus_contents.specs.Same.{same_answer, same_change, same_shape}
-use Rattle.argus_contents.specs.declared.query.Query.{Query}
+use Rattle.std.specs.{Prelude.{Bool, false, true, ◌&&◌, ◌==◌}, Ordering.int_eq}
+use Rattle.argus_contents.specs.{Same.{same_answer, same_change, same_shape}, declared.query.Query.Query}
 use Rattle.argus_contents.specs.declared.query.Query.TheVariants as query
-use Rattle.argus_entries.specs.Call.{PlainCall}
+use Rattle.argus_entries.specs.{Call.PlainCall, Entry.PlainEntry, Reply.PlainReply, declared.refusal.Refusal.Refusal}
 use Rattle.argus_entries.specs.Call as call
-use Rattle.argus_entries.specs.Entry.{PlainEntry}
-use Rattle.argus_entries.specs.Reply.{PlainReply}
 use Rattle.argus_entries.specs.Reply as reply
-use Rattle.argus_entries.specs.declared.refusal.Refusal.{Refusal}
 use Rattle.argus_entries.specs.declared.refusal.Refusal.TheVariants as refusal
 
 -- two queries are the same

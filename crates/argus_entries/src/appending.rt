@@ -1,14 +1,10 @@
 //! Pieces of a line, each appended to a text. If memory runs out, the text has a part of the piece
 //! at its end.
 
-ghost use Rattle.std.specs.Fmt.{decimal, signed_decimal};
-ghost use Rattle.std.specs.Prelude.{◌≡◌, ◌++◌, OnOk, string_bytes};
-ghost use Rattle.argus_contents.specs.Content.{plain_content};
-ghost use Rattle.argus_contents.specs.Value.{plain_value};
-ghost use Rattle.argus_texts.specs.ContentSpelling.{content_spelling};
-ghost use Rattle.argus_texts.specs.Grown.{Grew};
-ghost use Rattle.argus_texts.specs.ShapeSpelling.{shape_spelling};
-ghost use Rattle.argus_texts.specs.Spelling.{spelling};
+ghost use Rattle.std.specs.{Fmt.{decimal, signed_decimal}, Prelude.{◌≡◌, ◌++◌, OnOk, string_bytes}};
+ghost use Rattle.argus_contents.specs.{Content.plain_content, Value.plain_value};
+ghost use Rattle.argus_texts.specs.{ContentSpelling.content_spelling, Grown.Grew};
+ghost use Rattle.argus_texts.specs.{ShapeSpelling.shape_spelling, Spelling.spelling};
 
 use argus_contents::{Content, Shape, Value};
 use argus_memory::{OutOfMemory, Room};

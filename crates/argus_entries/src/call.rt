@@ -2,9 +2,7 @@
 
 ghost use Rattle.std.specs.Prelude.{◌≡◌, ◌↔◌, true, IfOk};
 ghost use Rattle.argus_contents.specs.Decided.{said_equivalence};
-ghost use Rattle.argus_entries.specs.Call.{plain_call};
-ghost use Rattle.argus_entries.specs.Decided.{call_decided};
-ghost use Rattle.argus_entries.specs.Same.{same_call};
+ghost use Rattle.argus_entries.specs.{Call.plain_call, Decided.call_decided, Same.same_call};
 
 use argus_actions::ActionId;
 use argus_contents::{Change, ObjId, Query, Shape};

@@ -2,9 +2,7 @@
 
 ghost use Rattle.std.specs.Prelude.{◌≡◌, ◌↔◌, true, IfOk};
 ghost use Rattle.argus_contents.specs.Decided.{said_equivalence};
-ghost use Rattle.argus_entries.specs.Decided.{entry_decided};
-ghost use Rattle.argus_entries.specs.Entry.{plain_entry};
-ghost use Rattle.argus_entries.specs.Same.{same_entry};
+ghost use Rattle.argus_entries.specs.{Decided.entry_decided, Entry.plain_entry, Same.same_entry};
 
 use crate::call::{self, Call};
 use crate::reply::{self, Reply};

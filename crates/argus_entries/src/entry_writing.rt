@@ -2,12 +2,10 @@
 
 ghost use Rattle.std.specs.Prelude.{◌≡◌, ◌++◌, OnErr, OnOk, string_bytes};
 ghost use Rattle.argus_contents.specs.Answer.{plain_answer};
-ghost use Rattle.argus_entries.specs.Call.{plain_call};
-ghost use Rattle.argus_entries.specs.Entry.{plain_entry};
+ghost use Rattle.argus_entries.specs.{Call.plain_call, Entry.plain_entry, Reply.plain_reply};
 ghost use Rattle.argus_entries.specs.EntrySpelling.{answer_spelling, call_spelling, entry_spelling};
 ghost use Rattle.argus_entries.specs.EntrySpelling.{place_spelling, refusal_name, reply_spelling};
 ghost use Rattle.argus_entries.specs.EntrySpelling.{signal_spelling};
-ghost use Rattle.argus_entries.specs.Reply.{plain_reply};
 ghost use Rattle.argus_texts.specs.Grown.{Grew};
 
 use crate::appending::{

@@ -1,11 +1,8 @@
 //! `Reply`: what a call returns.
 
 ghost use Rattle.std.specs.Prelude.{◌≡◌, ◌↔◌, true, IfOk};
-ghost use Rattle.argus_contents.specs.Answer.{plain_answer};
-ghost use Rattle.argus_contents.specs.Decided.{said_equivalence};
-ghost use Rattle.argus_entries.specs.Decided.{reply_decided};
-ghost use Rattle.argus_entries.specs.Reply.{plain_reply};
-ghost use Rattle.argus_entries.specs.Same.{same_reply};
+ghost use Rattle.argus_contents.specs.{Answer.plain_answer, Decided.said_equivalence};
+ghost use Rattle.argus_entries.specs.{Decided.reply_decided, Reply.plain_reply, Same.same_reply};
 
 use crate::refusal::Refusal;
 use argus_actions::ActionId;

@@ -1,7 +1,6 @@
 -- Full chunks, end to end: how many elements they have, and which stands in a place.
-use Rattle.std.proofs.Common.{List, [], ap, arith, get_or, length, length-append, refl, slice_get, suc, zero, ℕ}
-use Rattle.std.proofs.Common.{◌*◌, ◌++◌, ◌+◌, ◌<◌, ◌∙◌, ◌∷◌, ◌≡◌, sym}
-use Rattle.std.proofs.lemmas.List.{append_assoc}
+use Rattle.std.proofs.Common.{List, [], ap, arith, get_or, length, length-append, refl, slice_get, suc, zero, ℕ, ◌*◌}
+use Rattle.std.proofs.{Common.{◌++◌, ◌+◌, ◌<◌, ◌∙◌, ◌∷◌, ◌≡◌, sym}, lemmas.List.append_assoc}
 use Rattle.std.proofs.lemmas.List.Elements.{All-head, All-tail}
 use Rattle.std.specs.List.{All, flat_map}
 use Rattle.argus_journal.specs.declared.chunks.TheConstants.{CHUNK}

@@ -1,34 +1,21 @@
 -- Whatever counts, what a legal journal leaves in an object fits its shape.
 use Rattle.std.proofs.Common.{Bool, List, None, Option, Some, [], arith, false, length, length-append, refl, subst, suc}
-use Rattle.std.proofs.Common.{sym, true, zero, ℕ, ◌++◌, ◌+◌, ◌∷◌, ◌≡◌}
-use Rattle.std.specs.List.{list_all}
-use Rattle.std.specs.Prelude.{if◌then◌else◌, map, slice_get, ◌&&◌, ◌==◌}
-use Rattle.std.proofs.lemmas.Bool.{and_parts, eqb-true}
+use Rattle.std.proofs.{Common.{sym, true, zero, ℕ, ◌++◌, ◌+◌, ◌∷◌, ◌≡◌}, lemmas.Bool.{and_parts, eqb-true}}
 use Rattle.std.proofs.lemmas.List.{length-map}
-use Rattle.argus_contents.specs.Answer.{flag}
-use Rattle.argus_contents.specs.Change.{PlainChange, outcome}
-use Rattle.argus_contents.specs.Content.{PlainContent}
-use Rattle.argus_contents.specs.Fitting.{change_suits}
+use Rattle.std.specs.{List.list_all, Prelude.{if◌then◌else◌, map, slice_get, ◌&&◌, ◌==◌}}
+use Rattle.argus_contents.specs.{Answer.flag, Change.{PlainChange, outcome}, Content.PlainContent, Fitting.change_suits}
 use Rattle.argus_contents.specs.Shape.{PlainShape}
 use Rattle.argus_entries.specs.Call.{PlainCall, abort, abort_others, alter, ask, begin_nested, begin_sub, begin_top}
-use Rattle.argus_entries.specs.Call.{commit, declare, test_read, test_write}
-use Rattle.argus_entries.specs.Entry.{PlainEntry}
-use Rattle.argus_entries.specs.Reply.{PlainReply, answered, refused}
-use Rattle.argus_entries.specs.declared.refusal.Refusal.{Refusal}
+use Rattle.argus_entries.specs.{Call.{commit, declare, test_read, test_write}, Entry.PlainEntry}
+use Rattle.argus_entries.specs.{Reply.{PlainReply, answered, refused}, declared.refusal.Refusal.Refusal}
 use Rattle.argus_entries.specs.declared.refusal.Refusal.TheVariants.{Conflict, IllTyped}
-use Rattle.argus_model.specs.Contents.{replay}
-use Rattle.argus_model.specs.Event.{Accessed}
-use Rattle.argus_model.specs.History.{History, ◌▹◌}
-use Rattle.argus_model.specs.Holders.{may_read, may_write}
+use Rattle.argus_model.specs.{Contents.replay, Event.Accessed, History.{History, ◌▹◌}, Holders.{may_read, may_write}}
 use Rattle.argus_journal.specs.Answers.{granted, if_declared, or_refused, refusal, suits, suits_change, unless}
-use Rattle.argus_journal.specs.Entries.{entries, is_write, content_after_call}
-use Rattle.argus_journal.specs.Events.{history, with_event}
-use Rattle.argus_journal.specs.Legal.{Legal}
-use Rattle.argus_journal.specs.Objects.{declared, declared_by, shape_of, shapes}
+use Rattle.argus_journal.specs.{Entries.{entries, is_write, content_after_call}, Events.{history, with_event}}
+use Rattle.argus_journal.specs.{Legal.Legal, Objects.{declared, declared_by, shape_of, shapes}}
 use Rattle.argus_journal.specs.Opening.{Opening, content_in, fits_shape, is_sound}
-use Rattle.argus_journal.proofs.Fitting.{fits_more, nothing, outcome_fits, touch_keeps}
+use Rattle.argus_journal.proofs.{Fitting.{fits_more, nothing, outcome_fits, touch_keeps}, Legal.{tested, then_event}}
 use Rattle.argus_journal.proofs.Legal.{access_none, free_none, refused_is_none, test_read_event, test_write_event}
-use Rattle.argus_journal.proofs.Legal.{tested, then_event}
 
 -- a content that fits one of the shapes still fits when more are declared
 found_still : (xs ys : List PlainShape) (n : ℕ) (o : ℕ) (c : Option PlainContent)

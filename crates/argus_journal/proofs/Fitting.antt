@@ -1,28 +1,20 @@
 -- A fitting change leaves a fitting content, and what fits still fits when more objects are declared.
-use Rattle.std.proofs.Common.{Bool, List, None, Option, Some, [], arith, drop, false, length, nat_lt, refl, suc}
-use Rattle.std.proofs.Common.{take, true, zero, ℕ, ℤ, ◌++◌, ◌-◌, ◌-ℤ◌, ◌∷◌, ◌≡◌, ◌≤◌}
-use Rattle.std.specs.Prelude.{if◌then◌else◌, slice_set, unsigned_abs}
-use Rattle.std.specs.Ordering.{int_eq}
+use Rattle.std.proofs.Common.{Bool, List, None, Option, Some, [], arith, drop, false, length, nat_lt, refl, suc, take}
+use Rattle.std.proofs.{Common.{true, zero, ℕ, ℤ, ◌++◌, ◌-◌, ◌-ℤ◌, ◌∷◌, ◌≡◌, ◌≤◌}, lemmas.Bool.Decides.nat_tests}
 use Rattle.std.proofs.lemmas.Bool.{and_from, and_parts, false≢true}
-use Rattle.std.proofs.lemmas.Bool.Decides.{nat_tests}
+use Rattle.std.specs.{Prelude.{if◌then◌else◌, slice_set, unsigned_abs}, Ordering.int_eq}
 use Rattle.argus_contents.specs.Change.{Outcome, PlainChange, addh, addl, array_outcome, change_tag, create}
 use Rattle.argus_contents.specs.Change.{is_full_high, is_full_low, is_out_of_limits, reml, remh, removed_low, outcome}
-use Rattle.argus_contents.specs.Change.{set_field, set_low, store, stored_at, touch, trim, trim_refusal}
-use Rattle.argus_contents.specs.Change.{trimmed}
-use Rattle.argus_contents.specs.Content.{KeepsLimits, PlainContent, arr, is_within, rec, var}
-use Rattle.argus_contents.specs.Fitting.{change_suits, is_fitting}
-use Rattle.argus_contents.specs.Place.{place_of}
-use Rattle.argus_contents.specs.Shape as shape
-use Rattle.argus_contents.specs.Shape.{PlainShape}
-use Rattle.argus_contents.specs.Ty as ty
-use Rattle.argus_contents.specs.Ty.{PlainFields, PlainTy}
+use Rattle.argus_contents.specs.Change.{set_field, set_low, store, stored_at, touch, trim, trim_refusal, trimmed}
+use Rattle.argus_contents.specs.{Content.{KeepsLimits, PlainContent, arr, is_within, rec, var}, Place.place_of}
+use Rattle.argus_contents.specs.{Fitting.{change_suits, is_fitting}, Shape.PlainShape, Ty.{PlainFields, PlainTy}}
 use Rattle.argus_contents.specs.Typing.{all_typed, each_typed, is_typed, is_typed_at, ty_at}
-use Rattle.argus_contents.specs.Value as value
-use Rattle.argus_contents.specs.Value.{PlainValue, PlainValues, listed}
-use Rattle.argus_contents.specs.declared.limits.TheConstants.{MAX_BOUND}
+use Rattle.argus_contents.specs.{Value.{PlainValue, PlainValues, listed}, declared.limits.TheConstants.MAX_BOUND}
 use Rattle.argus_contents.specs.declared.signal.Signal.{Signal}
-use Rattle.argus_contents.proofs.Fitted.{keeps_within, within_keeps}
-use Rattle.argus_contents.proofs.Kept.{array_keeps}
+use Rattle.argus_contents.specs.Shape as shape
+use Rattle.argus_contents.specs.Ty as ty
+use Rattle.argus_contents.specs.Value as value
+use Rattle.argus_contents.proofs.{Fitted.{keeps_within, within_keeps}, Kept.array_keeps}
 use Rattle.argus_journal.specs.Opening.{fits_shape}
 
 pub nothing : {A : Type 0} → false ≡ true → A

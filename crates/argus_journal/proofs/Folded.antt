@@ -1,29 +1,17 @@
 -- The opening that a journal is folded into.
 use Rattle.std.proofs.Common.{List, None, Option, Some, [], ap, arith, length, map, refl, subst, suc, sym, true, zero}
-use Rattle.std.proofs.Common.{ℕ, ◌++◌, ◌∙◌, ◌<◌, ◌∷◌, ◌≡◌, ◌≤◌}
-use Rattle.std.specs.List.{list_all}
-use Rattle.std.specs.Prelude.{slice_get}
-use Rattle.std.proofs.lemmas.Bool.{and_from}
-use Rattle.argus_contents.specs.Content.{PlainContent}
-use Rattle.argus_contents.specs.Shape.{PlainShape}
+use Rattle.std.proofs.{Common.{ℕ, ◌++◌, ◌∙◌, ◌<◌, ◌∷◌, ◌≡◌, ◌≤◌}, lemmas.Bool.and_from}
+use Rattle.std.specs.{List.list_all, Prelude.slice_get}
+use Rattle.argus_contents.specs.{Content.PlainContent, Shape.PlainShape}
 use Rattle.argus_entries.specs.Entry.{PlainEntry}
-use Rattle.argus_model.specs.Effects.{table}
-use Rattle.argus_model.specs.Owner.{is_base, owner}
-use Rattle.argus_model.proofs.Effects.{table-append, table_same}
-use Rattle.argus_model.proofs.Theorems.{table_is_base}
-use Rattle.argus_journal.specs.Entries.{entries}
-use Rattle.argus_journal.specs.Events.{history}
-use Rattle.argus_journal.specs.Folding.{fold, next_entry_number, with_contents}
-use Rattle.argus_journal.specs.Legal.{Legal}
-use Rattle.argus_journal.specs.Objects.{declared, shape_of, shapes}
+use Rattle.argus_model.specs.{Effects.table, Owner.{is_base, owner}}
+use Rattle.argus_model.proofs.{Effects.{table-append, table_same}, Theorems.table_is_base}
+use Rattle.argus_journal.specs.{Entries.entries, Events.history, Folding.{fold, next_entry_number, with_contents}}
+use Rattle.argus_journal.specs.{Legal.Legal, Objects.{declared, shape_of, shapes}, Opening.opening_at}
 use Rattle.argus_journal.specs.Opening.{KeepsNumbers, Opening, content_in, fits_shape, is_sound, model_opening}
-use Rattle.argus_journal.specs.Opening.{opening_at}
 use Rattle.argus_journal.specs.JournalFacts.{base_of, effects_of, next_action_number}
 use Rattle.argus_journal.specs.declared.limits.TheConstants.{MAX_FIRST_ENTRY}
-use Rattle.argus_journal.proofs.Contents.{content_fits}
-use Rattle.argus_journal.proofs.Fitting.{nothing}
-use Rattle.argus_journal.proofs.Legal.{lawful}
-use Rattle.argus_journal.proofs.Shifted.{before}
+use Rattle.argus_journal.proofs.{Contents.content_fits, Fitting.nothing, Legal.lawful, Shifted.before}
 use Rattle.argus_journal.proofs.Within.{actions_within, objects_within}
 
 pub shapes-with_contents : (f : ℕ → Option PlainContent) (xs : List PlainShape)

@@ -1,45 +1,26 @@
 -- For a legal journal, the parents, creators and ancestors by its entries are those of its history.
 use Rattle.std.proofs.Common.{Bool, List, None, Option, Some, [], ap, arith, cond, false, refl, subst, sym, true, ℕ}
-use Rattle.std.proofs.Common.{⊎_elim, ◌+◌, ◌-◌, ◌<◌, ◌∙◌, ◌∷◌, ◌≡◌, ◌≢◌}
-use Rattle.std.specs.List.{list_any}
-use Rattle.std.specs.Prelude.{not, ◌&&◌, ◌==◌, ◌||◌}
-use Rattle.std.proofs.lemmas.Bool.{cases_eq, eq-eqb, ne_eqb}
+use Rattle.std.proofs.{Common.{⊎_elim, ◌+◌, ◌-◌, ◌<◌, ◌∙◌, ◌∷◌, ◌≡◌, ◌≢◌}, lemmas.Bool.{cases_eq, eq-eqb, ne_eqb}}
 use Rattle.std.proofs.lemmas.Bool.Decides.{nat_tests}
-use Rattle.argus_contents.specs.Answer.{done, flag}
-use Rattle.argus_contents.specs.Shape.{PlainShape}
+use Rattle.std.specs.{List.list_any, Prelude.{not, ◌&&◌, ◌==◌, ◌||◌}}
+use Rattle.argus_contents.specs.{Answer.{done, flag}, Shape.PlainShape}
 use Rattle.argus_entries.specs.Call.{PlainCall, abort, abort_others, alter, ask, begin_nested, begin_sub, begin_top}
-use Rattle.argus_entries.specs.Call.{commit, declare, test_read, test_write}
-use Rattle.argus_entries.specs.Entry.{PlainEntry}
-use Rattle.argus_entries.specs.Reply.{PlainReply, answered, begun, refused}
-use Rattle.argus_entries.specs.declared.refusal.Refusal.{Refusal}
-use Rattle.argus_model.specs.Ancestors.{begun_by, is_ancestor, lineage, parent}
+use Rattle.argus_entries.specs.{Call.{commit, declare, test_read, test_write}, Entry.PlainEntry}
+use Rattle.argus_entries.specs.{Reply.{PlainReply, answered, begun, refused}, declared.refusal.Refusal.Refusal}
+use Rattle.argus_model.specs.{Ancestors.{begun_by, is_ancestor, lineage, parent}, Event.origin_parent, Numbers.contains}
 use Rattle.argus_model.specs.Event.{Aborted, Accessed, Began, Committed, Nested, Origin, Sub, Top, origin_begun_by}
-use Rattle.argus_model.specs.Event.{origin_parent}
-use Rattle.argus_model.specs.History.{History, Opened, next_action, ◌▹◌}
-use Rattle.argus_model.specs.Holders.{may_read, may_write}
-use Rattle.argus_model.specs.Numbers.{contains}
+use Rattle.argus_model.specs.{History.{History, Opened, next_action, ◌▹◌}, Holders.{may_read, may_write}}
 use Rattle.argus_model.specs.Status.{is_live}
-use Rattle.argus_model.proofs.Ancestors.{ParentsAreOlder, ancestor_le, next_pos}
-use Rattle.argus_model.proofs.Bools.{and_none}
-use Rattle.argus_model.proofs.Lawful.{lawful_orderly}
-use Rattle.argus_model.proofs.Live.{is_begun_parts}
-use Rattle.argus_model.proofs.Numbers.{any_agree}
-use Rattle.argus_model.proofs.Serial.{lineage-base}
-use Rattle.argus_model.proofs.Siblings.{live_begun}
+use Rattle.argus_model.proofs.{Ancestors.{ParentsAreOlder, ancestor_le, next_pos}, Bools.and_none, Live.is_begun_parts}
+use Rattle.argus_model.proofs.{Lawful.lawful_orderly, Numbers.any_agree, Serial.lineage-base, Siblings.live_begun}
 use Rattle.argus_model.proofs.Standing.{parents_are_older}
-use Rattle.argus_journal.specs.Answers.{granted, if_shallow, or_refused, refusal}
-use Rattle.argus_journal.specs.Entries.{entries}
-use Rattle.argus_journal.specs.Events.{history, with_event}
-use Rattle.argus_journal.specs.Legal.{Legal}
-use Rattle.argus_journal.specs.Numbering.{unless_base}
-use Rattle.argus_journal.specs.Objects.{shapes}
-use Rattle.argus_journal.specs.Opening.{Opening, model_opening}
+use Rattle.argus_journal.specs.{Answers.{granted, if_shallow, or_refused, refusal}, Entries.entries, Legal.Legal}
+use Rattle.argus_journal.specs.{Events.{history, with_event}, Numbering.unless_base, Objects.shapes}
+use Rattle.argus_journal.specs.{Opening.{Opening, model_opening}, Replaying.parent_by_entries}
 use Rattle.argus_journal.specs.Replaying.{at_parent, begins, begun_by_call, is_this_action, parent_by}
-use Rattle.argus_journal.specs.Replaying.{is_ancestor_by_entries, is_under_sibling_by_entries}
-use Rattle.argus_journal.specs.Replaying.{begun_by_entries, parent_by_entries}
+use Rattle.argus_journal.specs.Replaying.{is_ancestor_by_entries, is_under_sibling_by_entries, begun_by_entries}
 use Rattle.argus_journal.proofs.Legal.{lawful, live_none, refused_is_none, test_read_event, test_write_event, tested}
-use Rattle.argus_journal.proofs.Legal.{then_event}
-use Rattle.argus_journal.proofs.Shifted.{before, not_base, one_more, or_none, zero_not_one_more}
+use Rattle.argus_journal.proofs.{Legal.then_event, Shifted.{before, not_base, one_more, or_none, zero_not_one_more}}
 
 -- a number of the program is the one before the next action's
 pub is_last : (n a : ℕ) → 0 < n → (a + 1) ≡ n → ((n - 1) == a) ≡ true

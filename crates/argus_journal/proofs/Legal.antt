@@ -1,28 +1,19 @@
 -- What a legal journal says happened was allowed.
 use Rattle.std.proofs.Common.{Bool, List, None, Option, Some, [], cond, false, refl, subst, sym, true, ℕ, ◌+◌, ◌∷◌, ◌≡◌}
-use Rattle.std.specs.Prelude.{length, nat_lt, not, ◌&&◌, ◌==◌, ◌||◌}
 use Rattle.std.proofs.lemmas.Bool.{not-true}
-use Rattle.argus_contents.specs.Answer.{flag}
-use Rattle.argus_contents.specs.Shape.{PlainShape}
+use Rattle.std.specs.Prelude.{length, nat_lt, not, ◌&&◌, ◌==◌, ◌||◌}
+use Rattle.argus_contents.specs.{Answer.flag, Shape.PlainShape}
 use Rattle.argus_entries.specs.Call.{PlainCall, abort, abort_others, alter, ask, begin_nested, begin_sub, begin_top}
-use Rattle.argus_entries.specs.Call.{commit, declare, test_read, test_write}
-use Rattle.argus_entries.specs.Entry.{PlainEntry}
-use Rattle.argus_entries.specs.Reply.{PlainReply, answered, refused}
-use Rattle.argus_entries.specs.declared.refusal.Refusal.{Refusal}
+use Rattle.argus_entries.specs.{Call.{commit, declare, test_read, test_write}, Entry.PlainEntry}
+use Rattle.argus_entries.specs.{Reply.{PlainReply, answered, refused}, declared.refusal.Refusal.Refusal}
 use Rattle.argus_entries.specs.declared.refusal.Refusal.TheVariants.{Conflict, IllTyped, NoAction, NoObject, Over}
 use Rattle.argus_entries.specs.declared.refusal.Refusal.TheVariants.{Suspended}
-use Rattle.argus_model.specs.Event.{Accessed}
-use Rattle.argus_model.specs.History.{History, next_action, ◌▹◌}
-use Rattle.argus_model.specs.Holders.{may_read, may_write}
-use Rattle.argus_model.specs.Lawful.{Lawful}
-use Rattle.argus_model.specs.Status.{has_live_child, is_live}
+use Rattle.argus_model.specs.{Event.Accessed, History.{History, next_action, ◌▹◌}, Holders.{may_read, may_write}}
+use Rattle.argus_model.specs.{Lawful.Lawful, Status.{has_live_child, is_live}}
 use Rattle.argus_model.proofs.Live.{siblings_live}
 use Rattle.argus_journal.specs.Answers.{granted, if_declared, if_free, if_live, if_room, if_shallow, or_refused}
-use Rattle.argus_journal.specs.Answers.{refusal, suits_change, suits_query, unless}
-use Rattle.argus_journal.specs.Entries.{entries}
-use Rattle.argus_journal.specs.Events.{event_of, history, with_event}
-use Rattle.argus_journal.specs.Legal.{Legal}
-use Rattle.argus_journal.specs.Objects.{shapes}
+use Rattle.argus_journal.specs.{Answers.{refusal, suits_change, suits_query, unless}, Entries.entries, Legal.Legal}
+use Rattle.argus_journal.specs.{Events.{event_of, history, with_event}, Objects.shapes}
 use Rattle.argus_journal.specs.Opening.{Opening, model_opening}
 
 -- where nothing is refused, the test holds and the rest refuses nothing

@@ -1,11 +1,9 @@
 -- The newest of the first entries.
-use Rattle.std.proofs.Common.{List, None, Option, Some, [], ap, arith, length, map, refl, reverse, slice_get, subst, suc, sym}
-use Rattle.std.proofs.Common.{take, zero, ℕ, ◌++◌, ◌<◌, ◌∙◌, ◌∷◌, ◌≡◌}
+use Rattle.std.proofs.Common.{List, None, Option, Some, [], ap, arith, length, map, refl, reverse, slice_get, subst}
+use Rattle.std.proofs.{Common.{suc, sym, take, zero, ℕ, ◌++◌, ◌<◌, ◌∙◌, ◌∷◌, ◌≡◌}, lemmas.Option.slice_get-map}
 use Rattle.std.proofs.lemmas.List.{map-append, reverse-append}
-use Rattle.std.proofs.lemmas.Option.{slice_get-map}
 use Rattle.std.specs.Option.{option_map}
-use Rattle.argus_entries.specs.Entry.{PlainEntry, plain_entry}
-use Rattle.argus_entries.specs.declared.entry.Entry.{Entry}
+use Rattle.argus_entries.specs.{Entry.{PlainEntry, plain_entry}, declared.entry.Entry.Entry}
 use Rattle.argus_journal.specs.Journal.{IsNewest, newest_first}
 
 newest_push : (xs : List Entry) (x : Entry) → newest_first (xs ++ x ∷ []) ≡ plain_entry x ∷ newest_first xs

@@ -1,45 +1,30 @@
 -- What one more entry of a legal journal changes, by what it says happened, in the program's numbers.
 use Rattle.std.proofs.Common.{List, None, Option, Some, ap, arith, cond, refl, subst, sym, true, ℕ, ⊎_elim, ◌+◌, ◌-◌}
-use Rattle.std.proofs.Common.{◌∙◌, ◌∷◌, ◌≡◌, ◌≢◌}
+use Rattle.std.proofs.{Common.{◌∙◌, ◌∷◌, ◌≡◌, ◌≢◌}, lemmas.Bool.cases_eq}
 use Rattle.std.specs.Prelude.{Bool, filter, is_none, not, ◌&&◌, ◌==◌, ◌||◌}
-use Rattle.std.proofs.lemmas.Bool.{cases_eq}
 use Rattle.argus_contents.specs.Content.{PlainContent}
-use Rattle.argus_entries.specs.Call.{abort_others}
-use Rattle.argus_entries.specs.Entry.{PlainEntry}
-use Rattle.argus_model.specs.Ancestors.{is_ancestor, is_under, parent}
-use Rattle.argus_model.specs.Contents.{base, sees}
+use Rattle.argus_entries.specs.{Call.abort_others, Entry.PlainEntry}
+use Rattle.argus_model.specs.{Ancestors.{is_ancestor, is_under, parent}, Contents.{base, sees}, Lawful.Lawful}
 use Rattle.argus_model.specs.Event.{Aborted, Accessed, Began, Committed, Event, Nested, Origin, Sub, Top}
-use Rattle.argus_model.specs.History.{History, next_action, ◌▹◌}
-use Rattle.argus_model.specs.Holders.{readers, writers}
-use Rattle.argus_model.specs.Lawful.{Lawful}
-use Rattle.argus_model.specs.Meaning.{reads}
-use Rattle.argus_model.specs.Numbers.{contains, insert}
-use Rattle.argus_model.specs.Status.{is_live, live_siblings}
-use Rattle.argus_model.proofs.Ancestors.{next_pos}
-use Rattle.argus_model.proofs.Bools.{and_none}
-use Rattle.argus_model.proofs.Lawful.{lawful_orderly, lawful_steps}
-use Rattle.argus_model.proofs.Live.{contains_siblings, live_stands}
+use Rattle.argus_model.specs.{History.{History, next_action, ◌▹◌}, Holders.{readers, writers}, Meaning.reads}
+use Rattle.argus_model.specs.{Numbers.{contains, insert}, Status.{is_live, live_siblings}}
+use Rattle.argus_model.proofs.{Ancestors.next_pos, Bools.and_none, Lawful.{lawful_orderly, lawful_steps}}
+use Rattle.argus_model.proofs.{Live.{contains_siblings, live_stands}, Owner.base_above, Serial.guarded}
 use Rattle.argus_model.proofs.NextHolders.{holders_after_abort, holders_after_access, holders_after_begin}
-use Rattle.argus_model.proofs.NextHolders.{holders_after_commit, no_base_holder}
+use Rattle.argus_model.proofs.{NextHolders.{holders_after_commit, no_base_holder}, Standing.Orderly}
 use Rattle.argus_model.proofs.NextLive.{live_after_abort, live_after_begin, live_after_commit}
 use Rattle.argus_model.proofs.NextSees.{base_after_abort, base_after_access, base_after_begin, base_after_commit}
 use Rattle.argus_model.proofs.NextSees.{sees_after_abort, sees_after_access_other, sees_after_access_own}
 use Rattle.argus_model.proofs.NextSees.{sees_after_begin, sees_after_begin_new, sees_after_commit, sees_base}
-use Rattle.argus_model.proofs.Owner.{base_above}
-use Rattle.argus_model.proofs.Serial.{guarded}
-use Rattle.argus_model.proofs.Standing.{Orderly}
-use Rattle.argus_journal.specs.Entries.{entries, is_write, content_after_call}
+use Rattle.argus_journal.specs.{Entries.{entries, is_write, content_after_call}, Legal.Legal, JournalFacts.writers_of}
 use Rattle.argus_journal.specs.Events.{event_if, event_of, happens, history, is_answered, with_event}
-use Rattle.argus_journal.specs.Legal.{Legal}
 use Rattle.argus_journal.specs.Numbering.{all_in_history, all_in_program, unless_base}
 use Rattle.argus_journal.specs.Opening.{Opening, model_opening}
 use Rattle.argus_journal.specs.JournalFacts.{base_of, holders_inherited, is_live_in, is_parent_above, is_under_in}
-use Rattle.argus_journal.specs.JournalFacts.{live_siblings_in}
-use Rattle.argus_journal.specs.JournalFacts.{next_action_number, parent_in, readers_of, visible_to, writers_of}
-use Rattle.argus_journal.proofs.Legal.{lawful}
+use Rattle.argus_journal.specs.JournalFacts.{live_siblings_in, next_action_number, parent_in, readers_of, visible_to}
+use Rattle.argus_journal.proofs.{Legal.lawful, Shifted.{one_more, unless_base_none, unless_base_some}}
 use Rattle.argus_journal.proofs.Shifted.{NoBase, after, all_back, any-map, contains_in_program, filter_in_program}
 use Rattle.argus_journal.proofs.Shifted.{handed_in_program, insert_in_program, is_next, is_none_base, map_cond}
-use Rattle.argus_journal.proofs.Shifted.{one_more, unless_base_none, unless_base_some}
 
 pub same_history : (s : Opening) (e : PlainEntry) (j : List PlainEntry) → happens s e j ≡ None
     → history s (e ∷ j) ≡ history s j

@@ -1,52 +1,34 @@
 -- For a legal journal, the owners by its entries are those of its history.
 use Rattle.std.proofs.Common.{Bool, List, None, Option, Some, [], ap, arith, cond, false, refl, subst, sym, true, ℕ}
-use Rattle.std.proofs.Common.{⊎_elim, ◌+◌, ◌-◌, ◌<◌, ◌∙◌, ◌∷◌, ◌≡◌, ◌≢◌}
-use Rattle.std.specs.List.{list_any}
-use Rattle.std.specs.Prelude.{is_some, nat_lt, not, ◌&&◌, ◌==◌}
+use Rattle.std.proofs.{Common.{⊎_elim, ◌+◌, ◌-◌, ◌<◌, ◌∙◌, ◌∷◌, ◌≡◌, ◌≢◌}, lemmas.Bool.Decides.nat_tests}
 use Rattle.std.proofs.lemmas.Bool.{cases_Bool, cases_eq, eq-eqb, false≢true, not-true}
-use Rattle.std.proofs.lemmas.Bool.Decides.{nat_tests}
+use Rattle.std.specs.{List.list_any, Prelude.{is_some, nat_lt, not, ◌&&◌, ◌==◌}}
 use Rattle.argus_actions.specs.declared.action_id.ActionId.{ActionId}
-use Rattle.argus_contents.specs.Answer.{done, flag}
-use Rattle.argus_contents.specs.Shape.{PlainShape}
+use Rattle.argus_contents.specs.{Answer.{done, flag}, Shape.PlainShape}
 use Rattle.argus_entries.specs.Call.{PlainCall, abort, abort_others, alter, ask, begin_nested, begin_sub, begin_top}
-use Rattle.argus_entries.specs.Call.{commit, declare, test_read, test_write}
-use Rattle.argus_entries.specs.Entry.{PlainEntry}
-use Rattle.argus_entries.specs.Reply.{PlainReply, answered, begun, refused}
-use Rattle.argus_entries.specs.declared.refusal.Refusal.{Refusal}
+use Rattle.argus_entries.specs.{Call.{commit, declare, test_read, test_write}, Entry.PlainEntry}
+use Rattle.argus_entries.specs.{Reply.{PlainReply, answered, begun, refused}, declared.refusal.Refusal.Refusal}
 use Rattle.argus_entries.specs.declared.refusal.Refusal.TheVariants.{NoSiblings}
-use Rattle.argus_model.specs.Ancestors.{begun_by, is_ancestor, is_under, lineage, parent}
+use Rattle.argus_model.specs.{Ancestors.{begun_by, is_ancestor, is_under, lineage, parent}, Lawful.Lawful}
 use Rattle.argus_model.specs.Event.{Aborted, Accessed, Began, Committed, Nested, Origin, Sub, Top}
-use Rattle.argus_model.specs.History.{History, Opened, folded, next_action, ◌▹◌}
-use Rattle.argus_model.specs.Holders.{may_read, may_write}
-use Rattle.argus_model.specs.Lawful.{Lawful}
-use Rattle.argus_model.specs.Owner as model
+use Rattle.argus_model.specs.{History.{History, Opened, folded, next_action, ◌▹◌}, Holders.{may_read, may_write}}
 use Rattle.argus_model.specs.Owner.{owner, owner_up, passed_up, unless_gone}
 use Rattle.argus_model.specs.Status.{is_begun, is_live, live_siblings}
-use Rattle.argus_model.proofs.Ancestors.{next_pos}
-use Rattle.argus_model.proofs.Counting.{held_by_live}
-use Rattle.argus_model.proofs.Lawful.{lawful_orderly}
-use Rattle.argus_model.proofs.Live.{is_begun_parts}
+use Rattle.argus_model.specs.Owner as model
+use Rattle.argus_model.proofs.{Ancestors.next_pos, Counting.held_by_live, Lawful.lawful_orderly, Live.is_begun_parts}
 use Rattle.argus_model.proofs.NextLive.{new_owner, owner_after_abort, owner_after_access, owner_after_begin}
-use Rattle.argus_model.proofs.NextLive.{owner_after_commit}
-use Rattle.argus_model.proofs.Siblings.{live_begun, under_siblings}
-use Rattle.argus_model.proofs.Standing.{Orderly}
-use Rattle.argus_journal.specs.Answers.{granted, if_created, or_refused, refusal}
-use Rattle.argus_journal.specs.Entries.{entries}
-use Rattle.argus_journal.specs.Events.{event_of, history, is_answered, with_event}
-use Rattle.argus_journal.specs.Legal.{Legal}
-use Rattle.argus_journal.specs.Numbering.{unless_base}
-use Rattle.argus_journal.specs.Objects.{shapes}
-use Rattle.argus_journal.specs.Opening.{Opening, model_opening}
+use Rattle.argus_model.proofs.{NextLive.owner_after_commit, Siblings.{live_begun, under_siblings}, Standing.Orderly}
+use Rattle.argus_journal.specs.{Answers.{granted, if_created, or_refused, refusal}, Entries.entries, Legal.Legal}
+use Rattle.argus_journal.specs.{Events.{event_of, history, is_answered, with_event}, Numbering.unless_base}
+use Rattle.argus_journal.specs.{Objects.shapes, Opening.{Opening, model_opening}, declared.owner.Owner.Owner}
 use Rattle.argus_journal.specs.Replaying.{at_parent, begins, gone_if, heir, owner_next, owner_then}
-use Rattle.argus_journal.specs.Replaying.{is_ancestor_by_entries, is_under_sibling_by_entries}
-use Rattle.argus_journal.specs.Replaying.{begun_by_entries, owner_by_entries, parent_by_entries}
+use Rattle.argus_journal.specs.Replaying.{is_ancestor_by_entries, is_under_sibling_by_entries, begun_by_entries}
+use Rattle.argus_journal.specs.Replaying.{owner_by_entries, parent_by_entries}
 use Rattle.argus_journal.specs.JournalFacts.{in_program_owner, owner_in}
-use Rattle.argus_journal.specs.declared.owner.Owner.{Owner}
 use Rattle.argus_journal.specs.declared.owner.Owner.TheVariants.{Base, Folded, Gone, Held}
 use Rattle.argus_journal.proofs.Kin.{above_told, beside_told, creator_told, entry_tree, is_last, not_last, parent_told}
-use Rattle.argus_journal.proofs.Kin.{with_reply}
+use Rattle.argus_journal.proofs.{Kin.with_reply, Legal.{then_event, unless_none}}
 use Rattle.argus_journal.proofs.Legal.{free_none, lawful, refused_is_none, test_read_event, test_write_event, tested}
-use Rattle.argus_journal.proofs.Legal.{then_event, unless_none}
 use Rattle.argus_journal.proofs.Shifted.{after, before, one_more, or_none, unless_base_none, unless_base_some}
 
 -- an owner, none of an action that hasn't begun, in the words of the history

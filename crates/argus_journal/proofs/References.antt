@@ -1,25 +1,18 @@
 -- Where references occur in a content, and that each names a declared object if the content fits.
 use Rattle.std.proofs.Common.{Bool, List, None, Option, Some, [], ap, arith, false, inl, inr, length, nat_lt, refl, sym}
-use Rattle.std.proofs.Common.{true, ℕ, ⊎_elim, ◌++◌, ◌<◌, ◌∙◌, ◌∷◌, ◌≡◌}
-use Rattle.std.proofs.lemmas.Bool.{eq-eqb, eqb-true, or_cases}
-use Rattle.std.proofs.lemmas.Bool.Decides.{nat_tests}
-use Rattle.std.specs.List.{list_all}
-use Rattle.std.specs.Prelude.{◌==◌, ◌||◌}
-use Rattle.std.proofs.lemmas.Bool.{and_from, and_parts}
-use Rattle.argus_contents.specs.Content.{PlainContent, arr, rec, var}
-use Rattle.argus_contents.specs.Content.{is_within}
-use Rattle.argus_contents.specs.Fitting.{is_fitting}
-use Rattle.argus_contents.specs.Shape as shape
-use Rattle.argus_contents.specs.Shape.{PlainShape}
-use Rattle.argus_contents.specs.Ty as ty
-use Rattle.argus_contents.specs.Ty.{PlainFields, PlainTy}
-use Rattle.argus_contents.specs.Typing.{all_typed, each_typed, is_typed, ty_at}
-use Rattle.argus_contents.specs.Value as value
+use Rattle.std.proofs.{Common.{true, ℕ, ⊎_elim, ◌++◌, ◌<◌, ◌∙◌, ◌∷◌, ◌≡◌}, lemmas.Bool.Decides.nat_tests}
+use Rattle.std.proofs.lemmas.Bool.{eq-eqb, eqb-true, or_cases, and_from, and_parts}
+use Rattle.std.specs.{List.list_all, Prelude.{◌==◌, ◌||◌}}
+use Rattle.argus_contents.specs.{Content.{PlainContent, arr, rec, var, is_within}, Fitting.is_fitting, Shape.PlainShape}
+use Rattle.argus_contents.specs.{Ty.{PlainFields, PlainTy}, Typing.{all_typed, each_typed, is_typed, ty_at}}
 use Rattle.argus_contents.specs.Value.{PlainValue, PlainValues, listed}
+use Rattle.argus_contents.specs.Shape as shape
+use Rattle.argus_contents.specs.Ty as ty
+use Rattle.argus_contents.specs.Value as value
 use Rattle.argus_journal.specs.Opening.{fits_shape}
+use Rattle.argus_journal.specs.References.{IsPart, IsPartOfOne, OccursIn, all_references, references, references_in}
 use Rattle.argus_model.specs.Numbers.{contains}
 use Rattle.argus_model.proofs.Numbers.{every_at, joined, joined_cases, joined_left}
-use Rattle.argus_journal.specs.References.{IsPart, IsPartOfOne, OccursIn, all_references, references, references_in}
 use Rattle.argus_journal.proofs.Fitting.{at_type, nothing}
 
 abbrev Named : ℕ → List ℕ → Type 0

@@ -1,33 +1,21 @@
 -- What the entries leave in an object, entry by entry.
-use Rattle.std.proofs.Common.{Bool, List, None, Option, Some, [], ap, cond, false, refl, subst, sym, true}
-use Rattle.std.proofs.Common.{ℕ, ◌+◌, ◌-◌, ◌∙◌, ◌∷◌, ◌≡◌}
+use Rattle.std.proofs.Common.{Bool, List, None, Option, Some, [], ap, cond, false, refl, subst, sym, true, ℕ, ◌+◌, ◌-◌}
+use Rattle.std.proofs.Common.{◌∙◌, ◌∷◌, ◌≡◌}
 use Rattle.std.specs.Prelude.{◌&&◌, ◌==◌}
 use Rattle.argus_actions.specs.declared.action_id.ActionId.{ActionId}
 use Rattle.argus_contents.specs.Content.{KeepsLimits, PlainContent}
 use Rattle.argus_entries.specs.Call.{PlainCall, abort, abort_others, alter, ask, begin_nested, begin_sub, begin_top}
-use Rattle.argus_entries.specs.Call.{commit, declare, test_read, test_write}
-use Rattle.argus_entries.specs.Entry.{PlainEntry}
-use Rattle.argus_entries.specs.Reply.{PlainReply}
-use Rattle.argus_model.specs.Contents.{replay}
-use Rattle.argus_model.specs.Event.{Aborted, Accessed, Began, Committed, Event, Nested, Sub, Top}
-use Rattle.argus_model.specs.History.{History, ◌▹◌}
-use Rattle.argus_model.specs.Owner.{counts_for, is_base, owner}
-use Rattle.argus_model.specs.Status.{live_siblings}
-use Rattle.argus_journal.specs.Entries.{entries, is_write, content_after_call}
+use Rattle.argus_entries.specs.{Call.{commit, declare, test_read, test_write}, Entry.PlainEntry, Reply.PlainReply}
+use Rattle.argus_model.specs.{Contents.replay, Event.{Aborted, Accessed, Began, Committed, Event, Nested, Sub, Top}}
+use Rattle.argus_model.specs.{History.{History, ◌▹◌}, Owner.{counts_for, is_base, owner}, Status.live_siblings}
+use Rattle.argus_journal.specs.{Entries.{entries, is_write, content_after_call}, Legal.Legal}
 use Rattle.argus_journal.specs.Events.{event_if, event_of, history, is_answered, is_begun_reply, says_yes, with_event}
-use Rattle.argus_journal.specs.Legal.{Legal}
-use Rattle.argus_journal.specs.Objects.{declared, shape_of}
-use Rattle.argus_journal.specs.Opening.{Opening, content_in, is_sound}
+use Rattle.argus_journal.specs.{Objects.{declared, shape_of}, Opening.{Opening, content_in, is_sound}}
 use Rattle.argus_journal.specs.Replaying.{counts_with, replay_next, replayed, counts_by_entries, owner_by_entries}
-use Rattle.argus_journal.specs.Replaying.{writer_by, written_if}
-use Rattle.argus_journal.specs.JournalFacts.{base_of, visible_to}
-use Rattle.argus_journal.specs.declared.owner.Owner.{Owner}
-use Rattle.argus_journal.specs.declared.owner.Owner.TheVariants.{Base, Folded, Gone, Held}
-use Rattle.argus_journal.proofs.Contents.{content_fits}
-use Rattle.argus_journal.proofs.Fitting.{fits_keeps}
-use Rattle.argus_journal.proofs.Kin.{above_told, with_reply}
-use Rattle.argus_journal.proofs.Shifted.{before}
-use Rattle.argus_journal.proofs.OwnersByEntries.{model_owner, owner_is_told}
+use Rattle.argus_journal.specs.{Replaying.{writer_by, written_if}, JournalFacts.{base_of, visible_to}}
+use Rattle.argus_journal.specs.{declared.owner.Owner.Owner, declared.owner.Owner.TheVariants.{Base, Folded, Gone, Held}}
+use Rattle.argus_journal.proofs.{Contents.content_fits, Fitting.fits_keeps, Kin.{above_told, with_reply}}
+use Rattle.argus_journal.proofs.{Shifted.before, OwnersByEntries.{model_owner, owner_is_told}}
 
 -- one more entry
 

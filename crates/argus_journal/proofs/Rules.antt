@@ -1,12 +1,9 @@
 -- Refusals that come first don't depend on the tests after them.
 use Rattle.std.proofs.Common.{Bool, None, Option, false, refl, true, ℕ, ◌+◌, ◌≡◌}
-use Rattle.std.specs.Option.{option_or}
-use Rattle.std.specs.Prelude.{nat_lt, not}
-use Rattle.argus_entries.specs.Entry.{PlainEntry}
-use Rattle.argus_entries.specs.declared.refusal.Refusal.{Refusal}
+use Rattle.std.specs.{Option.option_or, Prelude.{nat_lt, not}}
+use Rattle.argus_entries.specs.{Entry.PlainEntry, declared.refusal.Refusal.Refusal}
 use Rattle.argus_entries.specs.declared.refusal.Refusal.TheVariants.{NoAction, Over, Suspended}
-use Rattle.argus_model.specs.History.{History, next_action}
-use Rattle.argus_model.specs.Status.{has_live_child, is_live}
+use Rattle.argus_model.specs.{History.{History, next_action}, Status.{has_live_child, is_live}}
 use Rattle.argus_journal.specs.Answers.{if_free, if_live, unless}
 
 after_two : (begun live : Bool) (rest : Option Refusal)

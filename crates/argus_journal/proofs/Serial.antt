@@ -3,23 +3,14 @@ use Rattle.std.proofs.Common.{Bool, List, None, Option, Some, [], append-nil, fa
 use Rattle.std.proofs.Common.{◌++◌, ◌+◌, ◌∷◌, ◌≡◌}
 use Rattle.argus_contents.specs.Content.{PlainContent}
 use Rattle.argus_entries.specs.Call.{PlainCall, abort, abort_others, alter, ask, begin_nested, begin_sub, begin_top}
-use Rattle.argus_entries.specs.Call.{commit, declare, test_read, test_write}
-use Rattle.argus_entries.specs.Entry.{PlainEntry}
+use Rattle.argus_entries.specs.{Call.{commit, declare, test_read, test_write}, Entry.PlainEntry}
 use Rattle.argus_entries.specs.Reply.{PlainReply, answered}
-use Rattle.argus_model.specs.Effects.{effects}
-use Rattle.argus_model.specs.Event.{Accessed, Event}
-use Rattle.argus_model.specs.History.{History, ◌▹◌}
-use Rattle.argus_model.specs.Lawful.{Lawful}
+use Rattle.argus_model.specs.{Effects.effects, Event.{Accessed, Event}, History.{History, ◌▹◌}, Lawful.Lawful}
 use Rattle.argus_model.specs.Work.{Access, IsOnRecord}
 use Rattle.argus_model.proofs.Commits.{effects_step}
-use Rattle.argus_journal.specs.Effects.{added_by}
-use Rattle.argus_journal.specs.Entries.{entries, answer_at_content}
+use Rattle.argus_journal.specs.{Effects.added_by, Entries.{entries, answer_at_content}, Events.with_event, Legal.Legal}
 use Rattle.argus_journal.specs.Events.{event_if, event_of, happens, history, is_answered, is_begun_reply, says_yes}
-use Rattle.argus_journal.specs.Events.{with_event}
-use Rattle.argus_journal.specs.Legal.{Legal}
-use Rattle.argus_journal.specs.Opening.{Opening, model_opening}
-use Rattle.argus_journal.specs.Serial.{IsAnsweredAt}
-use Rattle.argus_journal.specs.JournalFacts.{effects_of}
+use Rattle.argus_journal.specs.{Opening.{Opening, model_opening}, Serial.IsAnsweredAt, JournalFacts.effects_of}
 use Rattle.argus_journal.proofs.Legal.{lawful}
 
 -- what one more entry adds to the effects

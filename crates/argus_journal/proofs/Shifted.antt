@@ -1,16 +1,11 @@
 -- Lists of actions in the program's numbers and in the history's.
 use Rattle.std.proofs.Common.{Bool, List, None, Some, [], ap, arith, cond, false, map, refl, sym, true, ℕ, ⊎_elim, ◌++◌}
-use Rattle.std.proofs.Common.{◌+◌, ◌-◌, ◌<◌, ◌∙◌, ◌∷◌, ◌≡◌, ◌≢◌}
-use Rattle.std.specs.List.{list_any}
-use Rattle.std.specs.Prelude.{filter, is_none, nat_lt, not, ◌&&◌, ◌==◌, ◌||◌}
+use Rattle.std.proofs.{Common.{◌+◌, ◌-◌, ◌<◌, ◌∙◌, ◌∷◌, ◌≡◌, ◌≢◌}, lemmas.Bool.Decides.nat_tests}
 use Rattle.std.proofs.lemmas.Bool.{both_ways, cases_Bool, cases_eq, eq-eqb, false_from_ne_true, ne_eqb}
-use Rattle.std.proofs.lemmas.Bool.Decides.{nat_tests}
-use Rattle.argus_model.specs.Holders.{inherited}
-use Rattle.argus_model.specs.Numbers.{contains, insert, without}
-use Rattle.argus_model.proofs.NextHolders.{contains_without}
-use Rattle.argus_model.proofs.Numbers.{joined_cases}
-use Rattle.argus_journal.specs.Numbering.{all_in_history, all_in_program, unless_base}
-use Rattle.argus_journal.specs.JournalFacts.{holders_inherited}
+use Rattle.std.specs.{List.list_any, Prelude.{filter, is_none, nat_lt, not, ◌&&◌, ◌==◌, ◌||◌}}
+use Rattle.argus_model.specs.{Holders.inherited, Numbers.{contains, insert, without}}
+use Rattle.argus_model.proofs.{NextHolders.contains_without, Numbers.joined_cases}
+use Rattle.argus_journal.specs.{Numbering.{all_in_history, all_in_program, unless_base}, JournalFacts.holders_inherited}
 
 pub one_more : (x y : ℕ) → ((x + 1) == (y + 1)) ≡ (x == y)
 one_more x y = grind (arith, nat_tests)

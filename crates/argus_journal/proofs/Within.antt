@@ -1,23 +1,15 @@
 -- Objects and actions stay within the limits.
 use Rattle.std.proofs.Common.{List, None, Option, Some, [], arith, length, length-append, nat_lt, refl, subst, sym}
-use Rattle.std.proofs.Common.{true, ℕ, ◌++◌, ◌+◌, ◌-◌, ◌<◌, ◌∷◌, ◌≡◌, ◌≤◌}
-use Rattle.std.proofs.lemmas.Bool.Decides.{nat_tests}
+use Rattle.std.proofs.{Common.{true, ℕ, ◌++◌, ◌+◌, ◌-◌, ◌<◌, ◌∷◌, ◌≡◌, ◌≤◌}, lemmas.Bool.Decides.nat_tests}
 use Rattle.std.proofs.lemmas.List.{append-nil, length-map}
-use Rattle.argus_contents.specs.Shape.{PlainShape}
-use Rattle.argus_contents.specs.declared.limits.TheConstants.{MAX_ACTIONS, MAX_OBJECTS}
+use Rattle.argus_contents.specs.{Shape.PlainShape, declared.limits.TheConstants.{MAX_ACTIONS, MAX_OBJECTS}}
 use Rattle.argus_entries.specs.Call.{PlainCall, abort, abort_others, alter, ask, begin_nested, begin_sub, begin_top}
-use Rattle.argus_entries.specs.Call.{commit, declare, test_read, test_write}
-use Rattle.argus_entries.specs.Entry.{PlainEntry}
-use Rattle.argus_entries.specs.Reply.{refused}
+use Rattle.argus_entries.specs.{Call.{commit, declare, test_read, test_write}, Entry.PlainEntry, Reply.refused}
 use Rattle.argus_entries.specs.declared.refusal.Refusal.{Refusal}
 use Rattle.argus_entries.specs.declared.refusal.Refusal.TheVariants.{TooDeep, TooMany}
-use Rattle.argus_model.specs.History.{History, next_action}
-use Rattle.argus_model.specs.Holders.{may_read, may_write}
-use Rattle.argus_journal.specs.Answers.{depth, granted, if_room, if_shallow, or_refused, refusal}
-use Rattle.argus_journal.specs.Entries.{entries}
-use Rattle.argus_journal.specs.Events.{history, with_event}
-use Rattle.argus_journal.specs.Legal.{Legal}
-use Rattle.argus_journal.specs.Objects.{declared, declared_by, shapes}
+use Rattle.argus_model.specs.{History.{History, next_action}, Holders.{may_read, may_write}}
+use Rattle.argus_journal.specs.{Answers.{depth, granted, if_room, if_shallow, or_refused, refusal}, Entries.entries}
+use Rattle.argus_journal.specs.{Events.{history, with_event}, Legal.Legal, Objects.{declared, declared_by, shapes}}
 use Rattle.argus_journal.specs.Opening.{Opening}
 use Rattle.argus_journal.proofs.Legal.{live_none, refused_is_none, test_read_event, test_write_event, tested}
 use Rattle.argus_journal.proofs.Legal.{then_event, unless_none}

@@ -1,33 +1,17 @@
 -- The answer to a call after a journal: the first refusal that applies, or otherwise what it asked
 -- for.
-use Rattle.std.specs.Prelude.{Bool, List, None, Option, Some, false, length, nat_lt, not, slice_get}
-use Rattle.std.specs.Prelude.{true, ℕ, ◌-◌, ◌==◌}
-use Rattle.argus_contents.specs.Answer.{done, flag}
-use Rattle.argus_contents.specs.Change.{PlainChange, outcome}
-use Rattle.argus_contents.specs.Content.{PlainContent}
-use Rattle.argus_contents.specs.Fitting.{change_suits, query_suits}
-use Rattle.argus_contents.specs.Query.{reply}
-use Rattle.argus_contents.specs.Shape.{PlainShape}
-use Rattle.argus_contents.specs.declared.query.Query.{Query}
-use Rattle.argus_contents.specs.declared.limits.TheConstants.{MAX_ACTIONS, MAX_ACTION_DEPTH}
-use Rattle.argus_contents.specs.declared.limits.TheConstants.{MAX_OBJECTS}
-use Rattle.argus_entries.specs.Call.{PlainCall, abort, abort_others, alter, ask, begin_nested}
-use Rattle.argus_entries.specs.Call.{begin_sub, begin_top, commit, declare, test_read, test_write}
-use Rattle.argus_entries.specs.Entry.{PlainEntry}
-use Rattle.argus_entries.specs.Reply.{PlainReply, answered, begun, object, refused}
-use Rattle.argus_entries.specs.declared.refusal.Refusal.{Refusal}
-use Rattle.argus_entries.specs.declared.refusal.Refusal.TheVariants.{Conflict, IllTyped, NoAction}
-use Rattle.argus_entries.specs.declared.refusal.Refusal.TheVariants.{NoObject, NoSiblings, Over}
-use Rattle.argus_entries.specs.declared.refusal.Refusal.TheVariants.{Suspended, TooDeep, TooMany}
-use Rattle.argus_model.specs.Ancestors.{begun_by, lineage}
-use Rattle.argus_model.specs.Contents.{sees}
-use Rattle.argus_model.specs.History.{History, next_action}
-use Rattle.argus_model.specs.Holders.{may_read, may_write}
-use Rattle.argus_model.specs.Status.{has_live_child, is_live}
-use Rattle.argus_journal.specs.Entries.{entries}
-use Rattle.argus_journal.specs.Events.{history}
-use Rattle.argus_journal.specs.Numbering.{in_history, in_program}
-use Rattle.argus_journal.specs.Objects.{shapes}
+use Rattle.std.specs.Prelude.{Bool, List, None, Option, Some, false, length, nat_lt, not, slice_get, true, ℕ, ◌-◌, ◌==◌}
+use Rattle.argus_contents.specs.{Answer.{done, flag}, Change.{PlainChange, outcome}, Content.PlainContent, Query.reply}
+use Rattle.argus_contents.specs.{Fitting.{change_suits, query_suits}, Shape.PlainShape, declared.query.Query.Query}
+use Rattle.argus_contents.specs.declared.limits.TheConstants.{MAX_ACTIONS, MAX_ACTION_DEPTH, MAX_OBJECTS}
+use Rattle.argus_entries.specs.Call.{PlainCall, abort, abort_others, alter, ask, begin_nested, begin_sub, begin_top}
+use Rattle.argus_entries.specs.{Call.{commit, declare, test_read, test_write}, Entry.PlainEntry}
+use Rattle.argus_entries.specs.{Reply.{PlainReply, answered, begun, object, refused}, declared.refusal.Refusal.Refusal}
+use Rattle.argus_entries.specs.declared.refusal.Refusal.TheVariants.{Conflict, IllTyped, NoAction, NoObject, NoSiblings}
+use Rattle.argus_entries.specs.declared.refusal.Refusal.TheVariants.{Over, Suspended, TooDeep, TooMany}
+use Rattle.argus_model.specs.{Ancestors.{begun_by, lineage}, Contents.sees, History.{History, next_action}}
+use Rattle.argus_model.specs.{Holders.{may_read, may_write}, Status.{has_live_child, is_live}}
+use Rattle.argus_journal.specs.{Entries.entries, Events.history, Numbering.{in_history, in_program}, Objects.shapes}
 use Rattle.argus_journal.specs.Opening.{Opening, model_opening}
 
 -- this refusal unless the test holds, and then the rest

@@ -1,7 +1,5 @@
 -- What contracts see of `Chunks`: its entries, and room for how many more there is.
-use Rattle.std.specs.List.{flat_map}
-use Rattle.std.specs.Prelude.{List, vec_len, ℕ, ◌++◌, ◌-◌}
-use Rattle.std.specs.Vec.{vec_capacity}
+use Rattle.std.specs.{List.flat_map, Prelude.{List, vec_len, ℕ, ◌++◌, ◌-◌}, Vec.vec_capacity}
 use Rattle.argus_entries.specs.declared.entry.Entry.{Entry}
 use Rattle.argus_journal.specs.declared.chunks.Chunks.{Chunks}
 

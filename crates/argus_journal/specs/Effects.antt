@@ -2,11 +2,8 @@
 use Rattle.std.specs.Prelude.{List, None, Option, Some, [], ℕ}
 use Rattle.argus_contents.specs.Content.{PlainContent}
 use Rattle.argus_entries.specs.Entry.{PlainEntry}
-use Rattle.argus_model.specs.Effects.{added_effects}
-use Rattle.argus_model.specs.Event.{Event}
-use Rattle.argus_journal.specs.Entries.{entries}
-use Rattle.argus_journal.specs.Events.{history}
-use Rattle.argus_journal.specs.Opening.{Opening, model_opening}
+use Rattle.argus_model.specs.{Effects.added_effects, Event.Event}
+use Rattle.argus_journal.specs.{Entries.entries, Events.history, Opening.{Opening, model_opening}}
 
 -- the commit of a topaction adds what it sees in each object that it has written; everything else
 -- adds nothing

@@ -1,14 +1,10 @@
 -- What the accesses of a journal mean: the one `Meaning` of its history.
-use Rattle.std.proofs.Common.{refl, sym}
-use Rattle.std.proofs.lemmas.Bool.{false≢true}
+use Rattle.std.proofs.{Common.{refl, sym}, lemmas.Bool.false≢true}
 use Rattle.std.specs.Prelude.{Bool, Option, false, true, ◌≡◌}
-use Rattle.argus_contents.specs.Answer.{PlainAnswer, done, flag}
-use Rattle.argus_contents.specs.Change.{outcome, touch}
-use Rattle.argus_contents.specs.Content.{PlainContent}
+use Rattle.argus_contents.specs.{Answer.{PlainAnswer, done, flag}, Change.{outcome, touch}, Content.PlainContent}
 use Rattle.argus_contents.specs.Query.{reply}
-use Rattle.argus_entries.specs.Call.{PlainCall, abort, abort_others, alter, ask, begin_nested}
-use Rattle.argus_entries.specs.Call.{begin_sub, begin_top, commit, declare, test_read, test_write}
-use Rattle.argus_entries.specs.Entry.{PlainEntry}
+use Rattle.argus_entries.specs.Call.{PlainCall, abort, abort_others, alter, ask, begin_nested, begin_sub, begin_top}
+use Rattle.argus_entries.specs.{Call.{commit, declare, test_read, test_write}, Entry.PlainEntry}
 use Rattle.argus_entries.specs.Reply.{PlainReply, answered}
 use Rattle.argus_model.specs.Meaning.{Meaning}
 

@@ -1,15 +1,12 @@
 -- What the entries of a journal say happened, the newest entry first.
 use Rattle.std.specs.Prelude.{Bool, List, None, Option, Some, [], false, if◌then◌else◌, true, ◌∷◌}
 use Rattle.argus_contents.specs.Answer.{PlainAnswer, body, done, flag, num, signal, val}
-use Rattle.argus_entries.specs.Call.{PlainCall, abort, abort_others, alter, ask, begin_nested}
-use Rattle.argus_entries.specs.Call.{begin_sub, begin_top, commit, declare, test_read, test_write}
-use Rattle.argus_entries.specs.Entry.{PlainEntry}
+use Rattle.argus_entries.specs.Call.{PlainCall, abort, abort_others, alter, ask, begin_nested, begin_sub, begin_top}
+use Rattle.argus_entries.specs.{Call.{commit, declare, test_read, test_write}, Entry.PlainEntry}
 use Rattle.argus_entries.specs.Reply.{PlainReply, answered, begun, object, refused}
 use Rattle.argus_model.specs.Event.{Aborted, Accessed, Began, Committed, Event, Nested, Sub, Top}
-use Rattle.argus_model.specs.History.{History, Opened, ◌▹◌}
-use Rattle.argus_model.specs.Status.{live_siblings}
-use Rattle.argus_journal.specs.Numbering.{in_history}
-use Rattle.argus_journal.specs.Opening.{Opening}
+use Rattle.argus_model.specs.{History.{History, Opened, ◌▹◌}, Status.live_siblings}
+use Rattle.argus_journal.specs.{Numbering.in_history, Opening.Opening}
 
 -- the reply is the number of an action
 abbrev pub is_begun_reply : PlainReply → Bool

@@ -1,11 +1,8 @@
 -- A checkpoint: the entries of a journal, folded into an opening.
 use Rattle.std.specs.Prelude.{List, Option, [], length, suc, ℕ, ◌+◌, ◌∷◌}
-use Rattle.argus_contents.specs.Content.{PlainContent}
-use Rattle.argus_contents.specs.Shape.{PlainShape}
+use Rattle.argus_contents.specs.{Content.PlainContent, Shape.PlainShape}
 use Rattle.argus_entries.specs.Entry.{PlainEntry}
-use Rattle.argus_journal.specs.Objects.{shapes}
-use Rattle.argus_journal.specs.Opening.{Opening}
-use Rattle.argus_journal.specs.JournalFacts.{base_of, next_action_number}
+use Rattle.argus_journal.specs.{Objects.shapes, Opening.Opening, JournalFacts.{base_of, next_action_number}}
 
 -- objects of these shapes, each with the content that the function returns for its number
 abbrev pub with_contents : (ℕ → Option PlainContent) → List PlainShape

@@ -1,18 +1,12 @@
 -- What contracts see of a `Journal`: its opening, its entries, and room for how many more there is.
-use Rattle.std.specs.Prelude.{List, None, Option, Some, [], if◌then◌else◌, length, map, nat_lt, reverse}
-use Rattle.std.specs.Prelude.{slice_get, take, ℕ, ◌-◌, ◌∷◌, ◌≡◌, ◌≤◌}
-use Rattle.std.specs.Borrow.{Bor}
+use Rattle.std.specs.Prelude.{List, None, Option, Some, [], if◌then◌else◌, length, map, nat_lt, reverse, slice_get}
+use Rattle.std.specs.{Prelude.{take, ℕ, ◌-◌, ◌∷◌, ◌≡◌, ◌≤◌}, Borrow.Bor}
 use Rattle.argus_actions.specs.declared.action_id.ActionId.{ActionId}
-use Rattle.argus_contents.specs.Content.{PlainContent, plain_option}
-use Rattle.argus_contents.specs.Shape.{PlainShape}
+use Rattle.argus_contents.specs.{Content.{PlainContent, plain_option}, Shape.PlainShape, declared.shape.Shape.Shape}
 use Rattle.argus_contents.specs.declared.content.Content.{Content}
-use Rattle.argus_contents.specs.declared.shape.Shape.{Shape}
-use Rattle.argus_entries.specs.Entry.{PlainEntry, plain_entry}
-use Rattle.argus_entries.specs.declared.entry.Entry.{Entry}
-use Rattle.argus_journal.specs.Chunks.{chunk_room, chunked}
-use Rattle.argus_journal.specs.Legal.{Legal, Legal-prop}
-use Rattle.argus_journal.specs.Opening.{Opening, opening_with}
-use Rattle.argus_journal.specs.declared.journal.Journal.{Journal}
+use Rattle.argus_entries.specs.{Entry.{PlainEntry, plain_entry}, declared.entry.Entry.Entry}
+use Rattle.argus_journal.specs.{Chunks.{chunk_room, chunked}, Legal.{Legal, Legal-prop}}
+use Rattle.argus_journal.specs.{Opening.{Opening, opening_with}, declared.journal.Journal.Journal}
 
 -- where the journal begins
 abbrev pub opening_of : Journal → Opening

@@ -1,25 +1,15 @@
 -- What a journal says of actions and objects, in the program's numbers.
-use Rattle.std.specs.List.{list_any}
-use Rattle.std.specs.Prelude.{Bool, List, None, Option, Some, if◌then◌else◌, map, nat_lt, true, ℕ}
+use Rattle.std.specs.{List.list_any, Prelude.{Bool, List, None, Option, Some, if◌then◌else◌, map, nat_lt, true, ℕ}}
 use Rattle.argus_contents.specs.Content.{PlainContent}
 use Rattle.argus_entries.specs.Entry.{PlainEntry}
-use Rattle.argus_model.specs.Ancestors.{begun_by, is_ancestor, parent}
-use Rattle.argus_model.specs.Contents.{base}
-use Rattle.argus_model.specs.Effects.{effects, written_objects}
-use Rattle.argus_model.specs.History.{next_action}
-use Rattle.argus_model.specs.Holders.{readers, writers}
-use Rattle.argus_model.specs.Numbers.{contains, insert, without}
+use Rattle.argus_model.specs.{Ancestors.{begun_by, is_ancestor, parent}, Contents.base, History.next_action}
+use Rattle.argus_model.specs.{Effects.{effects, written_objects}, Holders.{readers, writers}, Owner.{is_base, owner}}
+use Rattle.argus_model.specs.{Numbers.{contains, insert, without}, Status.{is_live, live_siblings}}
+use Rattle.argus_model.specs.Work.{Access, accesses_by, committed_topactions, serial_order, serial_order_to, work}
 use Rattle.argus_model.specs.Owner as model
-use Rattle.argus_model.specs.Owner.{is_base, owner}
-use Rattle.argus_model.specs.Status.{is_live, live_siblings}
-use Rattle.argus_model.specs.Work.{Access, accesses_by, committed_topactions, serial_order}
-use Rattle.argus_model.specs.Work.{serial_order_to, work}
-use Rattle.argus_journal.specs.Answers.{visible_in_history}
-use Rattle.argus_journal.specs.Entries.{entries}
-use Rattle.argus_journal.specs.Events.{history}
+use Rattle.argus_journal.specs.{Answers.visible_in_history, Entries.entries, Events.history, declared.owner.Owner.Owner}
 use Rattle.argus_journal.specs.Numbering.{all_in_program, in_history, in_program, unless_base}
 use Rattle.argus_journal.specs.Opening.{Opening, model_opening}
-use Rattle.argus_journal.specs.declared.owner.Owner.{Owner}
 use Rattle.argus_journal.specs.declared.owner.Owner.TheVariants.{Base, Folded, Gone, Held}
 
 -- the number that the next action gets

@@ -1,19 +1,11 @@
 -- What contracts see of a guardian: its journal, as the opening and the entries since then.
 use Rattle.std.specs.Coded.{Coded, code_by, coded_list, coded_option, coded_ℕ, coded×}
 use Rattle.std.specs.Prelude.{List, Option, refl, ℕ, ◌∷◌}
-use Rattle.argus_contents.specs.Content.{PlainContent}
-use Rattle.argus_contents.specs.ContentCode.{content_coded}
-use Rattle.argus_contents.specs.Shape.{PlainShape}
+use Rattle.argus_contents.specs.{Content.PlainContent, ContentCode.content_coded, Shape.PlainShape}
 use Rattle.argus_contents.specs.ShapeCode.{shape_coded}
-use Rattle.argus_entries.specs.Call.{PlainCall}
-use Rattle.argus_entries.specs.Entry.{PlainEntry}
-use Rattle.argus_entries.specs.EntryCode.{entry_coded}
-use Rattle.argus_entries.specs.Reply.{PlainReply}
+use Rattle.argus_entries.specs.{Call.PlainCall, Entry.PlainEntry, EntryCode.entry_coded, Reply.PlainReply}
 use Rattle.argus_entries.specs.declared.refusal.Refusal.{Refusal}
-use Rattle.argus_journal.specs.Answers.{answer, refusal}
-use Rattle.argus_journal.specs.Events.{history}
-use Rattle.argus_journal.specs.Folding.{next_entry_number}
-use Rattle.argus_journal.specs.Objects.{shapes}
+use Rattle.argus_journal.specs.{Answers.{answer, refusal}, Events.history, Folding.next_entry_number, Objects.shapes}
 use Rattle.argus_journal.specs.Opening.{Opening}
 
 -- a journal: where it begins, and its entries, the newest first

@@ -1,10 +1,7 @@
 -- When a journal is legal.
-use Rattle.std.specs.Coded.{Coded-set, Unit-prop, ×_prop}
-use Rattle.std.specs.Prelude.{List, [], ◌∷◌, ◌≡◌}
-use Rattle.argus_entries.specs.Entry.{PlainEntry}
-use Rattle.argus_entries.specs.EntryCode.{reply_coded}
-use Rattle.argus_journal.specs.Answers.{answer}
-use Rattle.argus_journal.specs.Opening.{Opening}
+use Rattle.std.specs.{Coded.{Coded-set, Unit-prop, ×_prop}, Prelude.{List, [], ◌∷◌, ◌≡◌}}
+use Rattle.argus_entries.specs.{Entry.PlainEntry, EntryCode.reply_coded}
+use Rattle.argus_journal.specs.{Answers.answer, Opening.Opening}
 
 -- each reply is the answer of the entries before it
 abbrev pub Legal : Opening → List PlainEntry → Type 0

@@ -1,8 +1,7 @@
 -- What contracts see of a `LegalJournal`: the same as of the journal that it holds.
 use Rattle.std.specs.Prelude.{List, ℕ}
 use Rattle.argus_entries.specs.Entry.{PlainEntry}
-use Rattle.argus_journal.specs.Journal.{entries_of, opening_of, room_of}
-use Rattle.argus_journal.specs.Opening.{Opening}
+use Rattle.argus_journal.specs.{Journal.{entries_of, opening_of, room_of}, Opening.Opening}
 use Rattle.argus_journal.specs.declared.legal_journal.LegalJournal.{LegalJournal}
 
 -- where the journal begins

@@ -1,10 +1,8 @@
 -- The objects that a journal declares.
-use Rattle.std.specs.Prelude.{Bool, List, Option, [], false, if◌then◌else◌, length, map, slice_get}
-use Rattle.std.specs.Prelude.{true, ℕ, ◌++◌, ◌∷◌}
+use Rattle.std.specs.Prelude.{Bool, List, Option, [], false, if◌then◌else◌, length, map, slice_get, true, ℕ, ◌++◌, ◌∷◌}
 use Rattle.argus_contents.specs.Shape.{PlainShape}
-use Rattle.argus_entries.specs.Call.{PlainCall, abort, abort_others, alter, ask, begin_nested}
-use Rattle.argus_entries.specs.Call.{begin_sub, begin_top, commit, declare, test_read, test_write}
-use Rattle.argus_entries.specs.Entry.{PlainEntry}
+use Rattle.argus_entries.specs.Call.{PlainCall, abort, abort_others, alter, ask, begin_nested, begin_sub, begin_top}
+use Rattle.argus_entries.specs.{Call.{commit, declare, test_read, test_write}, Entry.PlainEntry}
 use Rattle.argus_entries.specs.Reply.{PlainReply, answered, begun, object, refused}
 use Rattle.argus_journal.specs.Opening.{Opening}
 

@@ -1,13 +1,8 @@
 -- Where a journal begins.
-use Rattle.std.specs.List.{list_all}
-use Rattle.std.specs.Option.{option_and_then}
-use Rattle.std.specs.Prelude.{Bool, List, None, Option, Some, [], false, length, map, slice_get}
-use Rattle.std.specs.Prelude.{true, ℕ, ◌≤◌}
-use Rattle.argus_contents.specs.Content.{PlainContent, plain_option}
-use Rattle.argus_contents.specs.Fitting.{is_fitting}
-use Rattle.argus_contents.specs.Shape.{PlainShape}
-use Rattle.argus_contents.specs.declared.content.Content.{Content}
-use Rattle.argus_contents.specs.declared.shape.Shape.{Shape}
+use Rattle.std.specs.{List.list_all, Option.option_and_then}
+use Rattle.std.specs.Prelude.{Bool, List, None, Option, Some, [], false, length, map, slice_get, true, ℕ, ◌≤◌}
+use Rattle.argus_contents.specs.{Content.{PlainContent, plain_option}, Fitting.is_fitting, Shape.PlainShape}
+use Rattle.argus_contents.specs.{declared.content.Content.Content, declared.shape.Shape.Shape}
 use Rattle.argus_contents.specs.declared.limits.TheConstants.{MAX_ACTIONS, MAX_OBJECTS}
 use Rattle.argus_model.specs.History as model
 use Rattle.argus_journal.specs.declared.limits.TheConstants.{MAX_FIRST_ENTRY}

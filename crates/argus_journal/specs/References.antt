@@ -1,7 +1,6 @@
 -- The objects that a content refers to.
 use Rattle.std.specs.Prelude.{List, None, Option, Some, [], ℕ, ◌++◌, ◌∷◌, ◌≡◌, ◌⊎◌}
-use Rattle.argus_contents.specs.Content.{PlainContent, arr, rec, var}
-use Rattle.argus_contents.specs.Value.{PlainValue, PlainValues, listed}
+use Rattle.argus_contents.specs.{Content.{PlainContent, arr, rec, var}, Value.{PlainValue, PlainValues, listed}}
 use Rattle.argus_contents.specs.Value as value
 
 abbrev mutual

@@ -1,17 +1,14 @@
 -- What the numbers in a journal's entries say, newest first. For a legal journal it is what its
 -- history says.
-use Rattle.std.specs.Prelude.{◌&&◌, Bool, List, None, Option, Some, [], false, if◌then◌else◌}
-use Rattle.std.specs.Prelude.{nat_lt, not, true, ℕ, ◌==◌, ◌||◌, ◌∷◌, ◌≡◌}
+use Rattle.std.specs.Prelude.{◌&&◌, Bool, List, None, Option, Some, [], false, if◌then◌else◌, nat_lt, not, true, ℕ}
+use Rattle.std.specs.Prelude.{◌==◌, ◌||◌, ◌∷◌, ◌≡◌}
 use Rattle.argus_actions.specs.declared.action_id.ActionId.{ActionId}
 use Rattle.argus_contents.specs.Content.{PlainContent}
-use Rattle.argus_entries.specs.Call.{PlainCall, abort, abort_others, alter, ask, begin_nested}
-use Rattle.argus_entries.specs.Call.{begin_sub, begin_top, commit, declare, test_read, test_write}
-use Rattle.argus_entries.specs.Entry.{PlainEntry}
+use Rattle.argus_entries.specs.Call.{PlainCall, abort, abort_others, alter, ask, begin_nested, begin_sub, begin_top}
+use Rattle.argus_entries.specs.{Call.{commit, declare, test_read, test_write}, Entry.PlainEntry}
 use Rattle.argus_entries.specs.Reply.{PlainReply, answered, begun, object, refused}
-use Rattle.argus_journal.specs.Entries.{content_after_call}
-use Rattle.argus_journal.specs.Events.{is_answered, says_yes}
+use Rattle.argus_journal.specs.{Entries.content_after_call, Events.{is_answered, says_yes}, declared.owner.Owner.Owner}
 use Rattle.argus_journal.specs.Opening.{Opening, content_in}
-use Rattle.argus_journal.specs.declared.owner.Owner.{Owner}
 use Rattle.argus_journal.specs.declared.owner.Owner.TheVariants.{Base, Folded, Gone, Held}
 
 -- the reply begins this action

@@ -1,12 +1,8 @@
 -- The answers of a serial run.
 use Rattle.std.specs.Prelude.{List, Option, true, ℕ, ◌≡◌}
-use Rattle.argus_contents.specs.Answer.{flag}
-use Rattle.argus_contents.specs.Change.{outcome}
-use Rattle.argus_contents.specs.Content.{PlainContent}
-use Rattle.argus_contents.specs.Query.{reply}
-use Rattle.argus_entries.specs.Call.{PlainCall, abort, abort_others, alter, ask, begin_nested}
-use Rattle.argus_entries.specs.Call.{begin_sub, begin_top, commit, declare, test_read, test_write}
-use Rattle.argus_entries.specs.Entry.{PlainEntry}
+use Rattle.argus_contents.specs.{Answer.flag, Change.outcome, Content.PlainContent, Query.reply}
+use Rattle.argus_entries.specs.Call.{PlainCall, abort, abort_others, alter, ask, begin_nested, begin_sub, begin_top}
+use Rattle.argus_entries.specs.{Call.{commit, declare, test_read, test_write}, Entry.PlainEntry}
 use Rattle.argus_entries.specs.Reply.{PlainReply, answered}
 use Rattle.argus_model.specs.Work.{Access, content_before}
 use Rattle.argus_journal.specs.Entries.{entries}

@@ -1,23 +1,15 @@
 -- Journals worked out: calls, each with the answer of the entries before it.
 use Rattle.std.specs.Prelude.{List, Option, Some, [], codes, map, pos, suc, zero, ℕ, ◌+◌, ◌∷◌}
-use Rattle.argus_contents.specs.Change.{PlainChange, addh, change_tag, create, remh, set_field}
-use Rattle.argus_contents.specs.Content.{PlainContent, arr, rec, var}
+use Rattle.argus_contents.specs.{Change.{PlainChange, addh, change_tag, create, remh, set_field}, Shape.PlainShape}
+use Rattle.argus_contents.specs.{Content.{PlainContent, arr, rec, var}, declared.limits.TheConstants.MAX_ACTIONS}
+use Rattle.argus_contents.specs.declared.query.Query.TheVariants.{Field, High, IsTag, TagValue, Whole}
 use Rattle.argus_contents.specs.Shape as shape
-use Rattle.argus_contents.specs.Shape.{PlainShape}
 use Rattle.argus_contents.specs.Ty as ty
 use Rattle.argus_contents.specs.Value as value
-use Rattle.argus_contents.specs.declared.query.Query.TheVariants.{Field, High, IsTag, TagValue}
-use Rattle.argus_contents.specs.declared.query.Query.TheVariants.{Whole}
-use Rattle.argus_contents.specs.declared.limits.TheConstants.{MAX_ACTIONS}
-use Rattle.argus_entries.specs.Call.{PlainCall, abort, alter, ask, begin_nested, begin_sub}
-use Rattle.argus_entries.specs.Call.{begin_top, commit, declare, test_write}
-use Rattle.argus_entries.specs.Entry.{PlainEntry}
-use Rattle.argus_entries.specs.Reply.{PlainReply}
-use Rattle.argus_journal.specs.Answers.{answer}
-use Rattle.argus_journal.specs.Opening.{Opening, empty}
-use Rattle.argus_journal.specs.JournalFacts.{serial_run, serial_run_to}
-use Rattle.argus_journal.specs.declared.owner.Owner.{Owner}
-use Rattle.argus_journal.specs.declared.owner.Owner.TheVariants.{Held}
+use Rattle.argus_entries.specs.Call.{PlainCall, abort, alter, ask, begin_nested, begin_sub, begin_top, commit, declare}
+use Rattle.argus_entries.specs.{Call.test_write, Entry.PlainEntry, Reply.PlainReply}
+use Rattle.argus_journal.specs.{Answers.answer, Opening.{Opening, empty}, JournalFacts.{serial_run, serial_run_to}}
+use Rattle.argus_journal.specs.{declared.owner.Owner.Owner, declared.owner.Owner.TheVariants.Held}
 
 -- the journal, with each of these calls and its answer after it
 abbrev pub then_calls : Opening → List PlainEntry → List PlainCall → List PlainEntry

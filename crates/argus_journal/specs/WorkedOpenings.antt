@@ -2,8 +2,7 @@
 use Rattle.std.specs.Prelude.{List, Some, [], ◌∷◌}
 use Rattle.argus_contents.specs.declared.query.Query.TheVariants.{Field}
 use Rattle.argus_entries.specs.Call.{PlainCall, ask, begin_nested, begin_sub, begin_top, commit}
-use Rattle.argus_journal.specs.Opening.{Opening}
-use Rattle.argus_journal.specs.Worked.{holding, number_shape}
+use Rattle.argus_journal.specs.{Opening.Opening, Worked.{holding, number_shape}}
 
 -- objects 0 and 1 hold 0, one action and six entries went before
 abbrev pub checkpointed : Opening

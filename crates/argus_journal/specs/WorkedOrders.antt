@@ -1,16 +1,14 @@
 -- Journals worked out: which refusal comes first if several apply, and calls at the limits.
 use Rattle.std.specs.Prelude.{List, [], codes, pos, ℕ, ◌-◌, ◌∷◌}
-use Rattle.argus_contents.specs.Change.{create, set_field}
-use Rattle.argus_contents.specs.Content.{arr}
+use Rattle.argus_contents.specs.{Change.{create, set_field}, Content.arr}
+use Rattle.argus_contents.specs.declared.limits.TheConstants.{MAX_ACTIONS, MAX_ACTION_DEPTH}
+use Rattle.argus_contents.specs.declared.query.Query.TheVariants.{Field, High, Size}
 use Rattle.argus_contents.specs.Shape as shape
 use Rattle.argus_contents.specs.Ty as ty
 use Rattle.argus_contents.specs.Value as value
-use Rattle.argus_contents.specs.declared.limits.TheConstants.{MAX_ACTIONS, MAX_ACTION_DEPTH}
-use Rattle.argus_contents.specs.declared.query.Query.TheVariants.{Field, High, Size}
-use Rattle.argus_entries.specs.Call.{PlainCall, abort, alter, ask, begin_nested, begin_sub}
-use Rattle.argus_entries.specs.Call.{begin_top, commit, declare, test_read, test_write}
-use Rattle.argus_journal.specs.Opening.{Opening}
-use Rattle.argus_journal.specs.Worked.{chain, set_to}
+use Rattle.argus_entries.specs.Call.{PlainCall, abort, alter, ask, begin_nested, begin_sub, begin_top, commit, declare}
+use Rattle.argus_entries.specs.Call.{test_read, test_write}
+use Rattle.argus_journal.specs.{Opening.Opening, Worked.{chain, set_to}}
 
 -- topaction 2 makes an ill-typed change of object 0, which 1 has written, and a query for arrays of
 -- it

@@ -1,8 +1,7 @@
 -- Journals worked out: an action ends its siblings.
 use Rattle.std.specs.Prelude.{List, [], ◌∷◌}
 use Rattle.argus_contents.specs.declared.query.Query.TheVariants.{Field}
-use Rattle.argus_entries.specs.Call.{PlainCall, abort_others, alter, ask, begin_nested, begin_sub}
-use Rattle.argus_entries.specs.Call.{begin_top, commit}
+use Rattle.argus_entries.specs.Call.{PlainCall, abort_others, alter, ask, begin_nested, begin_sub, begin_top, commit}
 use Rattle.argus_journal.specs.Worked.{set_to}
 
 -- under topaction 1: subaction 2, which sets object 0 and commits, subaction 3 with its subaction 5

@@ -2,14 +2,11 @@
 //! ends. If the old opening has to be sound or within the limits, the law says so: every `Journal`
 //! has such an opening.
 ghost use Rattle.std.specs.Prelude.{◌≡◌, ◌<◌, ◌≤◌, ◌++◌, [], List, Option, length, map, true, ℕ};
-ghost use Rattle.argus_contents.specs.Content.{PlainContent};
-ghost use Rattle.argus_contents.specs.Shape.{PlainShape};
+ghost use Rattle.argus_contents.specs.{Content.PlainContent, Shape.PlainShape};
 ghost use Rattle.argus_entries.specs.Entry.{PlainEntry};
-ghost use Rattle.argus_journal.specs.Folding.{fold, next_entry_number};
-ghost use Rattle.argus_journal.specs.Legal.{Legal};
-ghost use Rattle.argus_journal.specs.Objects.{shapes};
+ghost use Rattle.argus_journal.specs.{Folding.{fold, next_entry_number}, Legal.Legal};
+ghost use Rattle.argus_journal.specs.{Objects.shapes, Opening.opening_at};
 ghost use Rattle.argus_journal.specs.Opening.{KeepsNumbers, Opening, content_in, is_sound};
-ghost use Rattle.argus_journal.specs.Opening.{opening_at};
 ghost use Rattle.argus_journal.specs.JournalFacts.{base_of, effects_of, next_action_number};
 ghost use Rattle.argus_journal.specs.declared.limits.TheConstants.{MAX_FIRST_ENTRY};
 ghost use Rattle.argus_model.specs.Effects.{table};

@@ -1,12 +1,11 @@
 //! `Journal`: the calls of a guardian in order, with their replies.
 
-ghost use Rattle.std.specs.Prelude.{◌≡◌, ◌<◌, ◌≤◌, ◌+◌, ◌-◌, [], ◌∷◌, None, OnOk, length, slice_get, true};
+ghost use Rattle.std.specs.Prelude.{◌≡◌, ◌<◌, ◌≤◌, ◌+◌, ◌-◌, [], ◌∷◌, None, OnOk, length};
+ghost use Rattle.std.specs.Prelude.{slice_get, true};
 ghost use Rattle.argus_contents.specs.declared.limits.TheConstants.{MAX_ACTIONS, MAX_OBJECTS};
 ghost use Rattle.argus_entries.specs.Entry.{plain_entry};
-ghost use Rattle.argus_journal.specs.Folding.{fold, next_entry_number};
-ghost use Rattle.argus_journal.specs.Legal.{Legal};
-ghost use Rattle.argus_journal.specs.Opening.{KeepsNumbers, empty, is_sound};
-ghost use Rattle.argus_journal.specs.Opening.{opening_with};
+ghost use Rattle.argus_journal.specs.{Folding.{fold, next_entry_number}, Legal.Legal};
+ghost use Rattle.argus_journal.specs.Opening.{KeepsNumbers, empty, is_sound, opening_with};
 ghost use Rattle.argus_journal.specs.declared.limits.TheConstants.{MAX_FIRST_ENTRY};
 
 use crate::chunks::Chunks;

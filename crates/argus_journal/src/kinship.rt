@@ -3,8 +3,7 @@
 
 ghost use Rattle.std.specs.Prelude.{◌≡◌, None, Option, Some};
 ghost use Rattle.argus_actions.specs.declared.action_id.ActionId.{ActionId};
-ghost use Rattle.argus_entries.specs.Call.{plain_call};
-ghost use Rattle.argus_entries.specs.Reply.{plain_reply};
+ghost use Rattle.argus_entries.specs.{Call.plain_call, Reply.plain_reply};
 ghost use Rattle.argus_journal.specs.Journal.{HasEntries, action_number_of, first_entries_of};
 ghost use Rattle.argus_journal.specs.Replaying as by_entries;
 

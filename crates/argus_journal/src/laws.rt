@@ -1,32 +1,22 @@
 //! What holds of every legal journal, whatever its opening, in the program's numbers. If the
 //! opening has to be sound or within the limits, the law says so: every `Journal` has such an
 //! opening.
-ghost use Rattle.std.specs.Prelude.{◌≡◌, ◌<◌, ◌≤◌, ◌∷◌, ◌++◌, ◌||◌, ◌↔◌, List, Option};
-ghost use Rattle.std.specs.Prelude.{reverse, true, ℕ};
-ghost use Rattle.std.specs.List.Sorted.{IsPermutation};
+ghost use Rattle.std.specs.Prelude.{◌≡◌, ◌<◌, ◌≤◌, ◌∷◌, ◌++◌, ◌||◌, ◌↔◌, List, Option, reverse};
+ghost use Rattle.std.specs.{Prelude.{true, ℕ}, List.Sorted.IsPermutation};
 ghost use Rattle.argus_contents.specs.Content.{KeepsLimits, PlainContent};
 ghost use Rattle.argus_contents.specs.declared.limits.TheConstants.{MAX_ACTIONS, MAX_OBJECTS};
 ghost use Rattle.argus_entries.specs.Entry.{PlainEntry};
-ghost use Rattle.argus_journal.specs.Effects.{added_by};
-ghost use Rattle.argus_journal.specs.Entries.{entries};
-ghost use Rattle.argus_journal.specs.Events.{happens, history};
-ghost use Rattle.argus_journal.specs.Legal.{Legal};
-ghost use Rattle.argus_journal.specs.Objects.{declared, shape_of};
+ghost use Rattle.argus_journal.specs.{Effects.added_by, Entries.entries, Events.{happens, history}};
+ghost use Rattle.argus_journal.specs.{Legal.Legal, Objects.{declared, shape_of}, Serial.AnswersAt};
 ghost use Rattle.argus_journal.specs.Opening.{KeepsNumbers, Opening, content_in, fits_shape};
 ghost use Rattle.argus_journal.specs.Opening.{is_sound, model_opening};
 ghost use Rattle.argus_journal.specs.References.{OccursIn, references_in};
-ghost use Rattle.argus_journal.specs.Serial.{AnswersAt};
 ghost use Rattle.argus_journal.specs.JournalFacts.{accesses_for_good, base_of, effects_of};
-ghost use Rattle.argus_journal.specs.JournalFacts.{is_ancestor_in, is_live_in};
-ghost use Rattle.argus_journal.specs.JournalFacts.{next_action_number};
+ghost use Rattle.argus_journal.specs.JournalFacts.{is_ancestor_in, is_live_in, next_action_number};
 ghost use Rattle.argus_journal.specs.JournalFacts.{readers_of, visible_to, serial_run};
-ghost use Rattle.argus_journal.specs.JournalFacts.{serial_run_to};
-ghost use Rattle.argus_journal.specs.JournalFacts.{writers_of, written_by};
-ghost use Rattle.argus_model.specs.Effects.{table};
-ghost use Rattle.argus_model.specs.Lawful.{Lawful};
-ghost use Rattle.argus_model.specs.Numbers.{contains};
-ghost use Rattle.argus_model.specs.Run.{AnswersAgain, run};
-ghost use Rattle.argus_model.specs.Work.{Access, content_after};
+ghost use Rattle.argus_journal.specs.JournalFacts.{serial_run_to, writers_of, written_by};
+ghost use Rattle.argus_model.specs.{Effects.table, Lawful.Lawful, Numbers.contains};
+ghost use Rattle.argus_model.specs.{Run.{AnswersAgain, run}, Work.{Access, content_after}};
 
 /// What a legal journal says happened was allowed by the rules of nested transactions. So every law
 /// of `argus_model` holds of its history.

@@ -3,12 +3,10 @@
 ghost use Rattle.std.specs.Prelude.{◌≡◌, ◌<◌, ◌≤◌, ◌+◌, [], ◌∷◌, length, true, OnOk};
 ghost use Rattle.argus_contents.specs.declared.limits.TheConstants.{MAX_ACTIONS, MAX_OBJECTS};
 ghost use Rattle.argus_entries.specs.Entry.{plain_entry};
-ghost use Rattle.argus_journal.specs.Answers.{answer};
-ghost use Rattle.argus_journal.specs.Folding.{fold, next_entry_number};
+ghost use Rattle.argus_journal.specs.{Answers.answer, Folding.{fold, next_entry_number}};
 ghost use Rattle.argus_journal.specs.Journal.{IsLegal, IsLegal-prop, entries_of, opening_of};
-ghost use Rattle.argus_journal.specs.Legal.{Legal};
+ghost use Rattle.argus_journal.specs.{Legal.Legal, declared.limits.TheConstants.MAX_FIRST_ENTRY};
 ghost use Rattle.argus_journal.specs.Opening.{KeepsNumbers, empty, is_sound, opening_with};
-ghost use Rattle.argus_journal.specs.declared.limits.TheConstants.{MAX_FIRST_ENTRY};
 
 use crate::journal::Journal;
 use argus_contents::{Content, Shape};

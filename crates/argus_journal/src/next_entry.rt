@@ -12,22 +12,16 @@
 //! the same |
 ghost use Rattle.std.specs.Prelude.{◌≡◌, ◌≢◌, ◌&&◌, ◌||◌, ◌==◌, ◌∷◌, List, None, Some, filter};
 ghost use Rattle.std.specs.Prelude.{if◌then◌else◌, is_none, not, true, ℕ};
-ghost use Rattle.argus_entries.specs.Call.{abort_others};
-ghost use Rattle.argus_entries.specs.Entry.{PlainEntry};
-ghost use Rattle.argus_journal.specs.Entries.{is_write, content_after_call};
-ghost use Rattle.argus_journal.specs.Events.{happens, history, is_answered};
-ghost use Rattle.argus_journal.specs.Legal.{Legal};
+ghost use Rattle.argus_entries.specs.{Call.abort_others, Entry.PlainEntry};
+ghost use Rattle.argus_journal.specs.{Entries.{is_write, content_after_call}, Legal.Legal};
+ghost use Rattle.argus_journal.specs.{Events.{happens, history, is_answered}, Opening.Opening};
 ghost use Rattle.argus_journal.specs.Numbering.{all_in_history, in_history};
-ghost use Rattle.argus_journal.specs.Opening.{Opening};
 ghost use Rattle.argus_journal.specs.JournalFacts.{base_of, holders_inherited, is_live_in};
-ghost use Rattle.argus_journal.specs.JournalFacts.{is_parent_above};
-ghost use Rattle.argus_journal.specs.JournalFacts.{is_under_in};
-ghost use Rattle.argus_journal.specs.JournalFacts.{live_siblings_in, next_action_number, parent_in};
-ghost use Rattle.argus_journal.specs.JournalFacts.{readers_of};
+ghost use Rattle.argus_journal.specs.JournalFacts.{is_parent_above, is_under_in, live_siblings_in};
+ghost use Rattle.argus_journal.specs.JournalFacts.{next_action_number, parent_in, readers_of};
 ghost use Rattle.argus_journal.specs.JournalFacts.{visible_to, writers_of};
-ghost use Rattle.argus_model.specs.Event.{Aborted, Accessed, Began, Committed, Nested, Origin};
-ghost use Rattle.argus_model.specs.Event.{Sub, Top};
-ghost use Rattle.argus_model.specs.Numbers.{contains, insert};
+ghost use Rattle.argus_model.specs.Event.{Aborted, Accessed, Began, Committed, Nested, Origin, Sub};
+ghost use Rattle.argus_model.specs.{Event.Top, Numbers.{contains, insert}};
 
 /// A refused call, a declaration and a test that says no leave the history as it is.
 pub fn nothing_happens()

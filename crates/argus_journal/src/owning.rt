@@ -1,14 +1,11 @@
 //! `owner_of`: the owner of what an action did.
 
 ghost use Rattle.std.specs.Prelude.{◌≡◌, Some, false, if◌then◌else◌};
-ghost use Rattle.argus_entries.specs.Call.{plain_call};
-ghost use Rattle.argus_entries.specs.Entry.{plain_entry};
-ghost use Rattle.argus_entries.specs.Reply.{plain_reply};
+ghost use Rattle.argus_entries.specs.{Call.plain_call, Entry.plain_entry, Reply.plain_reply};
 ghost use Rattle.argus_journal.specs.Events as events;
 ghost use Rattle.argus_journal.specs.Journal.{HasEntries, entries_of, first_entries_of, opening_of};
-ghost use Rattle.argus_journal.specs.Legal.{Legal};
+ghost use Rattle.argus_journal.specs.{Legal.Legal, JournalFacts.owner_in};
 ghost use Rattle.argus_journal.specs.Replaying as by_entries;
-ghost use Rattle.argus_journal.specs.JournalFacts.{owner_in};
 
 use crate::journal::Journal;
 use crate::kinship::{begins, begun_by, is_above, is_under_sibling, parent_of};

@@ -1,31 +1,24 @@
 //! Journals worked out. Each has two records of a number, objects 0 and 1, which topaction 0 has
 //! created with 0 in them.
 ghost use Rattle.std.specs.Prelude.{◌≡◌, true, false, None, Some, [], ◌∷◌, ◌++◌, codes, map, pos};
-ghost use Rattle.argus_contents.specs.Answer.{body, done, flag, num, signal, val};
-ghost use Rattle.argus_contents.specs.Change.{create};
-ghost use Rattle.argus_contents.specs.Content.{arr, var};
-ghost use Rattle.argus_contents.specs.Value.{atomic, choice, int, text};
+ghost use Rattle.argus_contents.specs.{Answer.{body, done, flag, num, signal, val}, Change.create};
+ghost use Rattle.argus_contents.specs.{Content.{arr, var}, Value.{atomic, choice, int, text}};
 ghost use Rattle.argus_contents.specs.declared.query.Query.TheVariants.{Field};
 ghost use Rattle.argus_contents.specs.declared.signal.Signal.TheVariants.{Bounds, WrongTag};
 ghost use Rattle.argus_entries.specs.Call.{abort, alter, ask, begin_top, commit, test_read};
-ghost use Rattle.argus_entries.specs.Call.{test_write};
-ghost use Rattle.argus_entries.specs.Reply.{answered, begun, object, refused};
+ghost use Rattle.argus_entries.specs.{Call.test_write, Reply.{answered, begun, object, refused}};
 ghost use Rattle.argus_entries.specs.declared.refusal.Refusal.TheVariants.{Conflict, IllTyped};
 ghost use Rattle.argus_entries.specs.declared.refusal.Refusal.TheVariants.{NoAction, NoObject};
 ghost use Rattle.argus_entries.specs.declared.refusal.Refusal.TheVariants.{Over, Suspended};
 ghost use Rattle.argus_entries.specs.declared.refusal.Refusal.TheVariants.{TooDeep, TooMany};
-ghost use Rattle.argus_journal.specs.declared.owner.Owner.TheVariants.{Base, Gone};
-ghost use Rattle.argus_journal.specs.Opening.{empty};
+ghost use Rattle.argus_journal.specs.{declared.owner.Owner.TheVariants.{Base, Gone}, Opening.empty};
 ghost use Rattle.argus_journal.specs.JournalFacts.{base_of, committed_in, effects_of, owner_in};
-ghost use Rattle.argus_journal.specs.JournalFacts.{holders_inherited, readers_of};
-ghost use Rattle.argus_journal.specs.JournalFacts.{versions_of, writers_of};
-ghost use Rattle.argus_journal.specs.References.{references_in};
+ghost use Rattle.argus_journal.specs.JournalFacts.{holders_inherited, readers_of, versions_of};
+ghost use Rattle.argus_journal.specs.{JournalFacts.writers_of, References.references_in};
 ghost use Rattle.argus_journal.specs.Worked.{chain, full, held, holding, journal, prepared};
-ghost use Rattle.argus_journal.specs.Worked.{calls_run, replies, set_to};
-ghost use Rattle.argus_journal.specs.Worked.{all_wait, nested_outlives, reference_waits};
-ghost use Rattle.argus_journal.specs.Worked.{refused_in_turn};
-ghost use Rattle.argus_journal.specs.Worked.{signal_ends, signal_holds, sub_turns, sub_writes};
-ghost use Rattle.argus_journal.specs.Worked.{tag_changed};
+ghost use Rattle.argus_journal.specs.Worked.{calls_run, replies, set_to, all_wait, nested_outlives};
+ghost use Rattle.argus_journal.specs.Worked.{reference_waits, refused_in_turn, signal_ends};
+ghost use Rattle.argus_journal.specs.Worked.{signal_holds, sub_turns, sub_writes, tag_changed};
 ghost use Rattle.argus_journal.specs.Worked.{tag_changes, tag_refused, tests_no, turns, two_read};
 
 /// A subaction's write is undone by its abort, and what its parent had written stays.

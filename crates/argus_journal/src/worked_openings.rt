@@ -1,12 +1,10 @@
 //! Journals worked out: the past of a journal is folded into an opening, and the journal goes on
 //! from there. Objects 0 and 1 are as in `worked`.
 ghost use Rattle.std.specs.Prelude.{◌≡◌, ◌∷◌, [], None, Some, map, pos};
-ghost use Rattle.argus_contents.specs.Answer.{done, val};
-ghost use Rattle.argus_contents.specs.Value.{int};
+ghost use Rattle.argus_contents.specs.{Answer.{done, val}, Value.int};
 ghost use Rattle.argus_entries.specs.Reply.{answered, begun, refused};
 ghost use Rattle.argus_entries.specs.declared.refusal.Refusal.TheVariants.{NoAction, Over};
-ghost use Rattle.argus_journal.specs.Folding.{fold};
-ghost use Rattle.argus_journal.specs.JournalFacts.{base_of, owner_in};
+ghost use Rattle.argus_journal.specs.{Folding.fold, JournalFacts.{base_of, owner_in}};
 ghost use Rattle.argus_journal.specs.declared.owner.Owner.TheVariants.{Base, Folded};
 ghost use Rattle.argus_journal.specs.Opening.{empty};
 ghost use Rattle.argus_journal.specs.Worked.{holding, journal, prepared, replies, then_calls};

@@ -1,13 +1,10 @@
 //! Journals worked out: which refusal comes first if several apply, which locks a single query and
 //! a single test take, and calls at the limits. Objects 0 and 1 are as in `worked`.
 ghost use Rattle.std.specs.Prelude.{◌≡◌, ◌-◌, ◌∷◌, ◌++◌, [], Some, length, pos, true};
-ghost use Rattle.argus_contents.specs.Answer.{done, flag, signal, val};
-ghost use Rattle.argus_contents.specs.Shape.{PlainShape};
-ghost use Rattle.argus_contents.specs.Value.{int};
+ghost use Rattle.argus_contents.specs.{Answer.{done, flag, signal, val}, Shape.PlainShape};
+ghost use Rattle.argus_contents.specs.{Value.int, declared.limits.TheConstants.MAX_OBJECTS};
 ghost use Rattle.argus_contents.specs.declared.limits.TheConstants.{MAX_ACTIONS, MAX_ACTION_DEPTH};
-ghost use Rattle.argus_contents.specs.declared.limits.TheConstants.{MAX_OBJECTS};
-ghost use Rattle.argus_contents.specs.declared.signal.Signal.TheVariants.{Absent};
-ghost use Rattle.argus_contents.specs.Change.{create};
+ghost use Rattle.argus_contents.specs.{declared.signal.Signal.TheVariants.Absent, Change.create};
 ghost use Rattle.argus_contents.specs.declared.query.Query.TheVariants.{Field};
 ghost use Rattle.argus_entries.specs.Call.{alter, ask, declare};
 ghost use Rattle.argus_entries.specs.Reply.{answered, begun, object, refused};
@@ -16,16 +13,14 @@ ghost use Rattle.argus_entries.specs.declared.refusal.Refusal.TheVariants.{NoAct
 ghost use Rattle.argus_entries.specs.declared.refusal.Refusal.TheVariants.{Over, Suspended};
 ghost use Rattle.argus_entries.specs.declared.refusal.Refusal.TheVariants.{TooDeep, TooMany};
 ghost use Rattle.argus_journal.specs.JournalFacts.{effects_of, readers_of, versions_of};
-ghost use Rattle.argus_journal.specs.Opening.{Opening, empty};
-ghost use Rattle.argus_journal.specs.Worked.{calls_run, calls_run_to, holding, journal};
-ghost use Rattle.argus_journal.specs.Worked.{prepared, replies, set_to, then_calls};
+ghost use Rattle.argus_journal.specs.{Opening.{Opening, empty}, WorkedOrders.under_the_deepest};
+ghost use Rattle.argus_journal.specs.Worked.{calls_run, calls_run_to, holding, journal, prepared};
+ghost use Rattle.argus_journal.specs.Worked.{replies, set_to, then_calls};
 ghost use Rattle.argus_journal.specs.WorkedOrders.{a_live_subaction, a_reader};
-ghost use Rattle.argus_journal.specs.WorkedOrders.{a_signalled_question};
-ghost use Rattle.argus_journal.specs.WorkedOrders.{a_test_below_a_write, going_on_at};
-ghost use Rattle.argus_journal.specs.WorkedOrders.{ill_typed_and_held, over_and_suspended};
-ghost use Rattle.argus_journal.specs.WorkedOrders.{suspended_and_undeclared, tests_in_order};
-ghost use Rattle.argus_journal.specs.WorkedOrders.{the_last_action, the_last_chain};
-ghost use Rattle.argus_journal.specs.WorkedOrders.{under_the_deepest};
+ghost use Rattle.argus_journal.specs.WorkedOrders.{a_signalled_question, a_test_below_a_write};
+ghost use Rattle.argus_journal.specs.WorkedOrders.{going_on_at, ill_typed_and_held};
+ghost use Rattle.argus_journal.specs.WorkedOrders.{over_and_suspended, suspended_and_undeclared};
+ghost use Rattle.argus_journal.specs.WorkedOrders.{tests_in_order, the_last_action, the_last_chain};
 
 /// A change that doesn't suit the object's shape is refused for that, whoever holds the object; so
 /// is a query for another kind of object.

@@ -1,14 +1,12 @@
 //! Journals worked out: an action ends all its live siblings in one step. Objects 0 and 1 are as in
 //! `worked`.
 ghost use Rattle.std.specs.Prelude.{◌≡◌, ◌∷◌, ◌++◌, [], Some, false, map, pos, true};
-ghost use Rattle.argus_contents.specs.Answer.{done, val};
-ghost use Rattle.argus_contents.specs.Value.{int};
+ghost use Rattle.argus_contents.specs.{Answer.{done, val}, Value.int};
 ghost use Rattle.argus_entries.specs.Reply.{answered, begun, refused};
 ghost use Rattle.argus_entries.specs.declared.refusal.Refusal.TheVariants.{NoAction, NoSiblings};
 ghost use Rattle.argus_entries.specs.declared.refusal.Refusal.TheVariants.{Over, Suspended};
 ghost use Rattle.argus_journal.specs.JournalFacts.{base_of, is_live_in, owner_in, versions_of};
-ghost use Rattle.argus_journal.specs.declared.owner.Owner.TheVariants.{Gone};
-ghost use Rattle.argus_journal.specs.Opening.{empty};
+ghost use Rattle.argus_journal.specs.{declared.owner.Owner.TheVariants.Gone, Opening.empty};
 ghost use Rattle.argus_journal.specs.Worked.{held, holding, journal, prepared, replies};
 ghost use Rattle.argus_journal.specs.WorkedSiblings.{a_nested_one_ends_others, afterwards};
 ghost use Rattle.argus_journal.specs.WorkedSiblings.{both_kinds_end, none_is_left, others_end};

@@ -2,8 +2,7 @@
 use Rattle.std.proofs.Common.{◌≡◌, ◌≢◌, ℕ, ◌+◌, ◌<◌, ◌≤◌, ◌==◌, true, false, cond, List, [], ◌∷◌, ◌++◌, length, take}
 use Rattle.std.proofs.Common.{drop, get_or, reverse, refl, sym, ◌∙◌, ap, subst, append_assoc, add-one, drop-cons, arith}
 use Rattle.std.proofs.lemmas.List.{take_more, reverse-append, reverse-reverse, append-nil}
-use Rattle.std.proofs.Math.Seq.{take-length, drop-length}
-use Rattle.std.proofs.lemmas.Bool.Decides.{nat_tests}
+use Rattle.std.proofs.{Math.Seq.{take-length, drop-length}, lemmas.Bool.Decides.nat_tests}
 use Rattle.argus_language.specs.Lines.{onto, lines_of, is_blank, word, behind_word, behind_blanks, before_blanks}
 
 -- bytes in front of the first line

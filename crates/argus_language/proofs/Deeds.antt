@@ -1,25 +1,17 @@
 -- A line spells one deed: operations of queries and changes, read back.
 use Rattle.std.proofs.Common.{◌≡◌, ℕ, List, [], ◌++◌, Option, Some, None, refl, sym, ◌∙◌, ap}
 use Rattle.std.specs.Option.{option_map}
-use Rattle.argus_contents.specs.Change.{PlainChange}
-use Rattle.argus_contents.specs.Change as change
-use Rattle.argus_contents.specs.Content.{PlainContent}
-use Rattle.argus_contents.specs.Value.{PlainValue}
+use Rattle.argus_contents.specs.{Change.PlainChange, Content.PlainContent, Value.PlainValue, declared.query.Query.Query}
 use Rattle.argus_contents.specs.declared.limits.TheConstants.{MAX_VALUE_DEPTH}
-use Rattle.argus_contents.specs.declared.query.Query.{Query}
+use Rattle.argus_contents.specs.Change as change
 use Rattle.argus_contents.specs.declared.query.Query.TheVariants as query
-use Rattle.argus_texts.specs.Spelling.{Within, spelling}
-use Rattle.argus_texts.specs.ContentSpelling.{PartsWithin, content_spelling}
-use Rattle.argus_texts.proofs.Contents.{one_content}
-use Rattle.argus_texts.proofs.Forms.{one_form, value_ends}
-use Rattle.argus_language.specs.Operation.{Operation}
-use Rattle.argus_language.specs.Operation.{of_any, of_record, of_array, of_variant}
+use Rattle.argus_texts.specs.{Spelling.{Within, spelling}, ContentSpelling.{PartsWithin, content_spelling}}
+use Rattle.argus_texts.proofs.{Contents.one_content, Forms.{one_form, value_ends}}
+use Rattle.argus_language.specs.{Operation.{Operation, of_any, of_record, of_array, of_variant}, PlainStep.SimpleStep}
+use Rattle.argus_language.specs.{Spelled.{change_words, query_words, sentence}, Placement.{HasForm, IsReadable}}
 use Rattle.argus_language.specs.Operation as op
-use Rattle.argus_language.specs.PlainStep.{SimpleStep}
 use Rattle.argus_language.specs.PlainStep as part
-use Rattle.argus_language.specs.Spelled.{change_words, query_words, sentence}
 use Rattle.argus_language.specs.Spelled as line
-use Rattle.argus_language.specs.Placement.{HasForm, IsReadable}
 
 -- the query that an operation is
 query-of : Operation ℕ → Option Query

@@ -1,20 +1,13 @@
 -- The end of a script: no line is left.
 use Rattle.std.proofs.Common.{◌≡◌, ℕ, ◌≤◌, List, [], ◌∷◌, length, take, drop, flat_map, Some, Result, Ok, Err, IfOk}
-use Rattle.std.proofs.Common.{IfErr, OnOk, refl, sym, ◌∙◌, ap, subst, arith, inr}
-use Rattle.std.proofs.lemmas.List.{append-nil}
+use Rattle.std.proofs.{Common.{IfErr, OnOk, refl, sym, ◌∙◌, ap, subst, arith, inr}, lemmas.List.append-nil}
 use Rattle.argus_language.specs.Fault.{FineBefore, IsFaultOf, NoFault, Position, Unclosed, position_behind}
-use Rattle.argus_language.specs.Lines.{lines_of}
-use Rattle.argus_language.specs.Numbered.{sentences_of}
-use Rattle.argus_language.specs.Objects.{PlainObjects, no_objects, with_more}
-use Rattle.argus_language.specs.Parsed.{IsUnclosedAt, OnScriptFault, innermost_line}
-use Rattle.argus_language.specs.Reading.{IsSound, lines_so_far}
-use Rattle.argus_language.specs.Script.{Declares, Spells, plain_script}
-use Rattle.argus_language.specs.declared.level.Level.{Level}
-use Rattle.argus_language.specs.declared.open_block.OpenBlock.{OpenBlock}
-use Rattle.argus_language.specs.declared.parse_error.ParseError.{ParseError}
+use Rattle.argus_language.specs.{Lines.lines_of, Numbered.sentences_of, Objects.{PlainObjects, no_objects, with_more}}
+use Rattle.argus_language.specs.{Parsed.{IsUnclosedAt, OnScriptFault, innermost_line}, Reading.{IsSound, lines_so_far}}
+use Rattle.argus_language.specs.{Script.{Declares, Spells, plain_script}, declared.level.Level.Level}
+use Rattle.argus_language.specs.{declared.open_block.OpenBlock.OpenBlock, declared.parse_error.ParseError.ParseError}
+use Rattle.argus_language.specs.{declared.script.Script.Script, declared.step.Step.Step}
 use Rattle.argus_language.specs.declared.parse_error.ParseError.TheVariants as error
-use Rattle.argus_language.specs.declared.script.Script.{Script}
-use Rattle.argus_language.specs.declared.step.Step.{Step}
 use Rattle.argus_language.proofs.Faults.{ToldOf, all-taken, fine-all}
 
 pub no_lines : (bs : List ℕ) → length bs ≤ 0 → lines_of bs ≡ []

@@ -1,22 +1,15 @@
 -- One more line of a script.
 use Rattle.std.proofs.Common.{◌≡◌, ℕ, ◌+◌, ◌<◌, List, [], ◌∷◌, ◌++◌, length, map, take, drop, get_or, slice_get, Some}
 use Rattle.std.proofs.Common.{refl, sym, ◌∙◌, ap, subst, arith, below_more, flat_map, add-one, drop-cons, length-drop}
-use Rattle.std.proofs.Common.{inl, None, append_assoc, take-append-drop}
-use Rattle.std.proofs.lemmas.List.{take_more, append-nil, take_all}
-use Rattle.std.proofs.lemmas.Option.{slice_get-get_or}
-use Rattle.std.proofs.lemmas.Grind.{fold-append, flat_map-append}
+use Rattle.std.proofs.{Common.{inl, None, append_assoc, take-append-drop}, lemmas.Option.slice_get-get_or}
+use Rattle.std.proofs.{lemmas.List.{take_more, append-nil, take_all}, lemmas.Grind.{fold-append, flat_map-append}}
 use Rattle.argus_texts.specs.ShapeSpelling.{shape_spelling}
-use Rattle.argus_language.specs.Command.{command_of}
+use Rattle.argus_language.specs.{Command.command_of, Fault.{position_after, position_at, position_behind}}
 use Rattle.argus_language.specs.Fault.{FineAt, FineBefore, HasFault, IsFine, IsFaultOf, Position, name_fault}
-use Rattle.argus_language.specs.Fault.{position_after, position_at, position_behind}
-use Rattle.argus_language.specs.Levels.{levels_after}
-use Rattle.argus_language.specs.Lines.{line_text}
-use Rattle.argus_language.specs.Numbered.{sentences_of}
-use Rattle.argus_language.specs.Objects.{AllMakeable, PlainObjects, with_more}
+use Rattle.argus_language.specs.{Levels.levels_after, Lines.line_text, Numbered.sentences_of, Spelled.Sentence}
+use Rattle.argus_language.specs.{Objects.{AllMakeable, PlainObjects, with_more}, declared.level.Level.Level}
 use Rattle.argus_language.specs.Script.{Declares, name_declared, shape_declared}
-use Rattle.argus_language.specs.Spelled.{Sentence}
 use Rattle.argus_language.specs.declared.fault_kind.FaultKind.{FaultKind}
-use Rattle.argus_language.specs.declared.level.Level.{Level}
 use Rattle.argus_language.proofs.Numbers.{told-grows}
 
 -- the line at i, where the lines from i on begin with it

@@ -1,27 +1,19 @@
 -- The fault of a script by its levels is the one by its unmatched opening lines.
 use Rattle.std.proofs.Common.{◌≡◌, ◌↔◌, ℕ, zero, suc, ◌+◌, ◌<◌, ◌≤◌, ◌⊎◌, inl, inr, Bool, true, false, cond, List, []}
-use Rattle.std.proofs.Common.{◌∷◌, length, take, get_or, sum_by, Some, None, refl, sym, ◌∙◌}
-use Rattle.std.proofs.Common.{ap, subst, arith, add-one}
-use Rattle.std.proofs.lemmas.List.{take_more, take_all}
-use Rattle.std.proofs.lemmas.List.Sums.{sum_by_more}
+use Rattle.std.proofs.Common.{◌∷◌, length, take, get_or, sum_by, Some, None, refl, sym, ◌∙◌, ap, subst, arith, add-one}
+use Rattle.std.proofs.{lemmas.List.{take_more, take_all}, lemmas.List.Sums.sum_by_more}
 use Rattle.std.proofs.lemmas.Option.{get_or_from_slice_get, slice_get-get_or, slice_get_within}
-use Rattle.argus_language.specs.Command.{command_of}
-use Rattle.argus_language.specs.Fault.{FineAt, FineBefore, FirstFault, HasFault, HasWordFault, IsFaultOf}
-use Rattle.argus_language.specs.Fault.{NoFault, Unclosed, WordsAreFine, is_bad, is_past_limits, line_fault}
-use Rattle.argus_language.specs.Fault.{position_at, position_behind}
+use Rattle.argus_language.specs.{Command.command_of, Fault.position_behind, FaultyLines.{fault_at, is_past_limits_at}}
+use Rattle.argus_language.specs.Fault.{FineAt, FineBefore, FirstFault, HasFault, HasWordFault, IsFaultOf, NoFault}
+use Rattle.argus_language.specs.Fault.{Unclosed, WordsAreFine, is_bad, is_past_limits, line_fault, position_at}
 use Rattle.argus_language.specs.FaultyLines.{AreFineLines, HasNoFaultyLine, IsFaultyLine, IsFineLine, IsFirstFaultyLine}
-use Rattle.argus_language.specs.FaultyLines.{fault_at, is_past_limits_at}
-use Rattle.argus_language.specs.Laws.{LevelsTellUnmatchedLines}
-use Rattle.argus_language.specs.Levels.{depth_of, levels_after, may_follow}
-use Rattle.argus_language.specs.Lines.{line_text}
-use Rattle.argus_language.specs.OpeningLines.{command_at, has_arm, may_stand_at, unmatched}
-use Rattle.argus_language.specs.declared.fault_kind.FaultKind.{FaultKind}
-use Rattle.argus_language.specs.declared.fault_kind.FaultKind.TheVariants as kind
-use Rattle.argus_language.specs.declared.level.Level.{Level}
+use Rattle.argus_language.specs.{Laws.LevelsTellUnmatchedLines, Levels.{depth_of, levels_after, may_follow}}
+use Rattle.argus_language.specs.{Lines.line_text, OpeningLines.{command_at, has_arm, may_stand_at, unmatched}}
+use Rattle.argus_language.specs.{declared.fault_kind.FaultKind.FaultKind, declared.level.Level.Level}
 use Rattle.argus_language.specs.declared.script_fault.ScriptFault.{ScriptFault}
-use Rattle.argus_language.proofs.Faults.{position-more}
+use Rattle.argus_language.specs.declared.fault_kind.FaultKind.TheVariants as kind
+use Rattle.argus_language.proofs.{Faults.position-more, OpeningLines.{may_same, opened_front}}
 use Rattle.argus_language.proofs.OpeningLines.{AreNested, IsFront, are_nested, depth_same, levels_by, levels_more}
-use Rattle.argus_language.proofs.OpeningLines.{may_same, opened_front}
 
 -- the last test of three
 last-test : {A : Type 0} (a b c : Bool) (x y z : A) → cond a (Some x) (cond b (Some y) (cond c None (Some z))) ≡ None

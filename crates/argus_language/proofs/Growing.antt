@@ -1,27 +1,21 @@
 -- Steps and blocks of a script that is being read, with one more or one less.
-use Rattle.std.proofs.Common.{◌≡◌, Bool, true, cond, List, [], ◌∷◌, ◌++◌, flat_map, map, reverse, Vec, refl, sym}
-use Rattle.std.proofs.Common.{◌∙◌, ap, subst, append_assoc, rules, arith, zero, suc, Result, Ok, Err, OnOk}
-use Rattle.std.specs.List.{All}
-use Rattle.std.proofs.lemmas.List.Elements.{All-append}
-use Rattle.std.proofs.lemmas.Grind.{flat_map-append}
+use Rattle.std.proofs.Common.{◌≡◌, Bool, true, cond, List, [], ◌∷◌, ◌++◌, flat_map, map, reverse, Vec, refl, sym, ◌∙◌}
+use Rattle.std.proofs.Common.{ap, subst, append_assoc, rules, arith, zero, suc, Result, Ok, Err, OnOk}
+use Rattle.std.proofs.{lemmas.List.Elements.All-append, lemmas.Grind.flat_map-append}
 use Rattle.std.proofs.lemmas.List.{append-nil, reverse-append}
+use Rattle.std.specs.{List.All, declared.alloc.Global.Global}
 use Rattle.argus_memory.specs.declared.limited.Limited.{Limited}
-use Rattle.std.specs.declared.alloc.Global.{Global}
-use Rattle.argus_language.specs.Levels.{behind_arm, is_arm, place_of}
-use Rattle.argus_contents.specs.Shape.{PlainShape}
-use Rattle.argus_texts.specs.ShapeSpelling.{IsMakeable}
-use Rattle.argus_language.specs.Objects.{AllMakeable, PlainObjects}
-use Rattle.argus_language.specs.PlainStep.{block, plain_step, plain_steps}
+use Rattle.argus_language.specs.{Levels.{behind_arm, is_arm, place_of}, Objects.{AllMakeable, PlainObjects}}
+use Rattle.argus_language.specs.{PlainStep.{block, plain_step, plain_steps}, declared.open_block.OpenBlock.OpenBlock}
 use Rattle.argus_language.specs.Reading.{AllBegan, IsSound, closing_at, front, is_arm_line, levels_of, lines_so_far}
 use Rattle.argus_language.specs.Spelled.{Sentence, begin, closing, lines_of_part, lines_of_parts}
+use Rattle.argus_language.specs.{Placement.{AllMayStand, MayStand, may_begin, place_in}, declared.place.Place.Place}
+use Rattle.argus_language.specs.{declared.block_kind.BlockKind.BlockKind, declared.step.Step.Step}
+use Rattle.argus_contents.specs.Shape.{PlainShape}
+use Rattle.argus_texts.specs.ShapeSpelling.{IsMakeable}
 use Rattle.argus_language.specs.Spelled as sentence
-use Rattle.argus_language.specs.Placement.{AllMayStand, MayStand, may_begin, place_in}
-use Rattle.argus_language.specs.declared.open_block.OpenBlock.{OpenBlock}
-use Rattle.argus_language.specs.declared.block_kind.BlockKind.{BlockKind}
 use Rattle.argus_language.specs.declared.block_kind.BlockKind.TheVariants as opening
-use Rattle.argus_language.specs.declared.place.Place.{Place}
 use Rattle.argus_language.specs.declared.place.Place.TheVariants as place
-use Rattle.argus_language.specs.declared.step.Step.{Step}
 use Rattle.argus_language.specs.declared.step.Step as S
 
 pub steps-push : (xs : List Step) (x : Step)

@@ -1,19 +1,12 @@
 -- Objects by name, as the map of their numbers finds them.
 use denote.Ref.{Bor}
-use Rattle.std.proofs.Common.{◌≡◌, ℕ, ◌+◌, ◌<◌, Bool, true, false, cond, List, [], ◌∷◌, ◌++◌, length}
-use Rattle.std.proofs.Common.{Option, Some, None, refl, sym, ◌∙◌, ap, arith}
-use Rattle.std.proofs.Common.{length-append}
-use Rattle.std.proofs.lemmas.Cmp.{nat_list_eq_equiv}
-use Rattle.std.proofs.lemmas.Map.Text.{btree_map_updates_str}
-use Rattle.std.proofs.lemmas.Slice.Eq.{bytes_eq-Decides}
-use Rattle.std.specs.BTreeMap.{BTreeMap, UpdatesBy}
-use Rattle.std.specs.Cmp.Lexicographic.{slice_cmp}
-use Rattle.std.specs.List.{position_from}
-use Rattle.std.specs.Ordering.{nat_cmp}
+use Rattle.std.proofs.Common.{◌≡◌, ℕ, ◌+◌, ◌<◌, Bool, true, false, cond, List, [], ◌∷◌, ◌++◌, length, Option, Some}
+use Rattle.std.proofs.{Common.{None, refl, sym, ◌∙◌, ap, arith, length-append}, lemmas.Cmp.nat_list_eq_equiv}
+use Rattle.std.proofs.{lemmas.Map.Text.btree_map_updates_str, lemmas.Slice.Eq.bytes_eq-Decides}
+use Rattle.std.specs.{BTreeMap.{BTreeMap, UpdatesBy}, Cmp.Lexicographic.slice_cmp, List.position_from, Ordering.nat_cmp}
 use Rattle.std.specs.Str.{bytes_eq}
 use Rattle.argus_contents.specs.Shape.{PlainShape}
-use Rattle.argus_language.specs.Command.{first_of}
-use Rattle.argus_language.specs.Objects.{IsIndexed}
+use Rattle.argus_language.specs.{Command.first_of, Objects.IsIndexed}
 
 pub position-append : {X : Type 0} (t : X → Bool) (i : ℕ) (xs ys : List X)
     → position_from t i (xs ++ ys) ≡ first_of (position_from t i xs) (position_from t (i + length xs) ys)

@@ -1,19 +1,14 @@
 -- What a line says of objects it says of more of them, too.
-use Rattle.std.proofs.Common.{◌≡◌, ℕ, cond, List, ◌++◌, slice_get, Option, Some, None, is_some}
-use Rattle.std.proofs.Common.{refl, sym, ◌∙◌, ap, arith, length-append}
-use Rattle.std.proofs.Math.ListN.{get_or-append}
+use Rattle.std.proofs.Common.{◌≡◌, ℕ, cond, List, ◌++◌, slice_get, Option, Some, None, is_some, refl, sym, ◌∙◌, ap}
+use Rattle.std.proofs.{Common.{arith, length-append}, Math.ListN.get_or-append}
 use Rattle.std.proofs.lemmas.Option.{slice_get_within, slice_get-get_or}
-use Rattle.std.specs.Option.{option_and_then, option_map}
-use Rattle.std.specs.Str.{bytes_eq}
+use Rattle.std.specs.{Option.{option_and_then, option_map}, Str.bytes_eq}
 use Rattle.argus_contents.specs.Shape.{PlainShape}
-use Rattle.argus_language.specs.Command.{Command, command_of}
-use Rattle.argus_language.specs.Command as c
-use Rattle.argus_language.specs.Fault.{access_fault, name_fault}
-use Rattle.argus_language.specs.Lines.{line_text}
+use Rattle.argus_language.specs.{Command.{Command, command_of}, Fault.{access_fault, name_fault}, Lines.line_text}
 use Rattle.argus_language.specs.Numbered.{access_to, numbered, numbered_in, one_or_none, sentences_of}
-use Rattle.argus_language.specs.Objects.{PlainObjects, number_of, shape_at, with_more}
-use Rattle.argus_language.specs.Operation.{Operation}
+use Rattle.argus_language.specs.{Objects.{PlainObjects, number_of, shape_at, with_more}, Operation.Operation}
 use Rattle.argus_language.specs.Spelled.{Sentence}
+use Rattle.argus_language.specs.Command as c
 use Rattle.argus_language.specs.Spelled as sentence
 use Rattle.argus_language.specs.declared.fault_kind.FaultKind.TheVariants as kind
 use Rattle.argus_language.specs.declared.block_kind.BlockKind.TheVariants as opening

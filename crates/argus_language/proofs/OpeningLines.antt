@@ -1,17 +1,14 @@
 -- The levels of open blocks say the same of a line's place as the unmatched opening lines.
-use Rattle.std.proofs.Common.{◌≡◌, ℕ, zero, suc, ◌+◌, ◌<◌, ◌≤◌, ◌==◌, Bool, true, false, not, ◌&&◌, ◌||◌, List, []}
-use Rattle.std.proofs.Common.{◌∷◌, length, drop, refl, sym, ◌∙◌, ap, arith, add-one}
-use Rattle.std.proofs.lemmas.Bool.Decides.{nat_tests}
-use Rattle.argus_language.specs.Command.{Command}
-use Rattle.argus_language.specs.Command as command
+use Rattle.std.proofs.Common.{◌≡◌, ℕ, zero, suc, ◌+◌, ◌<◌, ◌≤◌, ◌==◌, Bool, true, false, not, ◌&&◌, ◌||◌, List, [], ◌∷◌}
+use Rattle.std.proofs.{Common.{length, drop, refl, sym, ◌∙◌, ap, arith, add-one}, lemmas.Bool.Decides.nat_tests}
+use Rattle.argus_language.specs.{Command.Command, Placement.{is_body, is_coenter, is_top, may_leave_all, takes_arm}}
 use Rattle.argus_language.specs.Levels.{behind_arm, depth_of, levels_after, may_follow, place_of, with_arm}
 use Rattle.argus_language.specs.OpeningLines.{at_top, command_at, has_arm, holds_action, in_action, in_arm_of_action}
 use Rattle.argus_language.specs.OpeningLines.{in_coenter_for, is_arm_line, is_innermost, lets_leave_all}
 use Rattle.argus_language.specs.OpeningLines.{may_stand_behind, opens, takes_arm_line, unmatched, unmatched_behind}
-use Rattle.argus_language.specs.Placement.{is_body, is_coenter, is_top, may_leave_all, takes_arm}
-use Rattle.argus_language.specs.declared.action_kind.ActionKind.{ActionKind}
+use Rattle.argus_language.specs.{declared.action_kind.ActionKind.ActionKind, declared.level.Level.Level}
+use Rattle.argus_language.specs.Command as command
 use Rattle.argus_language.specs.declared.action_kind.ActionKind.TheVariants as kind
-use Rattle.argus_language.specs.declared.level.Level.{Level}
 
 -- The levels of a block that a line with this command opened, around which these are: it says
 -- whether there is an arm.

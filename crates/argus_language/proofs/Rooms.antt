@@ -1,23 +1,16 @@
 -- What passes no limit has room: a command begins with the word by which the limits are tested.
 use Rattle.std.proofs.Common.{◌≡◌, ℕ, ◌<◌, nat_le, Bool, true, false, ◌&&◌, ◌||◌, cond, List, length, Option, Some}
-use Rattle.std.proofs.Common.{None, codes, refl, ap, arith}
-use Rattle.std.proofs.lemmas.Bool.Decides.{nat_tests}
-use Rattle.std.specs.Option.{option_map}
-use Rattle.std.specs.Str.{bytes_eq, is_utf8}
-use Rattle.argus_contents.specs.Name.{is_name}
-use Rattle.argus_contents.specs.declared.limits.TheConstants.{MAX_OBJECTS}
-use Rattle.argus_language.specs.Command.{Command, accessing, bad, command, declaring, entering, is_comment}
-use Rattle.argus_language.specs.Command.{leaving, operation, or_bad, command_of, testing, command_of_text}
-use Rattle.argus_language.specs.Command as c
-use Rattle.argus_language.specs.Fault.{Position, is_one_too_many, is_too_long, opens_block}
-use Rattle.argus_language.specs.Levels.{depth_of}
-use Rattle.argus_language.specs.Lines.{is_empty, is_word, others, line_text, word}
-use Rattle.argus_language.specs.Objects.{PlainObjects}
-use Rattle.argus_language.specs.Operation.{Operation}
-use Rattle.argus_language.specs.Reading.{IsWithinLimits}
-use Rattle.argus_language.specs.declared.action_kind.ActionKind.TheVariants as kind
-use Rattle.argus_language.specs.declared.level.Level.{Level}
+use Rattle.std.proofs.{Common.{None, codes, refl, ap, arith}, lemmas.Bool.Decides.nat_tests}
+use Rattle.std.specs.{Option.option_map, Str.{bytes_eq, is_utf8}}
+use Rattle.argus_contents.specs.{Name.is_name, declared.limits.TheConstants.MAX_OBJECTS}
+use Rattle.argus_language.specs.Command.{Command, accessing, bad, command, declaring, entering, is_comment, leaving}
+use Rattle.argus_language.specs.{Command.{operation, or_bad, command_of, testing, command_of_text}, Levels.depth_of}
+use Rattle.argus_language.specs.{Fault.{Position, is_one_too_many, is_too_long, opens_block}, Objects.PlainObjects}
+use Rattle.argus_language.specs.{Lines.{is_empty, is_word, others, line_text, word}, Operation.Operation}
+use Rattle.argus_language.specs.{Reading.IsWithinLimits, declared.level.Level.Level}
 use Rattle.argus_language.specs.declared.limits.TheConstants.{MAX_OPEN_BLOCKS}
+use Rattle.argus_language.specs.Command as c
+use Rattle.argus_language.specs.declared.action_kind.ActionKind.TheVariants as kind
 use Rattle.argus_language.specs.declared.lock.Lock.TheVariants as lock
 
 -- a command that opens or declares something stands behind a verb that says so

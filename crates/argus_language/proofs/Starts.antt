@@ -1,10 +1,7 @@
 -- Before the first line of a script.
 use Rattle.std.proofs.Common.{◌≡◌, ℕ, ◌-◌, List, [], refl, sym, ◌∙◌, ap, subst, arith}
-use Rattle.argus_language.specs.Fault.{position_at}
-use Rattle.argus_language.specs.Objects.{PlainObjects, no_objects}
-use Rattle.argus_language.specs.Reading.{IsSound, levels_of, lines_so_far}
-use Rattle.argus_language.specs.Script.{Declares}
-use Rattle.argus_language.specs.declared.open_block.OpenBlock.{OpenBlock}
+use Rattle.argus_language.specs.{Fault.position_at, Objects.{PlainObjects, no_objects}, Script.Declares}
+use Rattle.argus_language.specs.{Reading.{IsSound, levels_of, lines_so_far}, declared.open_block.OpenBlock.OpenBlock}
 use Rattle.argus_language.specs.declared.step.Step.{Step}
 use Rattle.argus_language.proofs.Faults.{ToldOf}
 

@@ -5,18 +5,15 @@ use Rattle.std.specs.List.{All}
 use Rattle.argus_contents.specs.Shape.{PlainShape}
 use Rattle.argus_texts.specs.ShapeSpelling.{IsMakeable, shape_spelling}
 use Rattle.argus_texts.proofs.ShapeForms.{one_shape}
-use Rattle.argus_language.specs.Numbered.{sentences_of}
-use Rattle.argus_language.specs.Objects.{PlainObjects}
-use Rattle.argus_language.specs.Script.{Declares, PlainScript, Spells}
-use Rattle.argus_language.specs.PlainStep.{SimpleStep, PlainStep, PlainSteps}
-use Rattle.argus_language.specs.PlainStep as part
+use Rattle.argus_language.specs.{Numbered.sentences_of, Objects.PlainObjects, Script.{Declares, PlainScript, Spells}}
+use Rattle.argus_language.specs.{PlainStep.{SimpleStep, PlainStep, PlainSteps}, declared.block_kind.BlockKind.BlockKind}
 use Rattle.argus_language.specs.Spelled.{Sentence, closing, lines_of_part, lines_of_parts, sentence}
-use Rattle.argus_language.specs.Spelled as line
 use Rattle.argus_language.specs.Placement.{AllMayStand, MayStand, is_coenter, may_begin, may_stand, place_in}
-use Rattle.argus_language.specs.declared.action_kind.ActionKind.TheVariants as kind
-use Rattle.argus_language.specs.declared.block_kind.BlockKind.{BlockKind}
-use Rattle.argus_language.specs.declared.block_kind.BlockKind.TheVariants as opening
 use Rattle.argus_language.specs.declared.place.Place.{Place}
+use Rattle.argus_language.specs.PlainStep as part
+use Rattle.argus_language.specs.Spelled as line
+use Rattle.argus_language.specs.declared.action_kind.ActionKind.TheVariants as kind
+use Rattle.argus_language.specs.declared.block_kind.BlockKind.TheVariants as opening
 use Rattle.argus_language.specs.declared.place.Place.TheVariants as place
 use Rattle.argus_language.proofs.Deeds.{one-deed}
 

@@ -1,20 +1,13 @@
 -- What a line says: its command with the command's words and texts.
-use Rattle.std.specs.Prelude.{ℕ, ℤ, Bool, false, ◌&&◌, ◌||◌, ◌==◌, not, if◌then◌else◌, List}
-use Rattle.std.specs.Prelude.{[], ◌∷◌, codes, Option, Some, None}
-use Rattle.std.specs.Option.{option_and_then, option_map}
-use Rattle.std.specs.Str.{bytes_eq, is_utf8}
+use Rattle.std.specs.Prelude.{ℕ, ℤ, Bool, false, ◌&&◌, ◌||◌, ◌==◌, not, if◌then◌else◌, List, [], ◌∷◌, codes, Option}
+use Rattle.std.specs.{Prelude.{Some, None}, Option.{option_and_then, option_map}, Str.{bytes_eq, is_utf8}}
 use Rattle.argus_contents.specs.Name.{is_name}
-use Rattle.argus_language.specs.Int.{int_of}
-use Rattle.argus_language.specs.Lines.{is_empty, is_word, word, others}
-use Rattle.argus_language.specs.Operation.{AnyOperation, create, read, touch}
-use Rattle.argus_language.specs.Operation.{get, set}
-use Rattle.argus_language.specs.Operation.{ArrayOperation, low, high, size, bottom, top, fetch}
-use Rattle.argus_language.specs.Operation.{store, addh, addl, remh, reml, set_low, trim}
-use Rattle.argus_language.specs.Operation.{is_tag, tag_value, change_tag}
-use Rattle.argus_language.specs.Operation.{Operation, of_any, of_record, of_array, of_variant}
+use Rattle.argus_language.specs.{Int.int_of, Lines.{is_empty, is_word, word, others}, declared.lock.Lock.Lock}
+use Rattle.argus_language.specs.Operation.{AnyOperation, create, read, touch, get, set, ArrayOperation, low, high, size}
+use Rattle.argus_language.specs.Operation.{bottom, top, fetch, store, addh, addl, remh, reml, set_low, trim, is_tag}
+use Rattle.argus_language.specs.Operation.{tag_value, change_tag, Operation, of_any, of_record, of_array, of_variant}
 use Rattle.argus_language.specs.declared.action_kind.ActionKind.{ActionKind}
 use Rattle.argus_language.specs.declared.action_kind.ActionKind.TheVariants as kind
-use Rattle.argus_language.specs.declared.lock.Lock.{Lock}
 use Rattle.argus_language.specs.declared.lock.Lock.TheVariants as lock
 
 -- what a line says; names and texts are their bytes

@@ -1,29 +1,20 @@
 -- The first faulty line of a script, and why it is faulty.
-use Rattle.std.specs.Prelude.{◌≡◌, ℕ, ◌+◌, ◌<◌, nat_lt, nat_le, Bool, true, false, ◌&&◌, ◌||◌}
-use Rattle.std.specs.Prelude.{if◌then◌else◌, ◌⊎◌, List, [], ◌∷◌, fold, length, take, codes}
-use Rattle.std.specs.Prelude.{slice_get, Option, Some, None, is_some}
-use Rattle.std.specs.Option.{option_and_then}
-use Rattle.std.specs.Str.{bytes_eq}
-use Rattle.argus_contents.specs.Shape.{PlainShape, rec, arr, var}
-use Rattle.argus_contents.specs.Ty.{PlainFields}
+use Rattle.std.specs.Prelude.{◌≡◌, ℕ, ◌+◌, ◌<◌, nat_lt, nat_le, Bool, true, false, ◌&&◌, ◌||◌, if◌then◌else◌, ◌⊎◌, List}
+use Rattle.std.specs.Prelude.{[], ◌∷◌, fold, length, take, codes, slice_get, Option, Some, None, is_some}
+use Rattle.std.specs.{Option.option_and_then, Str.bytes_eq}
+use Rattle.argus_contents.specs.{Shape.{PlainShape, rec, arr, var}, Ty.PlainFields}
 use Rattle.argus_contents.specs.declared.limits.TheConstants.{MAX_OBJECTS}
-use Rattle.argus_texts.specs.Fault.{IsContentText, IsValueText}
-use Rattle.argus_texts.specs.ShapeSpelling.{IsShapeText}
-use Rattle.argus_language.specs.Command.{Command, command_of}
-use Rattle.argus_language.specs.Command as command
-use Rattle.argus_language.specs.Fields.{field_of}
-use Rattle.argus_language.specs.Levels.{depth_of, levels_after, may_follow}
-use Rattle.argus_language.specs.Lines.{ended, line_text, word}
-use Rattle.argus_language.specs.Objects.{PlainObjects, number_of, shape_at}
+use Rattle.argus_texts.specs.{Fault.{IsContentText, IsValueText}, ShapeSpelling.IsShapeText}
+use Rattle.argus_language.specs.{Command.{Command, command_of}, Fields.field_of, Lines.{ended, line_text, word}}
+use Rattle.argus_language.specs.{Levels.{depth_of, levels_after, may_follow}, Script.Declares}
+use Rattle.argus_language.specs.{Objects.{PlainObjects, number_of, shape_at}, declared.fault_kind.FaultKind.FaultKind}
 use Rattle.argus_language.specs.Operation.{Operation, of_any, of_record, of_array, of_variant}
-use Rattle.argus_language.specs.Operation as operation
-use Rattle.argus_language.specs.Script.{Declares}
-use Rattle.argus_language.specs.declared.fault_kind.FaultKind.{FaultKind}
-use Rattle.argus_language.specs.declared.fault_kind.FaultKind.TheVariants as kind
-use Rattle.argus_language.specs.declared.level.Level.{Level}
-use Rattle.argus_language.specs.declared.limits.TheConstants.{MAX_LINES, MAX_LINE_BYTES}
-use Rattle.argus_language.specs.declared.limits.TheConstants.{MAX_OPEN_BLOCKS, MAX_SCRIPT_BYTES}
+use Rattle.argus_language.specs.{declared.level.Level.Level, declared.limits.TheConstants.MAX_SCRIPT_BYTES}
+use Rattle.argus_language.specs.declared.limits.TheConstants.{MAX_LINES, MAX_LINE_BYTES, MAX_OPEN_BLOCKS}
 use Rattle.argus_language.specs.declared.script_fault.ScriptFault.{ScriptFault}
+use Rattle.argus_language.specs.Command as command
+use Rattle.argus_language.specs.Operation as operation
+use Rattle.argus_language.specs.declared.fault_kind.FaultKind.TheVariants as kind
 
 -- What comes before a line: how many lines and bytes, and what is open.
 pub record Position : Type 0 where

@@ -1,14 +1,11 @@
 -- The first faulty line of a script, by the opening lines that are still unmatched before it, and
 -- the arm lines directly in them. Lines are counted from 0.
-use Rattle.std.specs.Prelude.{◌≡◌, ℕ, ◌+◌, ◌<◌, ◌⊎◌, ◌∷◌, if◌then◌else◌, List, [], length, take}
-use Rattle.std.specs.Prelude.{Bool, get_or, sum_by, Option, Some, None}
-use Rattle.argus_language.specs.Fault.{HasWordFault, WordsAreFine, is_bad, is_past_limits}
-use Rattle.argus_language.specs.Objects.{PlainObjects}
-use Rattle.argus_language.specs.OpeningLines.{command_at, may_stand_at, unmatched}
-use Rattle.argus_language.specs.Script.{Declares}
-use Rattle.argus_language.specs.declared.fault_kind.FaultKind.{FaultKind}
+use Rattle.std.specs.Prelude.{◌≡◌, ℕ, ◌+◌, ◌<◌, ◌⊎◌, ◌∷◌, if◌then◌else◌, List, [], length, take, Bool, get_or, sum_by}
+use Rattle.std.specs.Prelude.{Option, Some, None}
+use Rattle.argus_language.specs.{Fault.{HasWordFault, WordsAreFine, is_bad, is_past_limits}, Objects.PlainObjects}
+use Rattle.argus_language.specs.{OpeningLines.{command_at, may_stand_at, unmatched}, Script.Declares}
+use Rattle.argus_language.specs.{declared.fault_kind.FaultKind.FaultKind, declared.script_fault.ScriptFault.ScriptFault}
 use Rattle.argus_language.specs.declared.fault_kind.FaultKind.TheVariants as kind
-use Rattle.argus_language.specs.declared.script_fault.ScriptFault.{ScriptFault}
 
 -- the line at i goes past a limit, with this many objects declared before it
 abbrev pub is_past_limits_at : List (List ℕ) → ℕ → ℕ → Bool

@@ -1,9 +1,7 @@
 -- The number of a field.
-use Rattle.std.specs.Prelude.{ℕ, ◌+◌, nat_lt, if◌then◌else◌, List, [], ◌∷◌, Option, Some, None}
+use Rattle.std.specs.{Prelude.{ℕ, ◌+◌, nat_lt, if◌then◌else◌, List, [], ◌∷◌, Option, Some, None}, Str.bytes_eq}
 use Rattle.std.specs.Option.{option_and_then}
-use Rattle.std.specs.Str.{bytes_eq}
-use Rattle.argus_contents.specs.Shape.{names_of}
-use Rattle.argus_contents.specs.Ty.{PlainFields}
+use Rattle.argus_contents.specs.{Shape.names_of, Ty.PlainFields}
 
 -- the place of a name in a list of names that begins at n
 abbrev pub place_from : ℕ → List ℕ → List (List ℕ) → Option ℕ

@@ -1,7 +1,6 @@
 -- The ints of a line: `0`, or digits without a leading zero, with a sign if negative.
-use Rattle.std.specs.Prelude.{ℕ, ℤ, pos, negsuc, ◌+◌, ◌-◌, ◌*◌, ◌==◌, nat_lt, nat_le, Bool, ◌&&◌}
-use Rattle.std.specs.Prelude.{if◌then◌else◌, List, [], ◌∷◌, Option, Some, None}
-use Rattle.std.specs.Option.{option_and_then}
+use Rattle.std.specs.Prelude.{ℕ, ℤ, pos, negsuc, ◌+◌, ◌-◌, ◌*◌, ◌==◌, nat_lt, nat_le, Bool, ◌&&◌, if◌then◌else◌, List}
+use Rattle.std.specs.{Prelude.{[], ◌∷◌, Option, Some, None}, Option.option_and_then}
 use Rattle.argus_language.specs.Lines.{is_empty}
 
 -- a decimal digit

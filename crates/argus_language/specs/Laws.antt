@@ -1,9 +1,7 @@
 -- The laws of scripts.
 use Rattle.std.specs.Prelude.{◌≡◌, ◌↔◌, ℕ, List}
-use Rattle.argus_language.specs.Fault.{IsFaultOf, NoFault}
-use Rattle.argus_language.specs.FaultyLines.{HasNoFaultyLine, IsFirstFaultyLine}
-use Rattle.argus_language.specs.Script.{PlainScript, Spells}
-use Rattle.argus_language.specs.declared.script_fault.ScriptFault.{ScriptFault}
+use Rattle.argus_language.specs.{Fault.{IsFaultOf, NoFault}, FaultyLines.{HasNoFaultyLine, IsFirstFaultyLine}}
+use Rattle.argus_language.specs.{Script.{PlainScript, Spells}, declared.script_fault.ScriptFault.ScriptFault}
 
 -- lines spell at most one script
 abbrev pub SpellOneScript : Type 0

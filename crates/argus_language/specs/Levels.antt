@@ -1,12 +1,9 @@
 -- The blocks and arms that are open after a line.
 use Rattle.std.specs.Prelude.{ℕ, ◌+◌, Bool, true, false, not, if◌then◌else◌, List, [], ◌∷◌, drop}
-use Rattle.argus_language.specs.Command.{Command}
+use Rattle.argus_language.specs.{Command.Command, declared.level.Level.Level, declared.place.Place.Place}
+use Rattle.argus_language.specs.Placement.{in_arm, is_body, is_top, may_begin, may_leave_all, takes_arm}
 use Rattle.argus_language.specs.Command as command
-use Rattle.argus_language.specs.Placement.{in_arm, is_body, is_top, may_begin, may_leave_all}
-use Rattle.argus_language.specs.Placement.{takes_arm}
-use Rattle.argus_language.specs.declared.level.Level.{Level}
 use Rattle.argus_language.specs.declared.block_kind.BlockKind.TheVariants as opening
-use Rattle.argus_language.specs.declared.place.Place.{Place}
 use Rattle.argus_language.specs.declared.place.Place.TheVariants as place
 
 -- A list of levels has the lines that are still unmatched, the innermost first: each line that

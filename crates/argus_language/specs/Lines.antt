@@ -1,6 +1,6 @@
 -- How a script is cut into lines, and which part of a line counts.
-use Rattle.std.specs.Prelude.{ℕ, ◌-◌, ◌==◌, nat_lt, Bool, ◌&&◌, ◌||◌, not, if◌then◌else◌}
-use Rattle.std.specs.Prelude.{List, [], ◌∷◌, length, take, reverse, slice_index}
+use Rattle.std.specs.Prelude.{ℕ, ◌-◌, ◌==◌, nat_lt, Bool, ◌&&◌, ◌||◌, not, if◌then◌else◌, List, [], ◌∷◌, length, take}
+use Rattle.std.specs.Prelude.{reverse, slice_index}
 
 -- a byte put before the first line
 abbrev pub onto : ℕ → List (List ℕ) → List (List ℕ)

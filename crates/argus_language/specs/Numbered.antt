@@ -1,14 +1,10 @@
 -- What a command says of declared objects: numbers in place of names.
-use Rattle.std.specs.Prelude.{ℕ, List, [], ◌∷◌, Option, Some, None}
-use Rattle.std.specs.Option.{option_and_then, option_map}
+use Rattle.std.specs.{Prelude.{ℕ, List, [], ◌∷◌, Option, Some, None}, Option.{option_and_then, option_map}}
 use Rattle.argus_contents.specs.Shape.{PlainShape, rec, arr, var}
-use Rattle.argus_language.specs.Command.{Command, command_of}
-use Rattle.argus_language.specs.Command as command
-use Rattle.argus_language.specs.Fields.{field_of}
-use Rattle.argus_language.specs.Lines.{line_text}
+use Rattle.argus_language.specs.{Command.{Command, command_of}, Fields.field_of, Lines.line_text, Spelled.Sentence}
 use Rattle.argus_language.specs.Objects.{PlainObjects, number_of, shape_at}
 use Rattle.argus_language.specs.Operation.{Operation, of_any, of_record, of_array, of_variant}
-use Rattle.argus_language.specs.Spelled.{Sentence}
+use Rattle.argus_language.specs.Command as command
 use Rattle.argus_language.specs.Spelled as sentence
 use Rattle.argus_language.specs.declared.block_kind.BlockKind.TheVariants as opening
 

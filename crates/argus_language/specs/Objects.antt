@@ -1,14 +1,9 @@
 -- Declared objects, and how they are found by name.
 use denote.Ref.{Bor}
-use Rattle.std.specs.Prelude.{◌≡◌, ℕ, List, [], ◌++◌, length, slice_get, Option, refl}
-use Rattle.std.specs.BTreeMap.{BTreeMap, get_by}
-use Rattle.std.specs.Cmp.Lexicographic.{slice_cmp}
-use Rattle.std.specs.List.{All, position_from}
-use Rattle.std.specs.Ordering.{nat_cmp}
-use Rattle.std.specs.Str.{bytes_eq}
+use Rattle.std.specs.{Prelude.{◌≡◌, ℕ, List, [], ◌++◌, length, slice_get, Option, refl}, BTreeMap.{BTreeMap, get_by}}
+use Rattle.std.specs.{Cmp.Lexicographic.slice_cmp, List.{All, position_from}, Ordering.nat_cmp, Str.bytes_eq}
 use Rattle.std.specs.Coded.{Coded, code_by, coded×, coded_list, coded_ℕ}
-use Rattle.argus_contents.specs.Shape.{PlainShape}
-use Rattle.argus_contents.specs.ShapeCode.{shape_coded}
+use Rattle.argus_contents.specs.{Shape.PlainShape, ShapeCode.shape_coded}
 use Rattle.argus_texts.specs.ShapeSpelling.{IsMakeable}
 
 -- the names and the shapes of the declared objects, in the order of their declarations

@@ -1,11 +1,10 @@
 -- Where a line is allowed, by the opening lines that are still unmatched before it, and the arm
 -- lines directly in them. Lines are counted from 0.
-use Rattle.std.specs.Prelude.{ℕ, zero, suc, ◌==◌, Bool, true, false, not, ◌&&◌, ◌||◌}
-use Rattle.std.specs.Prelude.{if◌then◌else◌, List, [], ◌∷◌, drop, get_or}
-use Rattle.argus_language.specs.Command.{Command, command_of}
-use Rattle.argus_language.specs.Command as command
-use Rattle.argus_language.specs.Lines.{line_text}
+use Rattle.std.specs.Prelude.{ℕ, zero, suc, ◌==◌, Bool, true, false, not, ◌&&◌, ◌||◌, if◌then◌else◌, List, [], ◌∷◌}
+use Rattle.std.specs.Prelude.{drop, get_or}
+use Rattle.argus_language.specs.{Command.{Command, command_of}, Lines.line_text}
 use Rattle.argus_language.specs.declared.action_kind.ActionKind.{ActionKind}
+use Rattle.argus_language.specs.Command as command
 use Rattle.argus_language.specs.declared.action_kind.ActionKind.TheVariants as kind
 
 -- what the line at i says

@@ -1,10 +1,9 @@
 -- Why there is no script.
 use Rattle.std.specs.Prelude.{◌≡◌, ℕ, List, [], ◌∷◌, Option, Some, None}
 use Rattle.argus_language.specs.declared.fault_kind.FaultKind.TheVariants as kind
-use Rattle.argus_language.specs.declared.level.Level.{Level}
-use Rattle.argus_language.specs.declared.parse_error.ParseError.{ParseError}
-use Rattle.argus_language.specs.declared.parse_error.ParseError.TheVariants as error
+use Rattle.argus_language.specs.{declared.level.Level.Level, declared.parse_error.ParseError.ParseError}
 use Rattle.argus_language.specs.declared.script_fault.ScriptFault.{ScriptFault}
+use Rattle.argus_language.specs.declared.parse_error.ParseError.TheVariants as error
 
 -- P holds of the fault of a script; out of memory says nothing
 abbrev pub OnScriptFault : ParseError → (ScriptFault → Type 0) → Type 0

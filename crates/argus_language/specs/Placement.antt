@@ -1,17 +1,13 @@
 -- Where each step is allowed.
 use Rattle.std.specs.Prelude.{◌≡◌, Bool, true, false, not}
-use Rattle.argus_contents.specs.Change.{PlainChange}
+use Rattle.argus_contents.specs.{Change.PlainChange, declared.limits.TheConstants.MAX_VALUE_DEPTH}
 use Rattle.argus_contents.specs.Change as change
-use Rattle.argus_contents.specs.declared.limits.TheConstants.{MAX_VALUE_DEPTH}
-use Rattle.argus_texts.specs.Spelling.{Within}
-use Rattle.argus_texts.specs.ContentSpelling.{PartsWithin}
-use Rattle.argus_language.specs.PlainStep.{SimpleStep, PlainStep, PlainSteps}
+use Rattle.argus_texts.specs.{Spelling.Within, ContentSpelling.PartsWithin}
+use Rattle.argus_language.specs.{PlainStep.{SimpleStep, PlainStep, PlainSteps}, declared.block_kind.BlockKind.BlockKind}
+use Rattle.argus_language.specs.{declared.action_kind.ActionKind.ActionKind, declared.place.Place.Place}
 use Rattle.argus_language.specs.PlainStep as part
-use Rattle.argus_language.specs.declared.action_kind.ActionKind.{ActionKind}
 use Rattle.argus_language.specs.declared.action_kind.ActionKind.TheVariants as kind
-use Rattle.argus_language.specs.declared.block_kind.BlockKind.{BlockKind}
 use Rattle.argus_language.specs.declared.block_kind.BlockKind.TheVariants as opening
-use Rattle.argus_language.specs.declared.place.Place.{Place}
 use Rattle.argus_language.specs.declared.place.Place.TheVariants as place
 
 -- in no block

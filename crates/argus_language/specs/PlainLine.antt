@@ -1,15 +1,13 @@
 -- What a line that was read says.
 use Rattle.std.specs.Prelude.{ℕ, List}
-use Rattle.argus_language.specs.Command.{Command}
+use Rattle.argus_language.specs.{Command.Command, declared.line.Line.Line}
+use Rattle.argus_language.specs.Operation.{AnyOperation, RecordOperation, ArrayOperation, VariantOperation, Operation}
 use Rattle.argus_language.specs.Command as command
-use Rattle.argus_language.specs.Operation.{AnyOperation, RecordOperation, ArrayOperation}
-use Rattle.argus_language.specs.Operation.{VariantOperation, Operation}
 use Rattle.argus_language.specs.Operation as plain
 use Rattle.argus_language.specs.declared.any_operation.AnyOperation as any
 use Rattle.argus_language.specs.declared.any_operation.AnyOperation.TheVariants as on_any
 use Rattle.argus_language.specs.declared.array_operation.ArrayOperation as array
 use Rattle.argus_language.specs.declared.array_operation.ArrayOperation.TheVariants as on_array
-use Rattle.argus_language.specs.declared.line.Line.{Line}
 use Rattle.argus_language.specs.declared.line.Line.TheVariants as line
 use Rattle.argus_language.specs.declared.operation.Operation as operation
 use Rattle.argus_language.specs.declared.operation.Operation.TheVariants as by

@@ -1,9 +1,7 @@
 -- A script as the rules see it: steps, and steps within blocks.
 use Rattle.std.specs.Prelude.{ℕ, List, [], ◌∷◌, map}
-use Rattle.argus_contents.specs.Change.{PlainChange, plain_change}
-use Rattle.argus_contents.specs.declared.query.Query.{Query}
-use Rattle.argus_language.specs.declared.block_kind.BlockKind.{BlockKind}
-use Rattle.argus_language.specs.declared.step.Step.{Step, fold-Step}
+use Rattle.argus_contents.specs.{Change.{PlainChange, plain_change}, declared.query.Query.Query}
+use Rattle.argus_language.specs.{declared.block_kind.BlockKind.BlockKind, declared.step.Step.{Step, fold-Step}}
 use Rattle.argus_language.specs.declared.step.Step.TheOpen.{Step-F}
 
 -- a step that is one line; objects, fields and tags are numbers

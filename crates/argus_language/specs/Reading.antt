@@ -1,26 +1,18 @@
 -- What a script that is being read says so far.
-use Rattle.std.specs.Prelude.{◌≡◌, ◌<◌, Bool, true, false, if◌then◌else◌, List, [], ◌∷◌, ◌++◌, map}
-use Rattle.std.specs.Prelude.{flat_map, length, reverse}
-use Rattle.argus_contents.specs.Name.{is_name}
-use Rattle.argus_contents.specs.declared.limits.TheConstants.{MAX_OBJECTS}
-use Rattle.argus_language.specs.Command.{Command}
-use Rattle.argus_language.specs.Command as command
-use Rattle.argus_language.specs.Levels.{depth_of, is_arm, place_of}
-use Rattle.argus_language.specs.Objects.{PlainObjects}
-use Rattle.argus_language.specs.PlainStep.{PlainStep, plain_steps}
-use Rattle.argus_language.specs.Spelled.{Sentence, lines_of_parts}
-use Rattle.argus_language.specs.Spelled as sentence
+use Rattle.std.specs.Prelude.{◌≡◌, ◌<◌, Bool, true, false, if◌then◌else◌, List, [], ◌∷◌, ◌++◌, map, flat_map, length}
+use Rattle.std.specs.Prelude.{reverse}
+use Rattle.argus_contents.specs.{Name.is_name, declared.limits.TheConstants.MAX_OBJECTS}
+use Rattle.argus_language.specs.{Command.Command, Levels.{depth_of, is_arm, place_of}, Objects.PlainObjects}
+use Rattle.argus_language.specs.{PlainStep.{PlainStep, plain_steps}, Spelled.{Sentence, lines_of_parts}}
 use Rattle.argus_language.specs.Placement.{AllMayStand, MayStand, is_body, may_begin, place_in}
-use Rattle.argus_language.specs.declared.fault_kind.FaultKind.{FaultKind}
-use Rattle.argus_language.specs.declared.level.Level.{Level}
-use Rattle.argus_language.specs.declared.limits.TheConstants.{MAX_OPEN_BLOCKS}
-use Rattle.argus_language.specs.declared.line_error.LineError.{LineError}
+use Rattle.argus_language.specs.{declared.fault_kind.FaultKind.FaultKind, declared.level.Level.Level}
+use Rattle.argus_language.specs.{declared.limits.TheConstants.MAX_OPEN_BLOCKS, declared.line_error.LineError.LineError}
+use Rattle.argus_language.specs.{declared.open_block.OpenBlock.OpenBlock, declared.block_kind.BlockKind.BlockKind}
+use Rattle.argus_language.specs.{declared.place.Place.Place, declared.step.Step.Step}
+use Rattle.argus_language.specs.Command as command
+use Rattle.argus_language.specs.Spelled as sentence
 use Rattle.argus_language.specs.declared.line_error.LineError.TheVariants as error
-use Rattle.argus_language.specs.declared.open_block.OpenBlock.{OpenBlock}
-use Rattle.argus_language.specs.declared.block_kind.BlockKind.{BlockKind}
 use Rattle.argus_language.specs.declared.block_kind.BlockKind.TheVariants as opening
-use Rattle.argus_language.specs.declared.place.Place.{Place}
-use Rattle.argus_language.specs.declared.step.Step.{Step}
 
 -- P holds of the kind of a fault; out of memory says nothing
 abbrev pub OnKind : LineError → (FaultKind → Type 0) → Type 0

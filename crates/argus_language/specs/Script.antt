@@ -1,16 +1,11 @@
 -- A script, and the lines that spell it.
 use Rattle.std.specs.Prelude.{◌≡◌, ℕ, List, [], ◌∷◌, map, flat_map}
 use Rattle.argus_texts.specs.ShapeSpelling.{shape_spelling}
-use Rattle.argus_language.specs.Command.{Command, command_of}
+use Rattle.argus_language.specs.{Command.{Command, command_of}, Lines.line_text, Numbered.sentences_of}
+use Rattle.argus_language.specs.{Objects.{AllMakeable, PlainObjects}, PlainStep.{PlainSteps, plain_steps}}
+use Rattle.argus_language.specs.{Spelled.lines_of_parts, Placement.AllMayStand, declared.script.Script.Script}
 use Rattle.argus_language.specs.Command as command
-use Rattle.argus_language.specs.Lines.{line_text}
-use Rattle.argus_language.specs.Numbered.{sentences_of}
-use Rattle.argus_language.specs.Objects.{AllMakeable, PlainObjects}
-use Rattle.argus_language.specs.PlainStep.{PlainSteps, plain_steps}
-use Rattle.argus_language.specs.Spelled.{lines_of_parts}
-use Rattle.argus_language.specs.Placement.{AllMayStand}
 use Rattle.argus_language.specs.declared.place.Place.TheVariants as place
-use Rattle.argus_language.specs.declared.script.Script.{Script}
 
 -- a script: the objects that it declares, and its steps in order
 pub record PlainScript : Type 0 where

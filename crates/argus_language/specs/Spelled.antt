@@ -1,16 +1,13 @@
 -- The lines that spell steps, with numbers in place of names.
 use Rattle.std.specs.Prelude.{ℕ, List, [], ◌∷◌, ◌++◌}
-use Rattle.argus_contents.specs.Change.{PlainChange}
+use Rattle.argus_contents.specs.{Change.PlainChange, declared.query.Query.Query}
 use Rattle.argus_contents.specs.Change as change
-use Rattle.argus_contents.specs.declared.query.Query.{Query}
 use Rattle.argus_contents.specs.declared.query.Query.TheVariants as query
-use Rattle.argus_texts.specs.Spelling.{spelling}
-use Rattle.argus_texts.specs.ContentSpelling.{content_spelling}
+use Rattle.argus_texts.specs.{Spelling.spelling, ContentSpelling.content_spelling}
 use Rattle.argus_language.specs.Operation.{Operation, of_any, of_record, of_array, of_variant}
+use Rattle.argus_language.specs.{PlainStep.{SimpleStep, PlainStep, PlainSteps}, declared.block_kind.BlockKind.BlockKind}
 use Rattle.argus_language.specs.Operation as operation
-use Rattle.argus_language.specs.PlainStep.{SimpleStep, PlainStep, PlainSteps}
 use Rattle.argus_language.specs.PlainStep as part
-use Rattle.argus_language.specs.declared.block_kind.BlockKind.{BlockKind}
 use Rattle.argus_language.specs.declared.block_kind.BlockKind.TheVariants as opening
 
 -- a line that says something, with numbers in place of names

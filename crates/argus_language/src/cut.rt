@@ -2,8 +2,7 @@
 
 ghost use Rattle.std.specs.Prelude.{◌≡◌, ◌∷◌, ◌<◌, ◌≤◌, length, take, drop};
 ghost use Rattle.argus_language.specs.Lines.{before_blanks, behind_blanks, ended, is_blank};
-ghost use Rattle.argus_language.specs.Lines.{lines_of};
-ghost use Rattle.argus_language.specs.Lines.{without_last};
+ghost use Rattle.argus_language.specs.Lines.{lines_of, without_last};
 
 /// The length of the first line, with its line feed.
 pub(crate) fn first_line_len(bytes: &[u8]) -> usize

@@ -1,8 +1,7 @@
 //! The number of a field.
 
 ghost use Rattle.std.specs.Prelude.{◌≡◌};
-ghost use Rattle.argus_contents.specs.Shape.{names_of};
-ghost use Rattle.argus_contents.specs.Ty.{plain_fields};
+ghost use Rattle.argus_contents.specs.{Shape.names_of, Ty.plain_fields};
 ghost use Rattle.argus_language.specs.Fields.{field_of, place_from};
 
 use argus_contents::{Name, Ty};

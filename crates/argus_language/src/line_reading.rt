@@ -3,8 +3,7 @@
 ghost use Rattle.std.specs.Prelude.{◌≡◌, if◌then◌else◌};
 ghost use Rattle.argus_language.specs.Command.{accessing, command, declaring, entering, leaving};
 ghost use Rattle.argus_language.specs.Command.{command_of, testing, command_of_text};
-ghost use Rattle.argus_language.specs.Lines.{is_word};
-ghost use Rattle.argus_language.specs.PlainLine.{plain_line};
+ghost use Rattle.argus_language.specs.{Lines.is_word, PlainLine.plain_line};
 
 use crate::action_kind::ActionKind;
 use crate::line::Line;

@@ -2,8 +2,7 @@
 
 ghost use Rattle.std.specs.Prelude.{◌≡◌, Some, None, IfOk, IfErr, OnOk};
 ghost use Rattle.argus_contents.specs.Ty.{plain_fields};
-ghost use Rattle.argus_language.specs.Fault.{field_fault, operation_fault};
-ghost use Rattle.argus_language.specs.Fields.{field_of};
+ghost use Rattle.argus_language.specs.{Fault.{field_fault, operation_fault}, Fields.field_of};
 ghost use Rattle.argus_language.specs.Numbered.{numbered_in, with_number};
 ghost use Rattle.argus_language.specs.PlainLine.{plain_operation};
 

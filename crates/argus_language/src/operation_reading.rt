@@ -1,7 +1,6 @@
 //! The operation of an access, read from its words.
 
-ghost use Rattle.std.specs.Prelude.{◌≡◌, ℕ, ℤ, List, Some, None};
-ghost use Rattle.std.specs.Option.{option_map};
+ghost use Rattle.std.specs.{Prelude.{◌≡◌, ℕ, ℤ, List, Some, None}, Option.option_map};
 ghost use Rattle.argus_contents.specs.Name.{is_name};
 ghost use Rattle.argus_language.specs.Command.{alone, any_operation, array_operation};
 ghost use Rattle.argus_language.specs.Command.{long_array_operation, operation, record_operation};

@@ -1,10 +1,8 @@
 //! `parse`: the script that bytes spell.
 
 ghost use Rattle.std.specs.Prelude.{◌≡◌, [], IfOk, IfErr, OnOk};
-ghost use Rattle.argus_language.specs.Fault.{IsFaultOf, NoFault};
-ghost use Rattle.argus_language.specs.Lines.{lines_of};
-ghost use Rattle.argus_language.specs.Parsed.{IsUnclosedAt, OnScriptFault};
-ghost use Rattle.argus_language.specs.Reading.{levels_of};
+ghost use Rattle.argus_language.specs.{Fault.{IsFaultOf, NoFault}, Lines.lines_of};
+ghost use Rattle.argus_language.specs.{Parsed.{IsUnclosedAt, OnScriptFault}, Reading.levels_of};
 ghost use Rattle.argus_language.specs.Script.{Spells, plain_script};
 ghost use Rattle.argus_language.specs.declared.parse_error.ParseError.TheVariants as ParseError;
 

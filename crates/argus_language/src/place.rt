@@ -2,8 +2,7 @@
 
 ghost use Rattle.std.specs.Prelude.{◌≡◌};
 ghost use Rattle.argus_language.specs.Placement.{in_arm, is_body, is_coenter, is_top};
-ghost use Rattle.argus_language.specs.Placement.{may_leave_all};
-ghost use Rattle.argus_language.specs.Placement.{place_in, takes_arm};
+ghost use Rattle.argus_language.specs.Placement.{may_leave_all, place_in, takes_arm};
 
 use crate::action_kind::ActionKind;
 use crate::block_kind::BlockKind;

@@ -1,21 +1,17 @@
 //! `Reading`: a script that is being read, line by line.
 
-ghost use Rattle.std.specs.Prelude.{◌≡◌, true, false, ◌+◌, ◌<◌, [], ◌∷◌, ◌++◌, drop};
-ghost use Rattle.std.specs.Prelude.{IfErr, OnOk};
+ghost use Rattle.std.specs.Prelude.{◌≡◌, true, false, ◌+◌, ◌<◌, [], ◌∷◌, ◌++◌, drop, IfErr, OnOk};
 ghost use Rattle.argus_language.specs.declared.line_error.LineError.TheVariants as LineError;
 ghost use Rattle.argus_language.specs.declared.limits.TheConstants.{MAX_OPEN_BLOCKS};
-ghost use Rattle.argus_language.specs.declared.block_kind.BlockKind.TheVariants as BlockKind;
 ghost use Rattle.argus_language.specs.Levels.{behind_arm, depth_of, is_arm, place_of, with_arm};
-ghost use Rattle.argus_language.specs.Levels.{may_follow, with_block};
-ghost use Rattle.argus_language.specs.Objects.{no_objects};
-ghost use Rattle.argus_language.specs.PlainStep.{plain_step};
+ghost use Rattle.argus_language.specs.{Levels.{may_follow, with_block}, Objects.no_objects};
+ghost use Rattle.argus_language.specs.{PlainStep.plain_step, Reading.lines_so_far};
 ghost use Rattle.argus_language.specs.Reading.{IsSound, closing_at, is_arm_line, levels_of};
-ghost use Rattle.argus_language.specs.Reading.{lines_so_far};
-ghost use Rattle.argus_language.specs.PlainLine.{plain_line};
-ghost use Rattle.argus_language.specs.Spelled.{begin, lines_of_part};
-ghost use Rattle.argus_language.specs.Spelled as sentence;
+ghost use Rattle.argus_language.specs.{PlainLine.plain_line, Spelled.{begin, lines_of_part}};
 ghost use Rattle.argus_language.specs.Placement.{MayStand, in_arm, is_coenter, is_top, may_begin};
 ghost use Rattle.argus_language.specs.Placement.{is_body, place_in, takes_arm};
+ghost use Rattle.argus_language.specs.declared.block_kind.BlockKind.TheVariants as BlockKind;
+ghost use Rattle.argus_language.specs.Spelled as sentence;
 
 use crate::action_kind::ActionKind;
 use crate::block_kind::BlockKind;

@@ -1,8 +1,7 @@
 //! `Script`: a script that was read.
 
 ghost use Rattle.std.specs.Prelude.{◌≡◌};
-ghost use Rattle.argus_language.specs.PlainStep.{plain_steps};
-ghost use Rattle.argus_language.specs.Script.{plain_script};
+ghost use Rattle.argus_language.specs.{PlainStep.plain_steps, Script.plain_script};
 
 use crate::step::Step;
 use argus_contents::{Name, Shape};

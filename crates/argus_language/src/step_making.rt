@@ -1,20 +1,17 @@
 //! The step that an access is.
 
 ghost use Rattle.std.specs.Prelude.{◌≡◌, ℕ, List, [], ◌∷◌, IfOk, IfErr, OnOk};
-ghost use Rattle.argus_contents.specs.Content.{plain_content};
-ghost use Rattle.argus_contents.specs.Value.{plain_value};
+ghost use Rattle.argus_contents.specs.{Content.plain_content, Value.plain_value};
 ghost use Rattle.argus_contents.specs.declared.limits.TheConstants.{MAX_VALUE_DEPTH};
 ghost use Rattle.argus_texts.specs.ContentSpelling.{PartsWithin, content_spelling};
 ghost use Rattle.argus_texts.specs.Fault.{IsContentText, IsValueText};
 ghost use Rattle.argus_texts.specs.Spelling.{Within, spelling};
 ghost use Rattle.argus_language.specs.Fault.{OperationTextFault, OperationTextIsFine};
-ghost use Rattle.argus_language.specs.Numbered.{with_number};
+ghost use Rattle.argus_language.specs.{Numbered.with_number, PlainStep.plain_step};
 ghost use Rattle.argus_language.specs.Operation.{of_any, of_array, of_record, of_variant};
-ghost use Rattle.argus_language.specs.PlainStep.{plain_step};
-ghost use Rattle.argus_language.specs.Reading.{OnKind, StandsInAction};
+ghost use Rattle.argus_language.specs.{Reading.{OnKind, StandsInAction}, PlainLine.plain_operation};
 ghost use Rattle.argus_language.specs.PlainLine.{plain_any, plain_array_operation};
-ghost use Rattle.argus_language.specs.PlainLine.{plain_record_operation};
-ghost use Rattle.argus_language.specs.PlainLine.{plain_variant_operation, plain_operation};
+ghost use Rattle.argus_language.specs.PlainLine.{plain_record_operation, plain_variant_operation};
 ghost use Rattle.argus_language.specs.Spelled.{access, lines_of_part};
 
 use crate::any_operation::AnyOperation;

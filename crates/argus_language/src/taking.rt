@@ -2,28 +2,22 @@
 
 ghost use Rattle.std.specs.Prelude.{◌≡◌, true, ◌+◌, ◌<◌, ◌^◌, ◌∷◌, ◌++◌, [], length, map, take};
 ghost use Rattle.std.specs.Prelude.{IfErr, IfOk, OnOk};
-ghost use Rattle.argus_contents.specs.Name.{is_name};
-ghost use Rattle.argus_contents.specs.declared.limits.TheConstants.{MAX_OBJECTS};
+ghost use Rattle.argus_contents.specs.{Name.is_name, declared.limits.TheConstants.MAX_OBJECTS};
 ghost use Rattle.argus_texts.specs.ShapeSpelling.{IsMakeable, IsShapeText, shape_spelling};
-ghost use Rattle.argus_language.specs.Command.{command_of};
-ghost use Rattle.argus_language.specs.Command as command;
+ghost use Rattle.argus_language.specs.{Command.command_of, Fault.position_at, Objects.AllMakeable};
 ghost use Rattle.argus_language.specs.Fault.{HasFault, HasWordFault, IsFine, WordsAreFine, is_bad};
 ghost use Rattle.argus_language.specs.Fault.{is_one_too_many, is_too_long, opens_block};
-ghost use Rattle.argus_language.specs.Fault.{position_at};
 ghost use Rattle.argus_language.specs.Levels.{depth_of, levels_after, may_follow, place_of};
 ghost use Rattle.argus_language.specs.Lines.{before_blanks, behind_blanks, line_text, word};
 ghost use Rattle.argus_language.specs.Numbered.{numbered, one_or_none, sentences_of};
-ghost use Rattle.argus_language.specs.Objects.{AllMakeable};
-ghost use Rattle.argus_language.specs.PlainStep.{plain_step};
+ghost use Rattle.argus_language.specs.{PlainStep.plain_step, Reading.{levels_of, lines_so_far}};
 ghost use Rattle.argus_language.specs.Reading.{IsWithinLimits, IsSound, OnKind, StandsInAction};
-ghost use Rattle.argus_language.specs.Reading.{levels_of};
-ghost use Rattle.argus_language.specs.Reading.{lines_so_far};
 ghost use Rattle.argus_language.specs.PlainLine.{plain_line, plain_operation};
 ghost use Rattle.argus_language.specs.Script.{name_declared, shape_declared};
-ghost use Rattle.argus_language.specs.Spelled.{lines_of_part};
-ghost use Rattle.argus_language.specs.Spelled as sentence;
-ghost use Rattle.argus_language.specs.Placement.{is_body, is_top};
+ghost use Rattle.argus_language.specs.{Spelled.lines_of_part, Placement.{is_body, is_top}};
 ghost use Rattle.argus_language.specs.declared.limits.TheConstants.{MAX_LINES, MAX_OPEN_BLOCKS};
+ghost use Rattle.argus_language.specs.Command as command;
+ghost use Rattle.argus_language.specs.Spelled as sentence;
 ghost use Rattle.argus_language.specs.declared.line_error.LineError.TheVariants as LineError;
 
 use crate::block_kind::BlockKind;

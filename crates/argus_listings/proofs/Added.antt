@@ -1,10 +1,7 @@
 -- A text that is made and written piece by piece: what was written, what is pending and what is left
 -- to come.
 use Rattle.std.proofs.Common.{List, None, Option, Some, [], ap, append_assoc, length, refl, subst, suc, sym, take, ℕ}
-use Rattle.std.proofs.Common.{◌+◌, ◌++◌}
-use Rattle.std.proofs.Common.{zero, ◌∙◌, ◌∷◌, ◌≡◌}
-use Rattle.std.proofs.Math.Seq.{take-append-add}
-use Rattle.std.proofs.lemmas.List.{append-nil}
+use Rattle.std.proofs.{Common.{◌+◌, ◌++◌, zero, ◌∙◌, ◌∷◌, ◌≡◌}, Math.Seq.take-append-add, lemmas.List.append-nil}
 use Rattle.std.specs.Io.KnownBytes.{Appends}
 pub use Rattle.argus_core.proofs.AbortingLive.{on_err}
 use Rattle.argus_listings.specs.Flushing.{Added, Cut}

@@ -1,17 +1,14 @@
 -- What the journal's writes leave when they are run again is what the journal says of the object.
-use Rattle.std.proofs.Common.{List, Option, Some, ap, map, ℕ, ◌++◌, ◌∙◌, ◌∷◌, ◌≡◌}
-use Rattle.std.proofs.Common.{None, [], append_assoc, arith, cond, nat_lt, refl, subst, sym, true, ◌<◌}
+use Rattle.std.proofs.Common.{List, Option, Some, ap, map, ℕ, ◌++◌, ◌∙◌, ◌∷◌, ◌≡◌, None, [], append_assoc, arith, cond}
+use Rattle.std.proofs.Common.{nat_lt, refl, subst, sym, true, ◌<◌}
 use Rattle.std.specs.Option.{unwrap_or}
 use Rattle.argus_contents.specs.Content.{PlainContent}
 use Rattle.argus_entries.specs.Entry.{PlainEntry}
 use Rattle.argus_core.specs.Objects.{version_pair, where_declared}
 use Rattle.argus_journal.proofs.Replay.{replayed_base, replayed_seen}
-use Rattle.argus_journal.specs.Legal.{Legal}
-use Rattle.argus_journal.specs.Objects.{declared}
-use Rattle.argus_journal.specs.Opening.{Opening}
+use Rattle.argus_journal.specs.{Legal.Legal, Objects.declared, Opening.Opening, JournalView.JournalView}
 use Rattle.argus_journal.specs.JournalFacts.{base_of, visible_to, versions_of, writers_of}
 use Rattle.argus_objects.specs.declared.version.Version.{Version}
-use Rattle.argus_journal.specs.JournalView.{JournalView}
 use Rattle.argus_listings.specs.Listing.{audit_text, base_again, base_line, seen_again, version_lines, versions_again}
 
 -- an action with what it sees

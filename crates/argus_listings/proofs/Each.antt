@@ -1,17 +1,13 @@
 -- A text that is made of the members of a list, each with its number.
-use Rattle.std.proofs.Common.{List, None, Option, Some, [], ap, arith, drop, length, subst, suc, sym, ℕ, ◌+◌}
-use Rattle.std.proofs.Common.{cond, drop-cons, false, get_or, inl, inr, nat_lt, refl, reverse, ◌-◌, ◌<◌, ◌==◌, ◌≢◌}
-use Rattle.std.proofs.Common.{◌++◌, ◌∙◌, ◌∷◌, ◌≡◌, ◌≤◌}
-use Rattle.std.proofs.lemmas.List.{drop_all}
+use Rattle.std.proofs.Common.{List, None, Option, Some, [], ap, arith, drop, length, subst, suc, sym, ℕ, ◌+◌, cond}
+use Rattle.std.proofs.Common.{drop-cons, false, get_or, inl, inr, nat_lt, refl, reverse, ◌-◌, ◌<◌, ◌==◌, ◌≢◌, ◌++◌, ◌∙◌}
+use Rattle.std.proofs.{Common.{◌∷◌, ◌≡◌, ◌≤◌}, lemmas.List.drop_all, lemmas.Option.slice_get_within}
 use Rattle.std.proofs.lemmas.Option.{get_or_from_slice_get, none-some, slice_get_cases, slice_get_read}
-use Rattle.std.proofs.lemmas.Option.{slice_get_within}
 use Rattle.std.specs.Prelude.{slice_get}
 use Rattle.argus_entries.specs.Entry.{PlainEntry}
-use Rattle.argus_journal.specs.Journal.{entry_at}
-use Rattle.argus_journal.specs.Opening.{Opening}
+use Rattle.argus_journal.specs.{Journal.entry_at, Opening.Opening}
 use Rattle.argus_listings.proofs.Added.{Left, left_added, left_cut, left_ends, left_starts, left_stops, text_added}
-use Rattle.argus_listings.specs.Listing.{each_from, folded_line, opened_line, opening_text}
-use Rattle.argus_listings.specs.Flushing.{Added, Cut}
+use Rattle.argus_listings.specs.{Listing.{each_from, folded_line, opened_line, opening_text}, Flushing.{Added, Cut}}
 
 found : {A : Type 0} (xs : List A) (i : ℕ) (x : A) → slice_get xs i ≡ Some x → drop i xs ≡ x ∷ drop (i + 1) xs
 found xs i x e =

@@ -1,6 +1,5 @@
 -- What the listing of an audit needs.
-use Rattle.std.specs.Borrow.{Bor}
-use Rattle.std.specs.Prelude.{None, Option, Some, false, true, ◌≡◌}
+use Rattle.std.specs.{Borrow.Bor, Prelude.{None, Option, Some, false, true, ◌≡◌}}
 use Rattle.argus_audit.specs.Audit.{IsAudit}
 use Rattle.argus_audit.specs.declared.audit.Audit as found
 use Rattle.argus_journal.specs.JournalView.{JournalView}

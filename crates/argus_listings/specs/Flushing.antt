@@ -1,6 +1,5 @@
 -- A text that is written out now and then: what was added to it, and what was written of it.
-use Rattle.std.specs.Io.KnownBytes.{Appends}
-use Rattle.std.specs.Prelude.{List, Option, take, ℕ, ◌++◌, ◌≡◌}
+use Rattle.std.specs.{Io.KnownBytes.Appends, Prelude.{List, Option, take, ℕ, ◌++◌, ◌≡◌}}
 
 -- the text was added: a prefix of what was pending with it is written, the rest is pending now
 abbrev pub Added : Option (List ℕ) → List ℕ → Option (List ℕ) → List ℕ → List ℕ → Type 0

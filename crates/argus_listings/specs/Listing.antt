@@ -1,18 +1,10 @@
 -- What each listing of a guardian is, to the byte.
-use Rattle.std.specs.Fmt.{decimal}
-use Rattle.std.specs.List.{enumerate_from, flat_map, range_with_len}
-use Rattle.std.specs.Prelude.{List, None, Option, Some, [], codes, if◌then◌else◌, map, reverse}
-use Rattle.std.specs.Prelude.{take, ℕ, ◌++◌, ◌==◌, ◌∷◌}
-use Rattle.argus_contents.specs.Content.{PlainContent}
-use Rattle.argus_contents.specs.Shape.{PlainShape}
-use Rattle.argus_entries.specs.Entry.{PlainEntry}
-use Rattle.argus_entries.specs.EntrySpelling.{entry_line}
-use Rattle.argus_journal.specs.Folding.{next_entry_number}
-use Rattle.argus_journal.specs.Objects.{declared}
-use Rattle.argus_journal.specs.Opening.{Opening}
-use Rattle.argus_journal.specs.Replaying.{replayed}
-use Rattle.argus_journal.specs.JournalFacts.{base_of, readers_of, versions_of, writers_of}
-use Rattle.argus_journal.specs.JournalView.{JournalView}
+use Rattle.std.specs.{Fmt.decimal, List.{enumerate_from, flat_map, range_with_len}, Prelude.{◌∷◌}}
+use Rattle.std.specs.Prelude.{List, None, Option, Some, [], codes, if◌then◌else◌, map, reverse, take, ℕ, ◌++◌, ◌==◌}
+use Rattle.argus_contents.specs.{Content.PlainContent, Shape.PlainShape}
+use Rattle.argus_entries.specs.{Entry.PlainEntry, EntrySpelling.entry_line}
+use Rattle.argus_journal.specs.{Folding.next_entry_number, Objects.declared, Opening.Opening, Replaying.replayed}
+use Rattle.argus_journal.specs.{JournalFacts.{base_of, readers_of, versions_of, writers_of}, JournalView.JournalView}
 use Rattle.argus_reading.specs.OpeningLanguages.{content_text}
 use Rattle.argus_texts.specs.ShapeSpelling.{shape_spelling}
 use Rattle.argus_listings.specs.declared.listing.Listing.{Listing}

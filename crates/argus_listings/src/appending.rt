@@ -1,12 +1,11 @@
 //! Pieces of lines, each appended to a text.
 
-ghost use Rattle.std.specs.Fmt.{decimal};
-ghost use Rattle.std.specs.List.{flat_map};
+ghost use Rattle.std.specs.{Fmt.decimal, List.flat_map};
 ghost use Rattle.std.specs.Prelude.{◌≡◌, ◌++◌, OnOk, map, string_bytes};
 ghost use Rattle.argus_contents.specs.Content.{plain_option};
-ghost use Rattle.argus_listings.specs.Listing.{object_line, reader_text};
+ghost use Rattle.argus_listings.specs.Listing.{object_line, reader_text, readers_line};
+ghost use Rattle.argus_listings.specs.Listing.{readers_text, version_line};
 ghost use Rattle.argus_reading.specs.OpeningLanguages.{content_text};
-ghost use Rattle.argus_listings.specs.Listing.{readers_line, readers_text, version_line};
 
 use argus_actions::ActionId;
 use argus_contents::{Content, Name};

@@ -2,12 +2,9 @@
 
 ghost use Rattle.std.specs.Prelude.{◌≡◌, ◌<◌, ◌++◌, OnOk, map, string_bytes};
 ghost use Rattle.argus_audit.specs.Audit.{IsAudit};
-ghost use Rattle.argus_journal.specs.Journal.{entries_of, opening_of};
-ghost use Rattle.argus_journal.specs.Legal.{Legal};
-ghost use Rattle.argus_journal.specs.Objects.{declared};
-ghost use Rattle.argus_journal.specs.JournalFacts.{base_of, visible_to};
-ghost use Rattle.argus_listings.specs.Listing.{audit_text, base_line, length_line};
-ghost use Rattle.argus_listings.specs.Listing.{version_lines};
+ghost use Rattle.argus_journal.specs.{Journal.{entries_of, opening_of}, Legal.Legal};
+ghost use Rattle.argus_journal.specs.{Objects.declared, JournalFacts.{base_of, visible_to}};
+ghost use Rattle.argus_listings.specs.Listing.{audit_text, base_line, length_line, version_lines};
 
 use crate::appending::{append, append_number, append_object_line, append_version_line};
 use argus_audit::Audit;

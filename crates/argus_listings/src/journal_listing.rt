@@ -4,12 +4,10 @@ ghost use Rattle.std.specs.Prelude.{IfErr, OnErr, OnOk, false, length, string_by
 ghost use Rattle.std.specs.Prelude.{◌≡◌, ◌≤◌, ◌↔◌};
 ghost use Rattle.argus_contents.specs.Content.{plain_option};
 ghost use Rattle.argus_contents.specs.declared.limits.TheConstants.{MAX_OBJECTS};
-ghost use Rattle.argus_entries.specs.Entry.{plain_entry};
+ghost use Rattle.argus_entries.specs.{Entry.plain_entry, EntrySpelling.entry_line};
 ghost use Rattle.argus_journal.specs.Journal.{entries_of, opening_of};
 ghost use Rattle.argus_listings.specs.Listing.{each_from, entries_text, folded_line, opened_line};
-ghost use Rattle.argus_listings.specs.Listing.{opening_text};
-ghost use Rattle.argus_entries.specs.EntrySpelling.{entry_line};
-ghost use Rattle.argus_listings.specs.Flushing.{Added, Cut};
+ghost use Rattle.argus_listings.specs.{Listing.opening_text, Flushing.{Added, Cut}};
 ghost use Rattle.argus_listings.specs.declared.list_error.ListError.TheVariants.{Write};
 ghost use Rattle.argus_streams.specs.FailStop.{has_failed, inner_of};
 

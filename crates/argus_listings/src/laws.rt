@@ -3,8 +3,8 @@
 
 ghost use Rattle.std.specs.Prelude.{◌≡◌, ◌++◌, List, ℕ};
 ghost use Rattle.argus_journal.specs.JournalFacts.{base_of, versions_of};
-ghost use Rattle.argus_listings.specs.Listing.{audit_text, base_again, base_line};
-ghost use Rattle.argus_listings.specs.Listing.{version_lines, versions_again};
+ghost use Rattle.argus_listings.specs.Listing.{audit_text, base_again, base_line, version_lines};
+ghost use Rattle.argus_listings.specs.Listing.{versions_again};
 
 use argus_core::Guardian;
 

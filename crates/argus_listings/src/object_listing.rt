@@ -1,12 +1,11 @@
 //! The lines of objects, in the order of their numbers.
 
 ghost use Rattle.std.specs.Prelude.{◌≡◌, ◌<◌, ◌^◌, ◌++◌, IfErr, IfOk, OnErr, OnOk, false, length};
-ghost use Rattle.argus_audit.specs.Audit.{IsAudit};
 ghost use Rattle.std.specs.Prelude.{string_bytes, true, ◌↔◌};
+ghost use Rattle.argus_audit.specs.Audit.{IsAudit};
 ghost use Rattle.argus_journal.specs.Objects.{declared};
-ghost use Rattle.argus_listings.specs.Auditing.{HasAudit};
+ghost use Rattle.argus_listings.specs.{Auditing.HasAudit, Flushing.{Added, Cut}};
 ghost use Rattle.argus_listings.specs.Listing.{names_within, object_text, objects_text};
-ghost use Rattle.argus_listings.specs.Flushing.{Added, Cut};
 ghost use Rattle.argus_listings.specs.declared.list_error.ListError.TheVariants.{Write};
 ghost use Rattle.argus_listings.specs.declared.listing.Listing.TheVariants as kinds;
 ghost use Rattle.argus_streams.specs.FailStop.{has_failed, inner_of};

@@ -1,10 +1,8 @@
 //! `write_listing`: a listing of a guardian, written.
 
-ghost use Rattle.std.specs.Io.KnownBytes.{Appends};
-ghost use Rattle.std.specs.Prelude.{IfErr, OnErr, OnOk, false, string_bytes, take, true, ℕ};
-ghost use Rattle.std.specs.Prelude.{◌↔◌, ◌≡◌};
-ghost use Rattle.argus_listings.specs.Listing.{listing_of};
-ghost use Rattle.argus_listings.specs.Flushing.{Added, Cut};
+ghost use Rattle.std.specs.{Io.KnownBytes.Appends, Prelude.{◌≡◌}};
+ghost use Rattle.std.specs.Prelude.{IfErr, OnErr, OnOk, false, string_bytes, take, true, ℕ, ◌↔◌};
+ghost use Rattle.argus_listings.specs.{Listing.listing_of, Flushing.{Added, Cut}};
 ghost use Rattle.argus_listings.specs.declared.list_error.ListError.TheVariants.{Write};
 ghost use Rattle.argus_streams.specs.FailStop.{has_failed, inner_of};
 

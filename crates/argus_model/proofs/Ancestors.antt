@@ -1,13 +1,11 @@
 -- Lineages go down in number, and an ancestor's ancestors are ancestors.
 use Rattle.std.proofs.Common.{List, [], ap, arith, cond, inl, inr, refl, sym, true, ℕ, ⊎_elim, ◌++◌, ◌+◌, ◌<◌, ◌∙◌, ◌∷◌}
-use Rattle.std.proofs.Common.{◌≡◌, ◌≢◌, ◌≤◌, ◌⊎◌}
-use Rattle.std.specs.Prelude.{◌==◌}
-use Rattle.std.proofs.lemmas.Bool.{cases_eq, eqb-true, ne_eqb, or_cases}
+use Rattle.std.proofs.{Common.{◌≡◌, ◌≢◌, ◌≤◌, ◌⊎◌}, lemmas.Bool.{cases_eq, eqb-true, ne_eqb, or_cases}}
 use Rattle.std.proofs.lemmas.Bool.Decides.{nat_tests}
-use Rattle.argus_model.specs.Ancestors.{is_ancestor, is_under, lineage, parent, to_base}
+use Rattle.std.specs.Prelude.{◌==◌}
+use Rattle.argus_model.specs.{Ancestors.{is_ancestor, is_under, lineage, parent, to_base}, Numbers.contains}
 use Rattle.argus_model.specs.Event.{Aborted, Accessed, Began, Committed, Origin, origin_parent}
 use Rattle.argus_model.specs.History.{History, Opened, folded, next_action, ◌▹◌}
-use Rattle.argus_model.specs.Numbers.{contains}
 use Rattle.argus_model.proofs.Numbers.{any_found, any_from, contains_first, joined}
 
 -- each parent was begun before

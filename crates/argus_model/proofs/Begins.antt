@@ -1,10 +1,9 @@
 -- Each action that has begun has its begin, which names its parent and its creator.
 use Rattle.std.proofs.Common.{List, [], arith, cond, ap, refl, sym, true, ℕ, ⊎_elim, ◌<◌, ◌∙◌, ◌∷◌, ◌≡◌, ◌++◌}
 use Rattle.std.proofs.lemmas.Bool.{cases_eq, eq-eqb, ne_eqb}
-use Rattle.argus_model.specs.Ancestors.{begun_by, parent}
+use Rattle.argus_model.specs.{Ancestors.{begun_by, parent}, Status.is_begun}
 use Rattle.argus_model.specs.Event.{Aborted, Accessed, Began, Committed, Event, Origin, origin_begun_by, origin_parent}
 use Rattle.argus_model.specs.History.{History, ItsBegin, Opened, folded, followed_by, next_action, ◌▹◌}
-use Rattle.argus_model.specs.Status.{is_begun}
 use Rattle.argus_model.proofs.Live.{is_begun_parts}
 
 followed_more : {V : Type 0} (h : History V) (later : List (Event V)) (e : Event V)

@@ -1,7 +1,6 @@
 -- Laws of tests.
-use Rattle.std.proofs.Common.{Bool, arith, false, refl, sym, true, ℕ, ◌≡◌}
+use Rattle.std.proofs.{Common.{Bool, arith, false, refl, sym, true, ℕ, ◌≡◌}, lemmas.Bool.{eq-eqb, eqb-true}}
 use Rattle.std.specs.Prelude.{not, ◌&&◌, ◌==◌, ◌||◌}
-use Rattle.std.proofs.lemmas.Bool.{eq-eqb, eqb-true}
 
 -- two tests are the same where each follows from the other
 pub same_bool : (a b : Bool) → (a ≡ true → b ≡ true) → (b ≡ true → a ≡ true) → a ≡ b

@@ -1,30 +1,17 @@
 -- What a commit adds to the effects and to the serial order, and how a history goes on from its fold.
 use Rattle.std.proofs.Common.{[], ap, append-nil, arith, cond, false, refl, sym, true, ℕ, ⊎_elim, ◌++◌, ◌-◌, ◌∙◌, ◌∷◌}
-use Rattle.std.proofs.Common.{◌≡◌, ◌≢◌}
+use Rattle.std.proofs.{Common.{◌≡◌, ◌≢◌}, lemmas.Bool.{cases_Bool, cases_eq, eq-eqb, ne_eqb}}
 use Rattle.std.specs.Prelude.{map, ◌==◌}
-use Rattle.std.proofs.lemmas.Bool.{cases_Bool, cases_eq, eq-eqb, ne_eqb}
-use Rattle.argus_model.specs.Ancestors.{parent}
-use Rattle.argus_model.specs.Contents.{base, sees}
-use Rattle.argus_model.specs.Effects.{added_effects, effects, table, written_objects}
-use Rattle.argus_model.specs.Event.{Aborted, Accessed, Began, Committed, Event}
-use Rattle.argus_model.specs.Fold.{fold}
-use Rattle.argus_model.specs.History.{History, Opened, HistoryOpening, next_action, ◌▹◌}
-use Rattle.argus_model.specs.Holders.{writers}
-use Rattle.argus_model.specs.Lawful.{Lawful}
-use Rattle.argus_model.specs.Meaning.{Meaning}
-use Rattle.argus_model.specs.Numbers.{contains}
-use Rattle.argus_model.specs.Status.{is_begun, is_live}
+use Rattle.argus_model.specs.{Ancestors.parent, Contents.{base, sees}, Fold.fold, Holders.writers, Lawful.Lawful}
+use Rattle.argus_model.specs.{Effects.{added_effects, effects, table, written_objects}, Meaning.Meaning}
+use Rattle.argus_model.specs.{Event.{Aborted, Accessed, Began, Committed, Event}, Numbers.contains}
+use Rattle.argus_model.specs.{History.{History, Opened, HistoryOpening, next_action, ◌▹◌}, Status.{is_begun, is_live}}
 use Rattle.argus_model.specs.Work.{all_of, committed_topactions, content_after, serial_order, work}
 use Rattle.argus_model.specs.WorkSteps.{visible_accesses}
-use Rattle.argus_model.proofs.Ancestors.{next_pos}
+use Rattle.argus_model.proofs.{Ancestors.next_pos, Holders.contains_holders, Lawful.{lawful_orderly, lawful_steps}}
 use Rattle.argus_model.proofs.Effects.{effect_seen, effects_grow, effects_stay, map_agree, written_holds}
-use Rattle.argus_model.proofs.Holders.{contains_holders}
-use Rattle.argus_model.proofs.Lawful.{lawful_orderly, lawful_steps}
-use Rattle.argus_model.proofs.Live.{is_begun_parts, live_stands, stands_is_live}
-use Rattle.argus_model.proofs.Sees.{sees_is}
-use Rattle.argus_model.proofs.Standing.{parent_is, parents_are_older}
-use Rattle.argus_model.proofs.Theorems.{table_continues, table_is_base}
-use Rattle.argus_model.proofs.Topactions.{tops_same}
+use Rattle.argus_model.proofs.{Live.{is_begun_parts, live_stands, stands_is_live}, Sees.sees_is, Topactions.tops_same}
+use Rattle.argus_model.proofs.{Standing.{parent_is, parents_are_older}, Theorems.{table_continues, table_is_base}}
 use Rattle.argus_model.proofs.Work.{work_final}
 
 module _ {V C A : Type 0} (meaning : Meaning V C A) (opening : HistoryOpening C) where

@@ -1,17 +1,13 @@
 -- The work of an action is each access that it owns, once.
 use Rattle.std.proofs.Common.{Bool, List, None, Option, Some, [], ap, arith, cond, false, refl, subst, sym, true, ℕ}
-use Rattle.std.proofs.Common.{⊎_elim, ◌++◌, ◌<◌, ◌∙◌, ◌∷◌, ◌≡◌, ◌≢◌}
-use Rattle.std.specs.List.Sorted.{IsPermutation}
-use Rattle.std.specs.Prelude.{◌==◌, ◌||◌}
+use Rattle.std.proofs.{Common.{⊎_elim, ◌++◌, ◌<◌, ◌∙◌, ◌∷◌, ◌≡◌, ◌≢◌}, lemmas.Bool.Decides.nat_tests}
 use Rattle.std.proofs.lemmas.Bool.{cases_Bool, cases_eq, eq-eqb, eqb-true, false_from_ne_true, false≢true, ne_eqb}
-use Rattle.std.proofs.lemmas.Bool.Decides.{nat_tests}
 use Rattle.std.proofs.lemmas.List.Sorted.{IsPermutation-append, IsPermutation-cons, IsPermutation-middle}
 use Rattle.std.proofs.lemmas.List.Sorted.{IsPermutation-refl, IsPermutation-trans}
-use Rattle.argus_model.specs.Ancestors.{is_under, parent}
-use Rattle.argus_model.specs.Event.{Aborted, Accessed, Began, Committed}
-use Rattle.argus_model.specs.History.{History, Opened, folded, next_action, ◌▹◌}
+use Rattle.std.specs.{List.Sorted.IsPermutation, Prelude.{◌==◌, ◌||◌}}
+use Rattle.argus_model.specs.{Ancestors.{is_under, parent}, Event.{Aborted, Accessed, Began, Committed}}
+use Rattle.argus_model.specs.{History.{History, Opened, folded, next_action, ◌▹◌}, Work.{Access, accesses_by, work}}
 use Rattle.argus_model.specs.OwnerSteps.{is_exactly, owner_by_steps, owner_inherited, stands, unless_lost}
-use Rattle.argus_model.specs.Work.{Access, accesses_by, work}
 use Rattle.argus_model.proofs.Standing.{Orderly, at_some, owner_begun, owner_cases, parents_are_older, stands_abort}
 use Rattle.argus_model.proofs.Standing.{stands_begun, stands_commit, stands_old, stands_unfolded, stands_upward}
 use Rattle.argus_model.proofs.Work.{no_work}

@@ -1,15 +1,11 @@
 -- What a list of accesses leaves in an object.
 use Rattle.std.proofs.Common.{Bool, List, [], ap, cond, false, refl, subst, sym, true, ℕ, ⊎_elim, ◌++◌, ◌∙◌, ◌∷◌, ◌≡◌}
-use Rattle.std.specs.Prelude.{◌&&◌, ◌==◌, ◌||◌}
 use Rattle.std.proofs.lemmas.Bool.{and_from, both_ways, cases_Bool, eq-eqb, or_left, or_parts, or_right}
-use Rattle.argus_model.specs.Event.{Aborted, Accessed, Began, Committed}
-use Rattle.argus_model.specs.History.{History, Opened, ◌▹◌}
-use Rattle.argus_model.specs.HolderSteps.{has_used}
-use Rattle.argus_model.specs.Meaning.{Fits, Meaning}
-use Rattle.argus_model.specs.Work.{Access, content_after}
+use Rattle.std.specs.Prelude.{◌&&◌, ◌==◌, ◌||◌}
+use Rattle.argus_model.specs.{Event.{Aborted, Accessed, Began, Committed}, History.{History, Opened, ◌▹◌}}
+use Rattle.argus_model.specs.{HolderSteps.has_used, Meaning.{Fits, Meaning}, Work.{Access, content_after}}
 use Rattle.argus_model.specs.WorkSteps.{Replays, accesses_by}
-use Rattle.argus_model.proofs.Exclusion.{has_used_more, has_used_now}
-use Rattle.argus_model.proofs.Work.{touches}
+use Rattle.argus_model.proofs.{Exclusion.{has_used_more, has_used_now}, Work.touches}
 
 module _ {V C A : Type 0} (meaning : Meaning V C A) (contents : ℕ → C) where
   -- where two lists leave the same in an object, they do so with the same later accesses, too

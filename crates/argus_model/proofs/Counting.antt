@@ -1,29 +1,20 @@
 -- For whom an action's work counts, as time goes on.
 use Rattle.std.proofs.Common.{Bool, List, None, Option, Some, ap, arith, cond, false, inl, inr, refl, subst, sym, true}
-use Rattle.std.proofs.Common.{ℕ, ⊎_elim, ◌<◌, ◌∙◌, ◌≡◌, ◌≢◌}
-use Rattle.std.specs.List.{IsDistinct}
-use Rattle.std.specs.Prelude.{◌&&◌, ◌==◌}
+use Rattle.std.proofs.{Common.{ℕ, ⊎_elim, ◌<◌, ◌∙◌, ◌≡◌, ◌≢◌}, lemmas.Bool.ne_eqb, lemmas.Bool.Decides.nat_tests}
 use Rattle.std.proofs.lemmas.Bool.{and_parts, both_ways, cases_Bool, cases_eq, eqb-true, false_from_ne_true, false≢true}
-use Rattle.std.proofs.lemmas.Bool.{ne_eqb}
-use Rattle.std.proofs.lemmas.Bool.Decides.{nat_tests}
-use Rattle.argus_model.specs.Ancestors.{is_ancestor, is_under, parent}
-use Rattle.argus_model.specs.Event.{Aborted, Accessed, Began, Committed, Event}
-use Rattle.argus_model.specs.History.{History, Opened, next_action, ◌▹◌}
-use Rattle.argus_model.specs.Numbers.{contains}
-use Rattle.argus_model.specs.Owner.{Base, Gone, Held, Owner, is_base, owner}
+use Rattle.std.specs.{List.IsDistinct, Prelude.{◌&&◌, ◌==◌}}
+use Rattle.argus_model.specs.{Ancestors.{is_ancestor, is_under, parent}, History.{History, Opened, next_action, ◌▹◌}}
+use Rattle.argus_model.specs.{Event.{Aborted, Accessed, Began, Committed, Event}, Numbers.contains}
+use Rattle.argus_model.specs.{Owner.{Base, Gone, Held, Owner, is_base, owner}, Work.committed_topactions}
 use Rattle.argus_model.specs.OwnerSteps.{as_owner, owner_inherited, owner_by_steps, stands, unless_lost}
 use Rattle.argus_model.specs.Status.{has_committed, is_begun, is_doomed, is_live}
-use Rattle.argus_model.specs.Work.{committed_topactions}
-use Rattle.argus_model.proofs.Ancestors.{parent_cases, parent_older}
-use Rattle.argus_model.proofs.Live.{is_begun_from, is_begun_parts, live_stands, stands_is_live}
-use Rattle.argus_model.proofs.Numbers.{different}
+use Rattle.argus_model.proofs.{Ancestors.{parent_cases, parent_older}, Numbers.different, Serial.base_stands}
+use Rattle.argus_model.proofs.{Live.{is_begun_from, is_begun_parts, live_stands, stands_is_live}, Topactions.tops_over}
 use Rattle.argus_model.proofs.Owner.{owner_is, parent_unfolded}
 use Rattle.argus_model.proofs.OwnerRules.{committed_begun, committed_unfolded, owner_ancestor, owner_gone, owner_passed}
-use Rattle.argus_model.proofs.Serial.{base_stands}
 use Rattle.argus_model.proofs.Standing.{Orderly, at_some, handed_cases, handed_stays, kept_cases, kept_stays}
 use Rattle.argus_model.proofs.Standing.{owned_begun, owner_cases, parent_is, parents_are_older, some_at, stands_abort}
 use Rattle.argus_model.proofs.Standing.{stands_begun, stands_commit, stands_new, stands_old, stands_upward}
-use Rattle.argus_model.proofs.Topactions.{tops_over}
 
 -- who answers for an action answers for itself, too
 pub owner_stands : {V : Type 0} (h : History V) → Orderly h → (a x : ℕ) → owner_by_steps h a ≡ Some x

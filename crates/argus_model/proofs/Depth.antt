@@ -1,18 +1,13 @@
 -- The depth that is read off the rows is that of the lineage.
-use Rattle.std.proofs.lemmas.Bool.Decides.{nat_tests}
+use Rattle.std.proofs.{lemmas.Bool.Decides.nat_tests, Common.{◌+◌, ◌-◌, ◌∙◌, ◌∷◌, ◌≡◌, ◌≢◌}}
 use Rattle.std.proofs.Common.{Bool, List, [], ap, arith, cond, false, length, refl, suc, sym, true, ℕ, ⊎_elim, inl, inr}
-use Rattle.std.proofs.Common.{◌+◌, ◌-◌, ◌∙◌, ◌∷◌, ◌≡◌, ◌≢◌}
-use Rattle.std.specs.List.{list_any}
-use Rattle.std.specs.Prelude.{◌==◌, ◌⊎◌}
 use Rattle.std.proofs.lemmas.Bool.{cases_eq, eq-eqb, ne_eqb}
-use Rattle.argus_model.specs.Ancestors.{lineage, to_base}
-use Rattle.argus_model.specs.Event.{Aborted, Accessed, Began, Committed, origin_parent}
-use Rattle.argus_model.specs.History.{History, Opened, folded, next_action, ◌▹◌}
-use Rattle.argus_model.specs.OwnerSteps.{stands}
+use Rattle.std.specs.{List.list_any, Prelude.{◌==◌, ◌⊎◌}}
+use Rattle.argus_model.specs.{Ancestors.{lineage, to_base}, Event.{Aborted, Accessed, Began, Committed, origin_parent}}
+use Rattle.argus_model.specs.{History.{History, Opened, folded, next_action, ◌▹◌}, OwnerSteps.stands}
 use Rattle.argus_model.specs.Rows.{Row, depth_at, is_above, mark, rows, with_status}
 use Rattle.argus_model.specs.Status.{IsAborted, IsCommitted, Status, is_begun}
-use Rattle.argus_model.proofs.Live.{is_begun_from, is_begun_parts}
-use Rattle.argus_model.proofs.Rows.{length-mark, rows_length}
+use Rattle.argus_model.proofs.{Live.{is_begun_from, is_begun_parts}, Rows.{length-mark, rows_length}}
 use Rattle.argus_model.proofs.Standing.{Orderly, stands_begun, stands_unfolded}
 
 depth_at-mark : (n : ℕ) (which : ℕ → Bool) (s : Status) (rs : List Row) (a : ℕ)

@@ -1,31 +1,21 @@
 -- The table of what the committed topactions left has the bases, and an event adds at most one effect at the end.
-use Rattle.std.proofs.lemmas.Bool.Decides.{nat_tests}
+use Rattle.std.proofs.{lemmas.Bool.Decides.nat_tests, Common.{⊎_elim, ◌++◌, ◌∙◌, ◌∷◌, ◌≡◌, ◌≢◌}}
 use Rattle.std.proofs.Common.{Bool, List, Some, [], ap, append-nil, arith, cond, false, refl, subst, sym, true, ℕ}
-use Rattle.std.proofs.Common.{⊎_elim, ◌++◌, ◌∙◌, ◌∷◌, ◌≡◌, ◌≢◌}
-use Rattle.std.specs.Prelude.{map, reverse, ◌&&◌, ◌==◌, ◌||◌}
 use Rattle.std.proofs.lemmas.Bool.{and_from, and_right, cases_Bool, cases_eq, eq-eqb, false≢true, ne_eqb, or_cases}
-use Rattle.std.proofs.lemmas.Bool.{or_left, or_right}
-use Rattle.std.proofs.lemmas.List.{reverse-append}
-use Rattle.argus_model.specs.Ancestors.{is_under, lineage, parent}
+use Rattle.std.proofs.{lemmas.Bool.{or_left, or_right}, lemmas.List.reverse-append}
+use Rattle.std.specs.Prelude.{map, reverse, ◌&&◌, ◌==◌, ◌||◌}
+use Rattle.argus_model.specs.{Ancestors.{is_under, lineage, parent}, Event.{Aborted, Accessed, Began, Committed, Event}}
 use Rattle.argus_model.specs.Effects.{content_by, effect_of, effects, effects_of, table, written_objects}
-use Rattle.argus_model.specs.Event.{Aborted, Accessed, Began, Committed, Event}
-use Rattle.argus_model.specs.History.{History, Opened, HistoryOpening, ◌▹◌}
-use Rattle.argus_model.specs.HolderSteps.{has_used, holds}
-use Rattle.argus_model.specs.Meaning.{Meaning}
-use Rattle.argus_model.specs.Numbers.{contains, insert}
+use Rattle.argus_model.specs.{History.{History, Opened, HistoryOpening, ◌▹◌}, HolderSteps.{has_used, holds}}
+use Rattle.argus_model.specs.{Meaning.Meaning, Numbers.{contains, insert}, WorkSteps.{LawfulSteps, visible_accesses}}
 use Rattle.argus_model.specs.OwnerSteps.{is_exactly, owner_by_steps, stands}
 use Rattle.argus_model.specs.Work.{Access, all_of, committed_topactions, content_after, serial_order_to, work}
-use Rattle.argus_model.specs.WorkSteps.{LawfulSteps, visible_accesses}
-use Rattle.argus_model.proofs.Ancestors.{parent_older}
-use Rattle.argus_model.proofs.Bools.{eqb_sym, same_bool}
-use Rattle.argus_model.proofs.Contents.{content_past}
-use Rattle.argus_model.proofs.Exclusion.{has_used_begun, has_used_cases}
-use Rattle.argus_model.proofs.HolderSteps.{used_by_found, used_by_from}
+use Rattle.argus_model.proofs.{Ancestors.parent_older, Bools.{eqb_sym, same_bool}, Contents.content_past}
+use Rattle.argus_model.proofs.{Exclusion.{has_used_begun, has_used_cases}, HolderSteps.{used_by_found, used_by_from}}
 use Rattle.argus_model.proofs.Numbers.{IsRising, contains_first, contains_insert, insert-IsRising}
 use Rattle.argus_model.proofs.Serial.{base_serial, lineage-base, orderly, serial_to-base, serials}
 use Rattle.argus_model.proofs.Standing.{Orderly, at_some, handed_cases, kept_cases, owner_cases, parents_are_older}
-use Rattle.argus_model.proofs.Standing.{some_at, stands_begun}
-use Rattle.argus_model.proofs.Topactions.{serial_tops, tops_over}
+use Rattle.argus_model.proofs.{Standing.{some_at, stands_begun}, Topactions.{serial_tops, tops_over}}
 use Rattle.argus_model.proofs.Work.{all_of_agree, touches, user_of, work_final}
 
 -- functions that agree everywhere give the same list

@@ -1,11 +1,9 @@
 -- How the holders change by one more event, and that the lock rules depend only on them.
 use Rattle.std.proofs.Common.{Bool, List, None, Option, Some, arith, false, refl, true, ℕ, ◌∙◌, ◌≡◌, ◌≢◌}
+use Rattle.std.proofs.{lemmas.Bool.{cases_Bool, cases_eq, false≢true}, lemmas.Bool.Decides.nat_tests}
 use Rattle.std.specs.Prelude.{not, ◌&&◌, ◌==◌, ◌||◌}
-use Rattle.std.proofs.lemmas.Bool.{cases_Bool, cases_eq, false≢true}
-use Rattle.std.proofs.lemmas.Bool.Decides.{nat_tests}
-use Rattle.argus_model.specs.Ancestors.{is_ancestor, is_under, parent}
+use Rattle.argus_model.specs.{Ancestors.{is_ancestor, is_under, parent}, History.{History, Opened, ◌▹◌}}
 use Rattle.argus_model.specs.Event.{Aborted, Accessed, Began, Committed, Origin}
-use Rattle.argus_model.specs.History.{History, Opened, ◌▹◌}
 use Rattle.argus_model.specs.HolderSteps.{has_used, holds, may_by_steps, used_by}
 use Rattle.argus_model.specs.OwnerSteps.{owner_inherited, is_exactly, owner_by_steps, stands, unless_lost}
 use Rattle.argus_model.proofs.Exclusion.{Guarded, exclusion, has_used_begun, has_used_cases, has_used_more}

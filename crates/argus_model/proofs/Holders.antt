@@ -1,24 +1,16 @@
 -- The lists of holders and the two lock rules are those of the owners by steps.
 use Rattle.std.proofs.Common.{Bool, ap, arith, false, refl, subst, sym, true, ℕ, ⊎_elim, ◌++◌, ◌<◌, ◌∙◌, ◌≡◌, ◌≢◌}
-use Rattle.std.specs.List.{list_all}
-use Rattle.std.specs.Prelude.{◌&&◌, ◌==◌, ◌||◌}
 use Rattle.std.proofs.lemmas.Bool.{and_from, and_parts, cases_eq, false≢true, or_cases, or_left, or_right}
-use Rattle.argus_model.specs.Ancestors.{is_ancestor}
-use Rattle.argus_model.specs.Event.{Aborted, Accessed, Began, Committed}
-use Rattle.argus_model.specs.History.{History, Opened, begun_actions, folded, next_action, ◌▹◌}
-use Rattle.argus_model.specs.HolderSteps.{has_used, holds, may_by_steps, used_by}
+use Rattle.std.specs.{List.list_all, Prelude.{◌&&◌, ◌==◌, ◌||◌}}
+use Rattle.argus_model.specs.{Ancestors.is_ancestor, Event.{Aborted, Accessed, Began, Committed}, Numbers.contains}
+use Rattle.argus_model.specs.{History.{History, Opened, begun_actions, folded, next_action, ◌▹◌}, Status.is_begun}
+use Rattle.argus_model.specs.{HolderSteps.{has_used, holds, may_by_steps, used_by}, Meaning.{Meaning, reads}}
 use Rattle.argus_model.specs.Holders.{has_access, holders, is_holder, may_read, may_write, readers, writers}
-use Rattle.argus_model.specs.Meaning.{Meaning, reads}
-use Rattle.argus_model.specs.Numbers.{contains}
-use Rattle.argus_model.specs.Owner.{is_held_by, owner}
-use Rattle.argus_model.specs.OwnerSteps.{is_exactly, owner_by_steps}
-use Rattle.argus_model.specs.Status.{is_begun}
-use Rattle.argus_model.proofs.Bools.{and_split, kinds_apart, same_bool}
-use Rattle.argus_model.proofs.Exclusion.{has_used_begun, has_used_cases}
-use Rattle.argus_model.proofs.HolderSteps.{may_asks, may_if, used_by_agree, used_by_found}
+use Rattle.argus_model.specs.{Owner.{is_held_by, owner}, OwnerSteps.{is_exactly, owner_by_steps}}
+use Rattle.argus_model.proofs.{Bools.{and_split, kinds_apart, same_bool}, Exclusion.{has_used_begun, has_used_cases}}
+use Rattle.argus_model.proofs.{HolderSteps.{may_asks, may_if, used_by_agree, used_by_found}, Numbers.rising_filter}
 use Rattle.argus_model.proofs.Live.{begun_contains, begun_rising, contains_unfolded, is_begun_from}
 use Rattle.argus_model.proofs.Numbers.{IsRising, contains_filter, every_at, every_from, filter_contains, joined_cases}
-use Rattle.argus_model.proofs.Numbers.{rising_filter}
 use Rattle.argus_model.proofs.Owner.{base_above, is_held_by_is, owner_is, owner_unfolded}
 use Rattle.argus_model.proofs.Standing.{Orderly, at_some, owner_begun, parents_are_older, stands_unfolded}
 

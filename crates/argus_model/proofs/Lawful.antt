@@ -1,25 +1,14 @@
 -- A lawful history is lawful by the events' own forms.
 use Rattle.std.proofs.Common.{List, ap, cond, false, subst, sym, true, ℕ, ⊎_elim, ◌∙◌, ◌≡◌}
-use Rattle.std.specs.List.{list_all}
-use Rattle.std.specs.Prelude.{◌==◌, ◌||◌}
 use Rattle.std.proofs.lemmas.Bool.{cases_Bool, eqb-true, or_cases}
+use Rattle.std.specs.{List.list_all, Prelude.{◌==◌, ◌||◌}}
 use Rattle.argus_model.specs.Event.{Aborted, Accessed, Began, Committed, Event, Nested, Origin, Sub, Top}
-use Rattle.argus_model.specs.Event.{origin_begun_by}
-use Rattle.argus_model.specs.Event.{origin_parent}
-use Rattle.argus_model.specs.History.{History, Opened, HistoryOpening, ◌▹◌}
-use Rattle.argus_model.specs.HolderSteps.{may_by_steps}
-use Rattle.argus_model.specs.Holders.{may_read, may_write}
-use Rattle.argus_model.specs.Lawful.{Allowed, Lawful, may_access}
-use Rattle.argus_model.specs.Meaning.{Fits, Meaning}
-use Rattle.argus_model.specs.OwnerSteps.{AllStand, StandsAlone, stands}
-use Rattle.argus_model.specs.Status.{has_live_child, is_live}
-use Rattle.argus_model.specs.WorkSteps.{LawfulSteps}
-use Rattle.argus_model.proofs.Holders.{may_read_is, may_write_is}
-use Rattle.argus_model.proofs.Live.{child_is, live_stands}
-use Rattle.argus_model.proofs.Numbers.{every_at}
-use Rattle.argus_model.proofs.Sees.{sees_is}
-use Rattle.argus_model.proofs.Serial.{base_stands, orderly}
-use Rattle.argus_model.proofs.Standing.{Orderly}
+use Rattle.argus_model.specs.{Event.{origin_begun_by, origin_parent}, History.{History, Opened, HistoryOpening, ◌▹◌}}
+use Rattle.argus_model.specs.{HolderSteps.may_by_steps, Holders.{may_read, may_write}, Meaning.{Fits, Meaning}}
+use Rattle.argus_model.specs.{Lawful.{Allowed, Lawful, may_access}, OwnerSteps.{AllStand, StandsAlone, stands}}
+use Rattle.argus_model.specs.{Status.{has_live_child, is_live}, WorkSteps.LawfulSteps}
+use Rattle.argus_model.proofs.{Holders.{may_read_is, may_write_is}, Live.{child_is, live_stands}, Numbers.every_at}
+use Rattle.argus_model.proofs.{Sees.sees_is, Serial.{base_stands, orderly}, Standing.Orderly}
 
 -- the parent of an action that may begin stands
 pub parent_stands : {V : Type 0} (h : History V) → Orderly h → (from : Origin)

@@ -1,21 +1,13 @@
 -- Holders of objects are live, and what the two lock rules require.
 use Rattle.std.proofs.Common.{Bool, false, subst, sym, true, ℕ, ⊎_elim, ◌++◌, ◌↔◌, ◌∙◌, ◌≡◌, ◌≢◌}
-use Rattle.std.specs.List.{list_all}
 use Rattle.std.proofs.lemmas.Bool.{and_from, and_parts, both_ways}
-use Rattle.argus_model.specs.Ancestors.{is_ancestor}
-use Rattle.argus_model.specs.History.{History}
-use Rattle.argus_model.specs.Holders.{holders, may_read, may_write, readers, writers}
-use Rattle.argus_model.specs.Meaning.{Meaning, reads}
-use Rattle.argus_model.specs.Numbers.{contains}
+use Rattle.std.specs.List.{list_all}
+use Rattle.argus_model.specs.{Ancestors.is_ancestor, History.History, Meaning.{Meaning, reads}, Numbers.contains}
+use Rattle.argus_model.specs.{Holders.{holders, may_read, may_write, readers, writers}, Status.is_live}
 use Rattle.argus_model.specs.OwnerSteps.{is_exactly, owner_by_steps}
-use Rattle.argus_model.specs.Status.{is_live}
-use Rattle.argus_model.proofs.Counting.{owner_stands}
-use Rattle.argus_model.proofs.HolderSteps.{used_by_found}
-use Rattle.argus_model.proofs.Holders.{listed}
-use Rattle.argus_model.proofs.Live.{stands_is_live}
-use Rattle.argus_model.proofs.NextHolders.{no_base_holder}
+use Rattle.argus_model.proofs.{Counting.owner_stands, HolderSteps.used_by_found, Holders.listed, Live.stands_is_live}
+use Rattle.argus_model.proofs.{NextHolders.no_base_holder, Standing.{Orderly, at_some}}
 use Rattle.argus_model.proofs.Numbers.{every_at, every_from, joined, joined_cases, joined_left}
-use Rattle.argus_model.proofs.Standing.{Orderly, at_some}
 
 module _ {V C A : Type 0} (meaning : Meaning V C A) where
   holder_lives : (h : History V) → Orderly h → (kind : V → Bool) (o x : ℕ) → contains (holders kind h o) x ≡ true

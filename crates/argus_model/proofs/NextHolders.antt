@@ -1,22 +1,17 @@
 -- The holders of an object after one more event.
 use Rattle.std.proofs.lemmas.Bool.Decides.{nat_tests}
 use Rattle.std.proofs.Common.{Bool, List, ap, arith, cond, false, refl, subst, sym, true, ℕ, ⊎_elim, ◌∙◌, ◌≡◌, ◌≢◌}
-use Rattle.std.specs.Prelude.{filter, not, ◌&&◌, ◌==◌, ◌||◌}
 use Rattle.std.proofs.lemmas.Bool.{and_from, and_parts, cases_Bool, cases_eq, eq-eqb, false_from_ne_true, ne_eqb}
-use Rattle.argus_model.specs.Ancestors.{is_under, parent}
-use Rattle.argus_model.specs.Event.{Aborted, Accessed, Began, Committed, Origin}
-use Rattle.argus_model.specs.History.{History, begun_actions, ◌▹◌}
-use Rattle.argus_model.specs.HolderSteps.{holds}
-use Rattle.argus_model.specs.Holders.{holders, inherited, is_holder}
-use Rattle.argus_model.specs.Numbers.{contains, insert, without}
+use Rattle.std.specs.Prelude.{filter, not, ◌&&◌, ◌==◌, ◌||◌}
+use Rattle.argus_model.specs.{Ancestors.{is_under, parent}, Event.{Aborted, Accessed, Began, Committed, Origin}}
+use Rattle.argus_model.specs.{History.{History, begun_actions, ◌▹◌}, HolderSteps.holds}
+use Rattle.argus_model.specs.{Holders.{holders, inherited, is_holder}, Numbers.{contains, insert, without}}
 use Rattle.argus_model.specs.OwnerSteps.{is_exactly, owner_by_steps}
-use Rattle.argus_model.proofs.Bools.{and_all, and_none, eqb_sym, same_bool}
+use Rattle.argus_model.proofs.{Bools.{and_all, and_none, eqb_sym, same_bool}, Live.contains_unfolded}
 use Rattle.argus_model.proofs.HolderSteps.{holds_abort, holds_access, holds_begin, holds_commit_other}
-use Rattle.argus_model.proofs.HolderSteps.{holds_commit_parent, used_by_found}
+use Rattle.argus_model.proofs.{HolderSteps.{holds_commit_parent, used_by_found}, Numbers.{rising_filter, rising_same}}
 use Rattle.argus_model.proofs.Holders.{contains_holders, holders_rising}
-use Rattle.argus_model.proofs.Live.{contains_unfolded}
 use Rattle.argus_model.proofs.Numbers.{IsRising, contains_filter, contains_insert, filter_contains, insert-IsRising}
-use Rattle.argus_model.proofs.Numbers.{rising_filter, rising_same}
 use Rattle.argus_model.proofs.Standing.{Orderly, at_some, handed_cases, parent_is, parents_are_older}
 
 -- a filtered list has what is on the list and passes the test

@@ -1,24 +1,14 @@
 -- What a live action sees, and the bases, after one more event.
 use Rattle.std.proofs.Common.{Bool, List, Some, ap, arith, cond, false, refl, sym, true, ℕ, ⊎_elim, ◌∙◌, ◌≡◌, ◌≢◌}
-use Rattle.std.specs.Prelude.{◌&&◌, ◌==◌}
 use Rattle.std.proofs.lemmas.Bool.{and_from, and_left, and_right, both_ways, cases_Bool}
-use Rattle.argus_model.specs.Ancestors.{is_ancestor, parent}
-use Rattle.argus_model.specs.Contents.{base, sees}
-use Rattle.argus_model.specs.Event.{Aborted, Accessed, Began, Committed, Origin, origin_parent}
-use Rattle.argus_model.specs.History.{History, HistoryOpening, next_action, ◌▹◌}
-use Rattle.argus_model.specs.HolderSteps.{has_used}
-use Rattle.argus_model.specs.Holders.{writers}
-use Rattle.argus_model.specs.Meaning.{Meaning}
-use Rattle.argus_model.specs.Numbers.{contains}
-use Rattle.argus_model.specs.OwnerSteps.{is_exactly, owner_by_steps, stands}
-use Rattle.argus_model.specs.Work.{content_after}
+use Rattle.std.specs.Prelude.{◌&&◌, ◌==◌}
+use Rattle.argus_model.specs.{Ancestors.{is_ancestor, parent}, Contents.{base, sees}, HolderSteps.has_used}
+use Rattle.argus_model.specs.{Event.{Aborted, Accessed, Began, Committed, Origin, origin_parent}, Holders.writers}
+use Rattle.argus_model.specs.{History.{History, HistoryOpening, next_action, ◌▹◌}, Meaning.Meaning, Numbers.contains}
+use Rattle.argus_model.specs.{OwnerSteps.{is_exactly, owner_by_steps, stands}, Work.content_after}
 use Rattle.argus_model.specs.WorkSteps.{visible_accesses}
-use Rattle.argus_model.proofs.Ancestors.{next_pos}
-use Rattle.argus_model.proofs.Bools.{or_none}
-use Rattle.argus_model.proofs.Exclusion.{Guarded}
-use Rattle.argus_model.proofs.HolderSteps.{used_by_found, used_by_from}
-use Rattle.argus_model.proofs.Holders.{contains_holders, listed}
-use Rattle.argus_model.proofs.Sees.{base_is, sees_is}
+use Rattle.argus_model.proofs.{Ancestors.next_pos, Bools.or_none, Exclusion.Guarded, Holders.{contains_holders, listed}}
+use Rattle.argus_model.proofs.{HolderSteps.{used_by_found, used_by_from}, Sees.{base_is, sees_is}}
 use Rattle.argus_model.proofs.Serial.{base_stands, lineage-base, seen_abort, seen_access_other, seen_access_own}
 use Rattle.argus_model.proofs.Serial.{seen_as_s, seen_aside, seen_begin_new, seen_begin_old, seen_same}
 use Rattle.argus_model.proofs.Standing.{Orderly, alone, at_some, parents_are_older, some_at, stands_upward}

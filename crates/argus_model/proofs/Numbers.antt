@@ -1,11 +1,9 @@
 -- Members of lists of numbers, and rising lists.
 use Rattle.std.proofs.Common.{Bool, List, [], arith, false, inr, refl, subst, sym, true, ℕ, ⊎_elim, ◌++◌, ◌+◌, ◌<◌, ◌∙◌}
-use Rattle.std.proofs.Common.{◌∷◌, ◌≡◌, ◌⊎◌}
-use Rattle.std.specs.List.{AllByRecursion, list_all, list_any}
-use Rattle.std.specs.List.Sorted.{IsStrictlyIncreasing}
-use Rattle.std.specs.Prelude.{filter, nat_lt, ◌==◌, ◌||◌}
+use Rattle.std.proofs.{Common.{◌∷◌, ◌≡◌, ◌⊎◌}, lemmas.Bool.Decides.nat_tests}
 use Rattle.std.proofs.lemmas.Bool.{cases_Bool, cases_eq, eqb-true, false≢true, or_cases, or_parts, or_right}
-use Rattle.std.proofs.lemmas.Bool.Decides.{nat_tests}
+use Rattle.std.specs.{List.{AllByRecursion, list_all, list_any}, List.Sorted.IsStrictlyIncreasing}
+use Rattle.std.specs.Prelude.{filter, nat_lt, ◌==◌, ◌||◌}
 use Rattle.argus_model.specs.Numbers.{contains, insert}
 
 -- each number is less than those after it

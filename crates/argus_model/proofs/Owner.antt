@@ -1,19 +1,15 @@
 -- The owner by its plain definition is the owner by steps.
 use Rattle.std.proofs.Common.{None, Option, Some, ap, arith, cond, refl, subst, suc, sym, true, zero, ℕ, ⊎_elim, ◌<◌}
-use Rattle.std.proofs.Common.{◌∙◌, ◌≡◌, ◌≢◌}
-use Rattle.std.proofs.lemmas.Bool.{cases_Bool, cases_eq, ne_eqb}
+use Rattle.std.proofs.{Common.{◌∙◌, ◌≡◌, ◌≢◌}, lemmas.Bool.{cases_Bool, cases_eq, ne_eqb}}
 use Rattle.std.proofs.lemmas.Bool.Decides.{nat_tests}
-use Rattle.argus_model.specs.Ancestors.{is_ancestor, is_under, lineage, parent}
+use Rattle.argus_model.specs.{Ancestors.{is_ancestor, is_under, lineage, parent}, WorkSteps.owner_passes}
 use Rattle.argus_model.specs.Event.{Aborted, Accessed, Began, Committed, origin_parent}
 use Rattle.argus_model.specs.History.{History, Opened, folded, next_action, ◌▹◌}
 use Rattle.argus_model.specs.Owner.{Base, Gone, Held, counts_for, is_base, is_held_by, owner, owner_up}
 use Rattle.argus_model.specs.OwnerSteps.{as_owner, is_exactly, owner_by_steps}
 use Rattle.argus_model.specs.Status.{has_committed, is_begun, is_doomed}
-use Rattle.argus_model.specs.WorkSteps.{owner_passes}
-use Rattle.argus_model.proofs.Ancestors.{folded_next, lineage_cases, parent_cases, parent_older}
-use Rattle.argus_model.proofs.Live.{is_begun_parts}
-use Rattle.argus_model.proofs.OwnerRules.{owner_gone, owner_passed, owner_self}
-use Rattle.argus_model.proofs.Serial.{base_stands, lineage-base}
+use Rattle.argus_model.proofs.{Ancestors.{folded_next, lineage_cases, parent_cases, parent_older}, Live.is_begun_parts}
+use Rattle.argus_model.proofs.{OwnerRules.{owner_gone, owner_passed, owner_self}, Serial.{base_stands, lineage-base}}
 use Rattle.argus_model.proofs.Standing.{Orderly, at_some, handed_cases, kept_cases, owner_cases, parents_are_older}
 use Rattle.argus_model.proofs.Standing.{stands_begun, stands_unfolded}
 

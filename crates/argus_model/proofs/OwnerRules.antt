@@ -1,25 +1,19 @@
 -- Doomed actions have no owner, live ones themselves, and committed ones their parent's.
 use Rattle.std.proofs.Common.{Bool, None, Option, Some, ap, arith, cond, false, refl, subst, sym, true, ℕ, ⊎_elim, ◌<◌}
-use Rattle.std.proofs.Common.{◌∙◌, ◌∷◌, ◌≡◌, ◌≢◌}
-use Rattle.std.specs.Prelude.{◌==◌, ◌||◌}
+use Rattle.std.proofs.{Common.{◌∙◌, ◌∷◌, ◌≡◌, ◌≢◌}, lemmas.Bool.or_cases, lemmas.Bool.Decides.nat_tests}
 use Rattle.std.proofs.lemmas.Bool.{cases_Bool, cases_eq, eq-eqb, eqb-true, false_from_ne_true, false≢true, ne_eqb}
-use Rattle.std.proofs.lemmas.Bool.{or_cases}
-use Rattle.std.proofs.lemmas.Bool.Decides.{nat_tests}
-use Rattle.argus_model.specs.Ancestors.{is_ancestor, is_under, lineage, parent}
+use Rattle.std.specs.Prelude.{◌==◌, ◌||◌}
+use Rattle.argus_model.specs.{Ancestors.{is_ancestor, is_under, lineage, parent}, Numbers.contains}
 use Rattle.argus_model.specs.Event.{Aborted, Accessed, Began, Committed, origin_parent}
 use Rattle.argus_model.specs.History.{History, Opened, folded, next_action, ◌▹◌}
-use Rattle.argus_model.specs.Numbers.{contains}
 use Rattle.argus_model.specs.OwnerSteps.{owner_inherited, is_exactly, owner_by_steps, stands, unless_lost}
 use Rattle.argus_model.specs.Status.{has_committed, is_doomed, was_aborted}
 use Rattle.argus_model.proofs.Ancestors.{ancestor_le, ancestor_old, ancestor_old_is, ancestor_self, ancestor_trans}
-use Rattle.argus_model.proofs.Ancestors.{lineage_cases, parent_cases}
-use Rattle.argus_model.proofs.Bools.{same_bool}
-use Rattle.argus_model.proofs.Exclusion.{above_parent}
-use Rattle.argus_model.proofs.Numbers.{any_agree}
+use Rattle.argus_model.proofs.{Ancestors.{lineage_cases, parent_cases}, Bools.same_bool, Exclusion.above_parent}
+use Rattle.argus_model.proofs.{Numbers.any_agree, Standing.stands_upward}
 use Rattle.argus_model.proofs.Standing.{Orderly, at_some, handed_cases, handed_from, handed_stays, kept_cases}
 use Rattle.argus_model.proofs.Standing.{owned_begun, owner_begun, owner_cases, parent_begun, parent_is}
 use Rattle.argus_model.proofs.Standing.{parents_are_older, stands_abort, stands_begun, stands_commit, stands_unfolded}
-use Rattle.argus_model.proofs.Standing.{stands_upward}
 
 abbrev gone : Option ℕ → Bool
 gone None = true

@@ -1,12 +1,10 @@
 -- Each access of the serial order is an event of the history.
 use Rattle.std.proofs.Common.{List, [], cond, inl, inr, refl, subst, sym, ℕ, ⊎_elim, ◌++◌, ◌∷◌, ◌≡◌}
-use Rattle.std.specs.Prelude.{◌==◌, ◌⊎◌}
 use Rattle.std.proofs.lemmas.Bool.{cases_Bool}
-use Rattle.argus_model.specs.Ancestors.{lineage, parent}
-use Rattle.argus_model.specs.Event.{Aborted, Accessed, Began, Committed}
+use Rattle.std.specs.Prelude.{◌==◌, ◌⊎◌}
+use Rattle.argus_model.specs.{Ancestors.{lineage, parent}, Event.{Aborted, Accessed, Began, Committed}, Work.work}
 use Rattle.argus_model.specs.History.{History, Opened, ◌▹◌}
 use Rattle.argus_model.specs.Work.{Access, IsOnRecord, all_of, committed_topactions, serial_order, serial_order_to}
-use Rattle.argus_model.specs.Work.{work}
 
 -- x is one of these
 abbrev IsOneOf : {X : Type 0} → List X → X → Type 0

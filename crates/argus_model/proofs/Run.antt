@@ -1,11 +1,9 @@
 -- A list that replays, newest first, gives its answers again, oldest first.
 use Rattle.std.proofs.Common.{List, [], ap, cond, refl, subst, sym, ℕ, ◌++◌, ◌∙◌, ◌∷◌, ◌≡◌}
-use Rattle.std.specs.Prelude.{reverse, ◌==◌}
 use Rattle.std.proofs.lemmas.List.{reverse-append}
-use Rattle.argus_model.specs.Meaning.{Fits, Meaning}
-use Rattle.argus_model.specs.Run.{AnswersAgain, after_access, run}
+use Rattle.std.specs.Prelude.{reverse, ◌==◌}
+use Rattle.argus_model.specs.{Meaning.{Fits, Meaning}, Run.{AnswersAgain, after_access, run}, WorkSteps.Replays}
 use Rattle.argus_model.specs.Work.{Access, content_after, content_before}
-use Rattle.argus_model.specs.WorkSteps.{Replays}
 
 module _ {V C A : Type 0} (meaning : Meaning V C A) (contents : ℕ → C) where
   run-more : (s : ℕ → C) (es : List (Access V)) (e : Access V) (o : ℕ)

@@ -1,26 +1,16 @@
 -- What an action sees, and the base, are what the accesses that count for it leave.
 use Rattle.std.proofs.Common.{Bool, None, Option, Some, ap, cond, false, refl, sym, true, ℕ, ⊎_elim, ◌∙◌, ◌∷◌, ◌≡◌}
-use Rattle.std.specs.Prelude.{◌&&◌, ◌==◌}
 use Rattle.std.proofs.lemmas.Bool.{and_from, and_parts, and_right, cases_Bool, cases_eq}
-use Rattle.argus_model.specs.Ancestors.{is_ancestor}
-use Rattle.argus_model.specs.Contents.{base, replay, sees}
-use Rattle.argus_model.specs.Event.{Aborted, Accessed, Began, Committed}
-use Rattle.argus_model.specs.History.{History, Opened, HistoryOpening, ◌▹◌}
-use Rattle.argus_model.specs.HolderSteps.{has_used}
-use Rattle.argus_model.specs.Holders.{writers}
-use Rattle.argus_model.specs.Meaning.{Meaning}
-use Rattle.argus_model.specs.Numbers.{contains}
-use Rattle.argus_model.specs.Owner.{counts_for, is_base, owner}
-use Rattle.argus_model.specs.OwnerSteps.{is_exactly, owner_by_steps}
-use Rattle.argus_model.specs.Work.{Access, content_after}
-use Rattle.argus_model.specs.WorkSteps.{accesses_by, owner_passes, visible_accesses}
-use Rattle.argus_model.proofs.Bools.{and_off}
-use Rattle.argus_model.proofs.Contents.{accesses_by_agree, content_stays}
-use Rattle.argus_model.proofs.Exclusion.{has_used_more, has_used_now}
+use Rattle.std.specs.Prelude.{◌&&◌, ◌==◌}
+use Rattle.argus_model.specs.{Ancestors.is_ancestor, Contents.{base, replay, sees}, HolderSteps.has_used}
+use Rattle.argus_model.specs.{Event.{Aborted, Accessed, Began, Committed}, Holders.writers, Meaning.Meaning}
+use Rattle.argus_model.specs.{History.{History, Opened, HistoryOpening, ◌▹◌}, Numbers.contains}
+use Rattle.argus_model.specs.{Owner.{counts_for, is_base, owner}, OwnerSteps.{is_exactly, owner_by_steps}}
+use Rattle.argus_model.specs.{Work.{Access, content_after}, WorkSteps.{accesses_by, owner_passes, visible_accesses}}
+use Rattle.argus_model.proofs.{Bools.and_off, Contents.{accesses_by_agree, content_stays}, HolderSteps.used_by_from}
+use Rattle.argus_model.proofs.{Exclusion.{has_used_more, has_used_now}, Standing.{Orderly, some_at}}
 use Rattle.argus_model.proofs.Holders.{contains_holders, has_used_begun_action}
-use Rattle.argus_model.proofs.HolderSteps.{used_by_from}
 use Rattle.argus_model.proofs.Owner.{base_above, counts_for_is, is_base_is, owner_is}
-use Rattle.argus_model.proofs.Standing.{Orderly, some_at}
 
 module _ {V C A : Type 0} (meaning : Meaning V C A) (opening : HistoryOpening C) where
   replay_is : (kept t : ℕ → Bool) (o : ℕ) (k : History V)

@@ -1,29 +1,24 @@
 -- What stands sees what the serial order up to it leaves, and that order gives each answer again.
 use Rattle.std.proofs.Common.{Bool, List, None, Option, Some, [], ap, append-nil, append_assoc, arith, cond, false}
 use Rattle.std.proofs.Common.{refl, subst, sym, true, ℕ, ⊎_elim, ◌++◌, ◌<◌, ◌∙◌, ◌∷◌, ◌≡◌, ◌≢◌}
-use Rattle.std.specs.Prelude.{◌==◌}
 use Rattle.std.proofs.lemmas.Bool.{both_ways, cases_Bool, cases_eq, eq-eqb, false_from_ne_true, false≢true, ne_eqb}
 use Rattle.std.proofs.lemmas.Bool.Decides.{nat_tests}
-use Rattle.argus_model.specs.Ancestors.{is_ancestor, is_under, lineage, parent}
-use Rattle.argus_model.specs.Event.{Aborted, Accessed, Began, Committed, Origin, origin_parent}
-use Rattle.argus_model.specs.History.{History, Opened, next_action, ◌▹◌}
-use Rattle.argus_model.specs.HolderSteps.{has_used}
-use Rattle.argus_model.specs.Meaning.{Fits, Meaning}
-use Rattle.argus_model.specs.Numbers.{contains}
+use Rattle.std.specs.Prelude.{◌==◌}
+use Rattle.argus_model.specs.{Ancestors.{is_ancestor, is_under, lineage, parent}, HolderSteps.has_used}
+use Rattle.argus_model.specs.{Event.{Aborted, Accessed, Began, Committed, Origin, origin_parent}, Numbers.contains}
+use Rattle.argus_model.specs.{History.{History, Opened, next_action, ◌▹◌}, Meaning.{Fits, Meaning}}
 use Rattle.argus_model.specs.OwnerSteps.{StandsAlone, owner_inherited, owner_by_steps, stands, unless_lost}
 use Rattle.argus_model.specs.Work.{Access, all_of, content_after, serial_order_to, work}
 use Rattle.argus_model.specs.WorkSteps.{LawfulAccess, LawfulSteps, Replays, owner_passes, visible_accesses}
 use Rattle.argus_model.proofs.Ancestors.{ParentsAreOlder, Split, ancestor_le, ancestor_self, ancestor_trans}
 use Rattle.argus_model.proofs.Ancestors.{lineage_cases, lineage_old, next_pos, parent_older, split_lineage, under_below}
-use Rattle.argus_model.proofs.Bools.{same_bool}
-use Rattle.argus_model.proofs.Contents.{accesses_by_agree, content_front, content_past, replays_on}
+use Rattle.argus_model.proofs.{Bools.same_bool, Contents.{accesses_by_agree, content_front, content_past, replays_on}}
 use Rattle.argus_model.proofs.Exclusion.{Guarded, above_parent, exclusion, has_used_all, has_used_begun}
-use Rattle.argus_model.proofs.Numbers.{any_found, joined_left}
+use Rattle.argus_model.proofs.{Numbers.{any_found, joined_left}, Work.{touches_all, user_of}}
 use Rattle.argus_model.proofs.Standing.{Orderly, alone, at_some, handed_from, handed_stays, kept_stays, owner_begun}
 use Rattle.argus_model.proofs.Standing.{owner_cases, parent_begun, parents_are_older, some_at, stands_abort}
 use Rattle.argus_model.proofs.Standing.{stands_begun, stands_commit, stands_old, stands_upward}
 use Rattle.argus_model.proofs.Work.{all_of-append, all_of_agree, find_writer, no_work, touches, touches-all_of}
-use Rattle.argus_model.proofs.Work.{touches_all, user_of}
 
 -- a lineage is y and then a rest of smaller numbers
 pub record Rest {V : Type 0} (h : History V) (y : ℕ) : Type 0 where

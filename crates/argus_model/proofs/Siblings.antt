@@ -1,22 +1,15 @@
 -- Creators are older, and which actions are under the live siblings of an action.
-use Rattle.std.proofs.lemmas.Bool.Decides.{nat_tests}
+use Rattle.std.proofs.{lemmas.Bool.Decides.nat_tests, lemmas.Bool.or_cases}
 use Rattle.std.proofs.Common.{arith, cond, subst, sym, true, ℕ, ⊎_elim, ◌<◌, ◌∙◌, ◌≡◌, ◌≢◌}
-use Rattle.std.specs.List.{list_any}
-use Rattle.std.specs.List.Sorted.{IsStrictlyIncreasing}
-use Rattle.std.specs.Prelude.{not, ◌&&◌, ◌==◌}
 use Rattle.std.proofs.lemmas.Bool.{and_from, and_parts, both_ways, cases_eq, eq-eqb, eqb-true, ne_eqb, not-true}
-use Rattle.std.proofs.lemmas.Bool.{or_cases}
-use Rattle.argus_model.specs.Ancestors.{begun_by, is_ancestor, is_under, lineage}
+use Rattle.std.specs.{List.list_any, List.Sorted.IsStrictlyIncreasing, Prelude.{not, ◌&&◌, ◌==◌}}
+use Rattle.argus_model.specs.{Ancestors.{begun_by, is_ancestor, is_under, lineage}, Lawful.Lawful, Meaning.Meaning}
 use Rattle.argus_model.specs.Event.{Aborted, Accessed, Began, Committed, origin_begun_by}
 use Rattle.argus_model.specs.History.{History, Opened, HistoryOpening, begun_actions, next_action, ◌▹◌}
-use Rattle.argus_model.specs.Lawful.{Lawful}
-use Rattle.argus_model.specs.Meaning.{Meaning}
 use Rattle.argus_model.specs.Status.{has_committed, is_begun, is_doomed, is_live, is_sibling, live_siblings}
-use Rattle.argus_model.proofs.Ancestors.{next_pos}
-use Rattle.argus_model.proofs.Bools.{same_bool}
+use Rattle.argus_model.proofs.{Ancestors.next_pos, Bools.same_bool, Theorems.ancestor_live}
 use Rattle.argus_model.proofs.Live.{begun_rising, contains_siblings, is_begun_from, is_begun_parts}
 use Rattle.argus_model.proofs.Numbers.{any_found, any_from, increasing, rising_filter}
-use Rattle.argus_model.proofs.Theorems.{ancestor_live}
 
 -- a live action is begun
 pub live_begun : {V : Type 0} (h : History V) (a : ℕ) → is_live h a ≡ true → is_begun h a ≡ true

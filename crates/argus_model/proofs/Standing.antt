@@ -1,13 +1,11 @@
 -- Ancestors of what stands stand, and what a commit or an abort leaves standing.
 use Rattle.std.proofs.Common.{Bool, List, None, Option, Some, ap, arith, false, refl, subst, sym, true, ℕ, ⊎_elim, ◌<◌}
-use Rattle.std.proofs.Common.{◌∙◌, ◌≡◌, ◌≢◌, ◌⊎◌}
-use Rattle.std.specs.Prelude.{◌==◌}
+use Rattle.std.proofs.{Common.{◌∙◌, ◌≡◌, ◌≢◌, ◌⊎◌}, lemmas.Bool.Decides.nat_tests}
 use Rattle.std.proofs.lemmas.Bool.{both_ways, cases_Bool, cases_eq, eq-eqb, eqb-true, false≢true, or_right}
-use Rattle.std.proofs.lemmas.Bool.Decides.{nat_tests}
-use Rattle.argus_model.specs.Ancestors.{is_ancestor, is_under, lineage, parent}
+use Rattle.std.specs.Prelude.{◌==◌}
+use Rattle.argus_model.specs.{Ancestors.{is_ancestor, is_under, lineage, parent}, Numbers.contains}
 use Rattle.argus_model.specs.Event.{Aborted, Accessed, Began, Committed, Origin, origin_parent}
 use Rattle.argus_model.specs.History.{History, Opened, folded, next_action, ◌▹◌}
-use Rattle.argus_model.specs.Numbers.{contains}
 use Rattle.argus_model.specs.OwnerSteps.{AllStand, StandsAlone, owner_inherited, is_exactly, owner_by_steps}
 use Rattle.argus_model.specs.OwnerSteps.{standing_child, stands, unless_lost}
 use Rattle.argus_model.proofs.Ancestors.{ParentsAreOlder, ancestor_new_is, ancestor_old_is, ancestor_self}

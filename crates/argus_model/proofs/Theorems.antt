@@ -1,34 +1,19 @@
 -- The laws of every lawful history: exclusion, the serial order, the table of effects.
 use Rattle.std.proofs.Common.{List, ap, arith, false, subst, sym, true, ℕ, ⊎_elim, ◌++◌, ◌<◌, ◌∙◌, ◌∷◌, ◌≡◌, ◌≢◌, ◌≤◌}
+use Rattle.std.proofs.{Math.Bool.or_comm, lemmas.Bool.or_cases}
 use Rattle.std.specs.Prelude.{reverse, ◌||◌}
-use Rattle.std.proofs.Math.Bool.{or_comm}
-use Rattle.std.proofs.lemmas.Bool.{or_cases}
-use Rattle.argus_model.specs.Ancestors.{is_ancestor, lineage}
-use Rattle.argus_model.specs.Contents.{base, sees}
-use Rattle.argus_model.specs.Effects.{effects, table}
-use Rattle.argus_model.specs.History.{History, HistoryOpening, begun_actions}
-use Rattle.argus_model.specs.Holders.{is_holder, readers, writers}
-use Rattle.argus_model.specs.Lawful.{Lawful}
-use Rattle.argus_model.specs.Meaning.{Fits, Meaning}
-use Rattle.argus_model.specs.Numbers.{contains}
-use Rattle.argus_model.specs.Run.{AnswersAgain, run}
-use Rattle.argus_model.specs.Status.{has_live_child, is_begun, is_live}
+use Rattle.argus_model.specs.{Ancestors.{is_ancestor, lineage}, Contents.{base, sees}, Effects.{effects, table}}
+use Rattle.argus_model.specs.{History.{History, HistoryOpening, begun_actions}, Holders.{is_holder, readers, writers}}
+use Rattle.argus_model.specs.{Lawful.Lawful, Meaning.{Fits, Meaning}, Numbers.contains, Run.{AnswersAgain, run}}
+use Rattle.argus_model.specs.{Status.{has_live_child, is_begun, is_live}, WorkSteps.{Replays, visible_accesses}}
 use Rattle.argus_model.specs.Work.{Access, all_of, content_after, content_before, serial_order, serial_order_to, work}
-use Rattle.argus_model.specs.WorkSteps.{Replays, visible_accesses}
-use Rattle.argus_model.proofs.Ancestors.{ancestor_le, ancestor_trans, split_lineage}
-use Rattle.argus_model.proofs.Effects.{table-append, table_base, table_goes_on, table_same}
-use Rattle.argus_model.proofs.HolderSteps.{exclusive}
-use Rattle.argus_model.proofs.Holders.{listed, same_kinds}
-use Rattle.argus_model.proofs.Lawful.{lawful_orderly, lawful_steps}
+use Rattle.argus_model.proofs.{Ancestors.{ancestor_le, ancestor_trans, split_lineage}, HolderSteps.exclusive}
+use Rattle.argus_model.proofs.{Effects.{table-append, table_base, table_goes_on, table_same}, Owner.base_above}
+use Rattle.argus_model.proofs.{Holders.{listed, same_kinds}, Lawful.{lawful_orderly, lawful_steps}, Work.all_of-append}
 use Rattle.argus_model.proofs.Live.{begun_below, child_is, is_begun_parts, live_stands, stands_is_live}
-use Rattle.argus_model.proofs.Numbers.{contains_filter, joined}
-use Rattle.argus_model.proofs.Owner.{base_above}
-use Rattle.argus_model.proofs.Run.{replays_at, run_content, runs}
-use Rattle.argus_model.proofs.Sees.{base_is, sees_is}
-use Rattle.argus_model.proofs.Serial.{Serial, base_serial, guarded, serial_to-base, serials}
-use Rattle.argus_model.proofs.Standing.{alone, parents_are_older, stands_begun, stands_upward}
-use Rattle.argus_model.proofs.Topactions.{serial_tops}
-use Rattle.argus_model.proofs.Work.{all_of-append}
+use Rattle.argus_model.proofs.{Numbers.{contains_filter, joined}, Run.{replays_at, run_content, runs}}
+use Rattle.argus_model.proofs.{Sees.{base_is, sees_is}, Serial.{Serial, base_serial, guarded, serial_to-base, serials}}
+use Rattle.argus_model.proofs.{Standing.{alone, parents_are_older, stands_begun, stands_upward}, Topactions.serial_tops}
 
 module _ {V C A : Type 0} (meaning : Meaning V C A) (opening : HistoryOpening C) where
   -- of a writer and any other holder of an object, one is an ancestor of the other

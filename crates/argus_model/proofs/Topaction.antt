@@ -1,37 +1,26 @@
 -- Each action whose work is there for good has one committed topaction above it, whose work has its accesses.
 use Rattle.std.proofs.Common.{Bool, List, None, Option, Some, [], ap, arith, cond, false, inl, inr, refl, subst, suc}
 use Rattle.std.proofs.Common.{sym, true, zero, ℕ, ⊎_elim, ◌++◌, ◌<◌, ◌∙◌, ◌∷◌, ◌≡◌, ◌≢◌}
-use Rattle.std.specs.List.Sorted.{IsPermutation}
-use Rattle.std.specs.Prelude.{◌&&◌, ◌==◌, ◌||◌}
 use Rattle.std.proofs.lemmas.Bool.{and_from, and_parts, both_ways, cases_Bool, cases_eq, eq-eqb, eqb-true}
 use Rattle.std.proofs.lemmas.Bool.{false_from_ne_true, false≢true, ne_eqb, or_cases, or_right}
-use Rattle.argus_model.specs.Ancestors.{is_ancestor, is_under, lineage, parent}
-use Rattle.argus_model.specs.Event.{Aborted, Accessed, Began, Committed, Event}
+use Rattle.std.specs.{List.Sorted.IsPermutation, Prelude.{◌&&◌, ◌==◌, ◌||◌}}
+use Rattle.argus_model.specs.{Ancestors.{is_ancestor, is_under, lineage, parent}, Lawful.Lawful, Meaning.Meaning}
+use Rattle.argus_model.specs.{Event.{Aborted, Accessed, Began, Committed, Event}, Numbers.contains}
 use Rattle.argus_model.specs.History.{History, HistoryOpening, Opened, folded, next_action, ◌▹◌}
-use Rattle.argus_model.specs.Lawful.{Lawful}
-use Rattle.argus_model.specs.Meaning.{Meaning}
-use Rattle.argus_model.specs.Numbers.{contains}
 use Rattle.argus_model.specs.Owner.{Base, Held, is_base, is_held_by, owner}
 use Rattle.argus_model.specs.OwnerSteps.{as_owner, is_exactly, owner_by_steps, owner_inherited, stands}
 use Rattle.argus_model.specs.Status.{has_committed, is_begun, is_doomed, is_live}
 use Rattle.argus_model.specs.Work.{Access, IsItsTopaction, accesses_by, committed_topactions, serial_order, work}
-use Rattle.argus_model.proofs.Ancestors.{ParentsAreOlder, ancestor_le, ancestor_self, lineage_cases}
-use Rattle.argus_model.proofs.Ancestors.{next_pos, parent_older, split_lineage}
-use Rattle.argus_model.proofs.Bools.{and_none, same_bool}
+use Rattle.argus_model.proofs.Ancestors.{ParentsAreOlder, ancestor_le, ancestor_self, lineage_cases, next_pos}
+use Rattle.argus_model.proofs.{Ancestors.{parent_older, split_lineage}, Bools.{and_none, same_bool}, Exclusion.Related}
 use Rattle.argus_model.proofs.Complete.{accesses_agree, handed_both, handed_other, kept_exact, standing_work}
-use Rattle.argus_model.proofs.Counting.{base_of, base_spared, tops_are}
-use Rattle.argus_model.proofs.Exclusion.{Related}
-use Rattle.argus_model.proofs.Lawful.{lawful_orderly}
-use Rattle.argus_model.proofs.Live.{is_begun_from, is_begun_parts, live_stands}
-use Rattle.argus_model.proofs.Numbers.{joined_cases}
-use Rattle.argus_model.proofs.Owner.{is_held_by_is, owner_is, parent_unfolded}
+use Rattle.argus_model.proofs.{Counting.{base_of, base_spared, tops_are}, Lawful.lawful_orderly, Numbers.joined_cases}
+use Rattle.argus_model.proofs.{Live.{is_begun_from, is_begun_parts, live_stands}, Serial.{base_stands, lineage-base}}
+use Rattle.argus_model.proofs.{Owner.{is_held_by_is, owner_is, parent_unfolded}, Topactions.{serial_tops, tops_over}}
 use Rattle.argus_model.proofs.OwnerRules.{ancestor_owner, committed_begun, committed_unfolded, owner_ancestor}
-use Rattle.argus_model.proofs.OwnerRules.{owner_gone, owner_passed, owner_self}
-use Rattle.argus_model.proofs.Serial.{base_stands, lineage-base}
-use Rattle.argus_model.proofs.Standing.{Orderly, at_some, handed_cases, handed_from, owner_cases, parent_is, parents_are_older, some_at}
-use Rattle.argus_model.proofs.Standing.{stands_upward}
-use Rattle.argus_model.proofs.Topactions.{serial_tops, tops_over}
-use Rattle.argus_model.proofs.Work.{work_final}
+use Rattle.argus_model.proofs.{OwnerRules.{owner_gone, owner_passed, owner_self}, Work.work_final}
+use Rattle.argus_model.proofs.Standing.{Orderly, at_some, handed_cases, handed_from, owner_cases, parent_is}
+use Rattle.argus_model.proofs.Standing.{parents_are_older, some_at, stands_upward}
 
 -- of two ancestors of an action one is an ancestor of the other
 related : {V : Type 0} (h : History V) → ParentsAreOlder h → (x y a : ℕ) → a < next_action h

@@ -1,17 +1,12 @@
 -- The serial order is the work of the committed topactions, one after another.
 use Rattle.std.proofs.Common.{ap, arith, cond, false, refl, subst, sym, true, ℕ, ⊎_elim, ◌++◌, ◌∙◌, ◌∷◌, ◌≡◌}
-use Rattle.std.specs.Prelude.{◌==◌}
 use Rattle.std.proofs.lemmas.Bool.{both_ways, cases_Bool, eq-eqb, eqb-true, false_from_ne_true, ne_eqb, or_cases}
 use Rattle.std.proofs.lemmas.Bool.{or_left, or_right}
-use Rattle.argus_model.specs.Ancestors.{parent}
-use Rattle.argus_model.specs.Event.{Aborted, Accessed, Began, Committed, Event}
-use Rattle.argus_model.specs.History.{History, Opened, ◌▹◌}
-use Rattle.argus_model.specs.Numbers.{contains}
-use Rattle.argus_model.specs.OwnerSteps.{stands}
-use Rattle.argus_model.specs.Status.{has_committed}
+use Rattle.std.specs.Prelude.{◌==◌}
+use Rattle.argus_model.specs.{Ancestors.parent, Event.{Aborted, Accessed, Began, Committed, Event}, Numbers.contains}
+use Rattle.argus_model.specs.{History.{History, Opened, ◌▹◌}, OwnerSteps.stands, Status.has_committed}
 use Rattle.argus_model.specs.Work.{all_of, committed_topactions, work}
-use Rattle.argus_model.proofs.OwnerRules.{stands_plain}
-use Rattle.argus_model.proofs.Standing.{Orderly, parent_is, parents_are_older}
+use Rattle.argus_model.proofs.{OwnerRules.stands_plain, Standing.{Orderly, parent_is, parents_are_older}}
 use Rattle.argus_model.proofs.Work.{all_of_agree, work_final}
 
 -- who is listed as a committed topaction has committed

@@ -1,16 +1,12 @@
 -- Whose work has accesses to which objects, and that the work of an action that is over stays.
 use Rattle.std.proofs.Common.{Bool, List, Some, [], ap, append_assoc, arith, cond, false, inl, inr, refl, subst, sym}
 use Rattle.std.proofs.Common.{true, ℕ, ⊎_elim, ◌++◌, ◌∙◌, ◌∷◌, ◌≡◌, ◌≢◌, ◌≤◌, ◌⊎◌}
-use Rattle.std.specs.Prelude.{◌&&◌, ◌==◌, ◌||◌}
 use Rattle.std.proofs.lemmas.Bool.{and_from, and_left, and_parts, both_ways, cases_Bool, cases_eq, eq-eqb, false≢true}
 use Rattle.std.proofs.lemmas.Bool.{ne_eqb, or_cases, or_from, or_left, or_parts, or_right}
-use Rattle.argus_model.specs.Ancestors.{is_under, parent}
-use Rattle.argus_model.specs.Event.{Aborted, Accessed, Began, Committed, Event, Origin}
-use Rattle.argus_model.specs.History.{History, Opened, next_action, ◌▹◌}
-use Rattle.argus_model.specs.HolderSteps.{has_used}
-use Rattle.argus_model.specs.Numbers.{contains}
-use Rattle.argus_model.specs.OwnerSteps.{is_exactly, owner_by_steps, stands}
-use Rattle.argus_model.specs.Work.{Access, all_of, work}
+use Rattle.std.specs.Prelude.{◌&&◌, ◌==◌, ◌||◌}
+use Rattle.argus_model.specs.{Ancestors.{is_under, parent}, Event.{Aborted, Accessed, Began, Committed, Event, Origin}}
+use Rattle.argus_model.specs.{History.{History, Opened, next_action, ◌▹◌}, HolderSteps.has_used, Numbers.contains}
+use Rattle.argus_model.specs.{OwnerSteps.{is_exactly, owner_by_steps, stands}, Work.{Access, all_of, work}}
 use Rattle.argus_model.proofs.Exclusion.{has_used_cases, has_used_more, has_used_now}
 use Rattle.argus_model.proofs.Standing.{Orderly, at_some, handed_from, handed_stays, kept_stays, owned_begun}
 use Rattle.argus_model.proofs.Standing.{owner_cases, parent_begun, parent_is, parents_are_older, some_at, stands_abort}

@@ -1,10 +1,7 @@
 -- Parents, creators and ancestors (Argus Reference Manual 1987, actions; Moss 1981).
-use Rattle.std.specs.List.{list_any}
-use Rattle.std.specs.Prelude.{Bool, List, [], if◌then◌else◌, ℕ, ◌==◌, ◌∷◌}
-use Rattle.argus_model.specs.Event.{Aborted, Accessed, Began, Committed, origin_begun_by}
-use Rattle.argus_model.specs.Event.{origin_parent}
-use Rattle.argus_model.specs.History.{History, Opened, next_action, ◌▹◌}
-use Rattle.argus_model.specs.Numbers.{contains}
+use Rattle.std.specs.{List.list_any, Prelude.{Bool, List, [], if◌then◌else◌, ℕ, ◌==◌, ◌∷◌}}
+use Rattle.argus_model.specs.Event.{Aborted, Accessed, Began, Committed, origin_begun_by, origin_parent}
+use Rattle.argus_model.specs.{History.{History, Opened, next_action, ◌▹◌}, Numbers.contains}
 
 -- the parent of an action; a topaction, nested or not, has the base
 abbrev pub parent : {V : Type 0} → History V → ℕ → ℕ

@@ -1,9 +1,7 @@
 -- What an object holds for an action, and for good.
 use Rattle.std.specs.Prelude.{Bool, if◌then◌else◌, ℕ, ◌&&◌, ◌==◌}
-use Rattle.argus_model.specs.Event.{Aborted, Accessed, Began, Committed}
-use Rattle.argus_model.specs.History.{History, Opened, HistoryOpening, ◌▹◌}
-use Rattle.argus_model.specs.Meaning.{Meaning}
-use Rattle.argus_model.specs.Owner.{counts_for, is_base, owner}
+use Rattle.argus_model.specs.{Event.{Aborted, Accessed, Began, Committed}, Meaning.Meaning}
+use Rattle.argus_model.specs.{History.{History, Opened, HistoryOpening, ◌▹◌}, Owner.{counts_for, is_base, owner}}
 
 module _ {V C A : Type 0} (meaning : Meaning V C A) where
   -- from this content on, what each write access to the object leaves, in order, if its action

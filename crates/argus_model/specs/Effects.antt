@@ -1,11 +1,7 @@
 -- What each committed topaction left for good, and the table that a list of such effects makes.
 use Rattle.std.specs.Prelude.{List, [], if◌then◌else◌, map, reverse, ℕ, ◌++◌, ◌==◌, ◌∷◌}
-use Rattle.argus_model.specs.Ancestors.{parent}
-use Rattle.argus_model.specs.Contents.{sees}
-use Rattle.argus_model.specs.Event.{Aborted, Accessed, Began, Committed, Event}
-use Rattle.argus_model.specs.History.{History, HistoryOpening}
-use Rattle.argus_model.specs.Meaning.{Meaning}
-use Rattle.argus_model.specs.Numbers.{insert}
+use Rattle.argus_model.specs.{Ancestors.parent, Contents.sees, Event.{Aborted, Accessed, Began, Committed, Event}}
+use Rattle.argus_model.specs.{History.{History, HistoryOpening}, Meaning.Meaning, Numbers.insert}
 use Rattle.argus_model.specs.Work.{Access, all_of, committed_topactions, content_after, work}
 
 module _ {C : Type 0} where

@@ -1,8 +1,6 @@
 -- A checkpoint: the past of a history, folded into an opening.
 use Rattle.std.specs.Prelude.{ℕ, ◌-◌}
-use Rattle.argus_model.specs.Contents.{base}
-use Rattle.argus_model.specs.History.{History, HistoryOpening, next_action}
-use Rattle.argus_model.specs.Meaning.{Meaning}
+use Rattle.argus_model.specs.{Contents.base, History.{History, HistoryOpening, next_action}, Meaning.Meaning}
 
 module _ {V C A : Type 0} (meaning : Meaning V C A) where
   -- the opening that goes on where the history ends, when this many entries were journalled: the

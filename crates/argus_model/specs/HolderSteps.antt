@@ -1,10 +1,7 @@
 -- A second form of holders and lock rules, for proofs: by the owners of the accesses.
-use Rattle.std.specs.Prelude.{Bool, None, Option, Some, false, if◌then◌else◌, true, ℕ, ◌&&◌, ◌==◌}
-use Rattle.std.specs.Prelude.{◌||◌}
-use Rattle.argus_model.specs.Ancestors.{is_ancestor}
-use Rattle.argus_model.specs.Event.{Aborted, Accessed, Began, Committed}
-use Rattle.argus_model.specs.History.{History, Opened, ◌▹◌}
-use Rattle.argus_model.specs.OwnerSteps.{is_exactly, owner_by_steps}
+use Rattle.std.specs.Prelude.{Bool, None, Option, Some, false, if◌then◌else◌, true, ℕ, ◌&&◌, ◌==◌, ◌||◌}
+use Rattle.argus_model.specs.{Ancestors.is_ancestor, Event.{Aborted, Accessed, Began, Committed}}
+use Rattle.argus_model.specs.{History.{History, Opened, ◌▹◌}, OwnerSteps.{is_exactly, owner_by_steps}}
 
 -- no owner, or an owner that passes the test
 abbrev pub if_owned : (ℕ → Bool) → Option ℕ → Bool

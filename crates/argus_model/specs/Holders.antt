@@ -1,13 +1,9 @@
 -- The holders of an object, for reading and for writing, and the two lock rules (Moss 1981, locking
 -- rules).
-use Rattle.std.specs.List.{list_all}
-use Rattle.std.specs.Prelude.{Bool, List, false, filter, if◌then◌else◌, ℕ, ◌&&◌, ◌==◌, ◌||◌}
-use Rattle.argus_model.specs.Ancestors.{is_ancestor}
-use Rattle.argus_model.specs.Event.{Aborted, Accessed, Began, Committed}
-use Rattle.argus_model.specs.History.{History, Opened, begun_actions, ◌▹◌}
-use Rattle.argus_model.specs.Meaning.{Meaning, reads}
-use Rattle.argus_model.specs.Numbers.{contains, insert, without}
-use Rattle.argus_model.specs.Owner.{is_held_by, owner}
+use Rattle.std.specs.{List.list_all, Prelude.{Bool, List, false, filter, if◌then◌else◌, ℕ, ◌&&◌, ◌==◌, ◌||◌}}
+use Rattle.argus_model.specs.{Ancestors.is_ancestor, Event.{Aborted, Accessed, Began, Committed}}
+use Rattle.argus_model.specs.{History.{History, Opened, begun_actions, ◌▹◌}, Meaning.{Meaning, reads}}
+use Rattle.argus_model.specs.{Numbers.{contains, insert, without}, Owner.{is_held_by, owner}}
 
 module _ {V : Type 0} (kind : V → Bool) where
   -- an action that passes the test has an access of this kind to the object

@@ -1,12 +1,8 @@
 -- Which histories the rules of nested transactions allow.
-use Rattle.std.specs.List.{list_all}
-use Rattle.std.specs.Prelude.{Bool, false, if◌then◌else◌, true, ℕ, ◌==◌, ◌||◌, ◌≡◌}
-use Rattle.argus_model.specs.Contents.{sees}
-use Rattle.argus_model.specs.Event.{Aborted, Accessed, Began, Committed, Event, origin_begun_by}
-use Rattle.argus_model.specs.History.{History, Opened, HistoryOpening, ◌▹◌}
-use Rattle.argus_model.specs.Holders.{may_read, may_write}
-use Rattle.argus_model.specs.Meaning.{Fits, Meaning}
-use Rattle.argus_model.specs.Status.{has_live_child, is_live}
+use Rattle.std.specs.{List.list_all, Prelude.{Bool, false, if◌then◌else◌, true, ℕ, ◌==◌, ◌||◌, ◌≡◌}}
+use Rattle.argus_model.specs.{Contents.sees, Event.{Aborted, Accessed, Began, Committed, Event, origin_begun_by}}
+use Rattle.argus_model.specs.{History.{History, Opened, HistoryOpening, ◌▹◌}, Holders.{may_read, may_write}}
+use Rattle.argus_model.specs.{Meaning.{Fits, Meaning}, Status.{has_live_child, is_live}}
 
 module _ {V C A : Type 0} (meaning : Meaning V C A) where
   -- the lock that the access needs is free for a

@@ -1,6 +1,5 @@
 -- Lists of numbers, and tests of their members.
-use Rattle.std.specs.Prelude.{Bool, List, [], false, filter, if◌then◌else◌, nat_lt, not, ℕ, ◌==◌}
-use Rattle.std.specs.Prelude.{◌||◌, ◌∷◌}
+use Rattle.std.specs.Prelude.{Bool, List, [], false, filter, if◌then◌else◌, nat_lt, not, ℕ, ◌==◌, ◌||◌, ◌∷◌}
 
 -- x is one of these
 abbrev pub contains : List ℕ → ℕ → Bool

@@ -1,8 +1,7 @@
 -- The owner of what an action did: the action itself until it commits, and then the owner of its
 -- parent (Moss 1981, inheritance of locks).
 use Rattle.std.specs.Prelude.{Bool, List, [], false, if◌then◌else◌, true, ℕ, ◌==◌, ◌∷◌}
-use Rattle.argus_model.specs.Ancestors.{is_ancestor, lineage}
-use Rattle.argus_model.specs.History.{History}
+use Rattle.argus_model.specs.{Ancestors.{is_ancestor, lineage}, History.History}
 use Rattle.argus_model.specs.Status.{has_committed, is_begun, is_doomed}
 
 -- the owner of a piece of work

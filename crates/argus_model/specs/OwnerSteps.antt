@@ -1,12 +1,8 @@
 -- A second form of owners and live actions, for proofs: what each event does to them.
-use Rattle.std.specs.Prelude.{Bool, List, None, Option, Some, false, if◌then◌else◌, true, ℕ, ◌&&◌}
-use Rattle.std.specs.Prelude.{◌==◌, ◌||◌, ◌≡◌, ◌≢◌}
-use Rattle.argus_model.specs.Ancestors.{is_under, parent}
-use Rattle.argus_model.specs.Event.{Aborted, Accessed, Began, Committed, origin_begun_by}
-use Rattle.argus_model.specs.Event.{origin_parent}
-use Rattle.argus_model.specs.History.{History, Opened, next_action, ◌▹◌}
-use Rattle.argus_model.specs.Numbers.{contains}
-use Rattle.argus_model.specs.Owner.{Base, Gone, Held, Owner}
+use Rattle.std.specs.Prelude.{Bool, List, None, Option, Some, false, if◌then◌else◌, true, ℕ, ◌&&◌, ◌==◌, ◌||◌, ◌≡◌, ◌≢◌}
+use Rattle.argus_model.specs.{Ancestors.{is_under, parent}, History.{History, Opened, next_action, ◌▹◌}}
+use Rattle.argus_model.specs.Event.{Aborted, Accessed, Began, Committed, origin_begun_by, origin_parent}
+use Rattle.argus_model.specs.{Numbers.contains, Owner.{Base, Gone, Held, Owner}}
 
 -- the owner, after a has handed what it owns to p
 abbrev pub owner_inherited : ℕ → ℕ → Option ℕ → Option ℕ

@@ -1,10 +1,7 @@
 -- The actions as a list of rows, the newest first: how a tree of actions keeps them.
-use Rattle.std.specs.List.{list_any}
-use Rattle.std.specs.Prelude.{Bool, List, None, Option, Some, [], false, if◌then◌else◌, length}
-use Rattle.std.specs.Prelude.{true, ℕ, ◌&&◌, ◌+◌, ◌==◌, ◌||◌, ◌∷◌}
-use Rattle.argus_model.specs.Event.{Aborted, Accessed, Began, Committed, Origin, Top}
-use Rattle.argus_model.specs.Event.{origin_begun_by}
-use Rattle.argus_model.specs.Event.{origin_parent}
+use Rattle.std.specs.{List.list_any, Prelude.{◌==◌, ◌||◌, ◌∷◌}}
+use Rattle.std.specs.Prelude.{Bool, List, None, Option, Some, [], false, if◌then◌else◌, length, true, ℕ, ◌&&◌, ◌+◌}
+use Rattle.argus_model.specs.Event.{Aborted, Accessed, Began, Committed, Origin, Top, origin_begun_by, origin_parent}
 use Rattle.argus_model.specs.History.{History, Opened, folded, next_action, ◌▹◌}
 use Rattle.argus_model.specs.Status.{IsAborted, IsCommitted, IsFolded, IsLive, Status, status}
 

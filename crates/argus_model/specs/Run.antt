@@ -1,7 +1,6 @@
 -- Accesses run one after another on plain contents, without locks, the oldest first.
 use Rattle.std.specs.Prelude.{List, [], if◌then◌else◌, ℕ, ◌==◌, ◌∷◌}
-use Rattle.argus_model.specs.Meaning.{Fits, Meaning}
-use Rattle.argus_model.specs.Work.{Access}
+use Rattle.argus_model.specs.{Meaning.{Fits, Meaning}, Work.Access}
 
 module _ {V C A : Type 0} (meaning : Meaning V C A) where
   -- the contents of all objects after one access

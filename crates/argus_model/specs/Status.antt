@@ -1,9 +1,7 @@
 -- What became of an action: live, committed or doomed (Argus Reference Manual 1987, actions).
 use Rattle.std.specs.List.{list_any}
-use Rattle.std.specs.Prelude.{Bool, List, false, filter, if◌then◌else◌, nat_lt, not, ℕ, ◌&&◌, ◌==◌}
-use Rattle.std.specs.Prelude.{◌||◌}
-use Rattle.argus_model.specs.Ancestors.{begun_by, is_ancestor, parent}
-use Rattle.argus_model.specs.Event.{Aborted, Accessed, Began, Committed}
+use Rattle.std.specs.Prelude.{Bool, List, false, filter, if◌then◌else◌, nat_lt, not, ℕ, ◌&&◌, ◌==◌, ◌||◌}
+use Rattle.argus_model.specs.{Ancestors.{begun_by, is_ancestor, parent}, Event.{Aborted, Accessed, Began, Committed}}
 use Rattle.argus_model.specs.History.{History, Opened, begun_actions, folded, next_action, ◌▹◌}
 
 -- it began since the opening

@@ -1,10 +1,7 @@
 -- The serial order: what each action did, with the work of its committed subactions.
 use Rattle.std.specs.Prelude.{Bool, List, [], if◌then◌else◌, true, ℕ, ◌++◌, ◌==◌, ◌∷◌, ◌≡◌, ◌⊎◌}
-use Rattle.argus_model.specs.Ancestors.{is_ancestor, lineage, parent}
-use Rattle.argus_model.specs.Event.{Aborted, Accessed, Began, Committed}
-use Rattle.argus_model.specs.History.{History, Opened, ◌▹◌}
-use Rattle.argus_model.specs.Meaning.{Meaning}
-use Rattle.argus_model.specs.Numbers.{contains}
+use Rattle.argus_model.specs.{Ancestors.{is_ancestor, lineage, parent}, Event.{Aborted, Accessed, Began, Committed}}
+use Rattle.argus_model.specs.{History.{History, Opened, ◌▹◌}, Meaning.Meaning, Numbers.contains}
 
 -- an access with its object, apart from the action that made it
 pub record Access (V : Type 0) : Type 0 where

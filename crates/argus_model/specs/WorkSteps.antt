@@ -1,14 +1,9 @@
 -- A second form of what an action sees and of what is lawful, for proofs: by lists of accesses, and
 -- event by event.
-use Rattle.std.specs.Prelude.{Bool, List, None, Option, Some, [], false, true, ℕ}
-use Rattle.std.specs.Prelude.{◌∷◌, ◌≡◌}
-use Rattle.argus_model.specs.Ancestors.{is_ancestor}
-use Rattle.argus_model.specs.Event.{Aborted, Accessed, Began, Committed, origin_parent}
-use Rattle.argus_model.specs.History.{History, Opened, ◌▹◌}
-use Rattle.argus_model.specs.HolderSteps.{may_by_steps}
-use Rattle.argus_model.specs.Meaning.{Fits, Meaning}
-use Rattle.argus_model.specs.OwnerSteps.{AllStand, StandsAlone, owner_by_steps, stands}
-use Rattle.argus_model.specs.Work.{Access, content_after}
+use Rattle.std.specs.Prelude.{Bool, List, None, Option, Some, [], false, true, ℕ, ◌∷◌, ◌≡◌}
+use Rattle.argus_model.specs.{Ancestors.is_ancestor, Event.{Aborted, Accessed, Began, Committed, origin_parent}}
+use Rattle.argus_model.specs.{History.{History, Opened, ◌▹◌}, HolderSteps.may_by_steps, Meaning.{Fits, Meaning}}
+use Rattle.argus_model.specs.{OwnerSteps.{AllStand, StandsAlone, owner_by_steps, stands}, Work.{Access, content_after}}
 pub use Rattle.argus_model.specs.Work.{accesses_by}
 
 -- there is an owner, and it passes the test

@@ -1,11 +1,8 @@
 -- Histories worked out: objects that hold a number, and what can be done with one.
-use Rattle.std.proofs.Common.{refl, sym}
+use Rattle.std.proofs.{Common.{refl, sym}, lemmas.Bool.false≢true}
 use Rattle.std.specs.Prelude.{Bool, [], false, if◌then◌else◌, true, ℕ, ◌==◌, ◌∷◌, ◌≡◌}
-use Rattle.std.proofs.lemmas.Bool.{false≢true}
-use Rattle.argus_model.specs.Event.{Aborted, Accessed, Began, Committed, Nested, Sub, Top}
-use Rattle.argus_model.specs.History.{History, Opened, HistoryOpening, followed_by, ◌▹◌}
-use Rattle.argus_model.specs.Meaning.{Meaning}
-use Rattle.argus_model.specs.Status.{live_siblings}
+use Rattle.argus_model.specs.{Event.{Aborted, Accessed, Began, Committed, Nested, Sub, Top}, Meaning.Meaning}
+use Rattle.argus_model.specs.{History.{History, Opened, HistoryOpening, followed_by, ◌▹◌}, Status.live_siblings}
 use Rattle.argus_model.specs.Work.{Access}
 
 -- an access, with the answer that was given

@@ -1,13 +1,9 @@
 //! Who may hold an object together.
 ghost use Rattle.std.specs.Prelude.{◌≡◌, ◌<◌, ℕ, true, ◌||◌, ◌++◌, ◌↔◌};
 ghost use Rattle.std.specs.List.Sorted.{IsStrictlyIncreasing};
-ghost use Rattle.argus_model.specs.History.{HistoryOpening, History};
-ghost use Rattle.argus_model.specs.Numbers.{contains};
-ghost use Rattle.argus_model.specs.Ancestors.{is_ancestor};
-ghost use Rattle.argus_model.specs.Status.{is_live};
-ghost use Rattle.argus_model.specs.Meaning.{Meaning};
-ghost use Rattle.argus_model.specs.Holders.{readers, writers, may_read, may_write};
-ghost use Rattle.argus_model.specs.Contents.{sees};
+ghost use Rattle.argus_model.specs.{History.{HistoryOpening, History}, Numbers.contains};
+ghost use Rattle.argus_model.specs.{Ancestors.is_ancestor, Status.is_live, Meaning.Meaning};
+ghost use Rattle.argus_model.specs.{Holders.{readers, writers, may_read, may_write}, Contents.sees};
 ghost use Rattle.argus_model.specs.Lawful.{Lawful};
 
 /// Of an object's write holder and any other holder, one is an ancestor of the other (Moss 1981,

@@ -13,17 +13,13 @@
 ghost use Rattle.std.specs.Prelude.{◌≡◌, ◌≢◌, ℕ, true, not, ◌&&◌, ◌||◌, ◌==◌, ◌∷◌, ◌++◌, List, []};
 ghost use Rattle.std.specs.Prelude.{filter, if◌then◌else◌};
 ghost use Rattle.argus_model.specs.Event.{Origin, Began, Committed, Aborted, Accessed};
-ghost use Rattle.argus_model.specs.Event.{origin_parent};
+ghost use Rattle.argus_model.specs.{Event.origin_parent, Numbers.{contains, insert}, Lawful.Lawful};
 ghost use Rattle.argus_model.specs.History.{HistoryOpening, History, ◌▹◌, next_action};
-ghost use Rattle.argus_model.specs.Numbers.{contains, insert};
 ghost use Rattle.argus_model.specs.Ancestors.{parent, lineage, is_ancestor, is_under};
-ghost use Rattle.argus_model.specs.Status.{is_begun, is_live};
+ghost use Rattle.argus_model.specs.{Status.{is_begun, is_live}, Meaning.{Meaning, reads}};
 ghost use Rattle.argus_model.specs.Owner.{owner, Held, passed_up, unless_gone};
-ghost use Rattle.argus_model.specs.Meaning.{Meaning, reads};
-ghost use Rattle.argus_model.specs.Holders.{readers, writers, inherited};
-ghost use Rattle.argus_model.specs.Contents.{sees, base};
+ghost use Rattle.argus_model.specs.{Holders.{readers, writers, inherited}, Contents.{sees, base}};
 ghost use Rattle.argus_model.specs.Work.{work, serial_order};
-ghost use Rattle.argus_model.specs.Lawful.{Lawful};
 
 /// An action begins: it is live, is its own owner, sees what its parent sees, and has done nothing;
 /// nothing changes for the others.

@@ -1,19 +1,13 @@
 //! Committed work can't be told from work that was done one action after another.
 ghost use Rattle.std.specs.Prelude.{◌≡◌, ℕ, true, false, List, ◌∷◌, ◌++◌, ◌&&◌, reverse};
 ghost use Rattle.std.specs.List.Sorted.{IsPermutation};
-ghost use Rattle.argus_model.specs.Ancestors.{is_ancestor};
-ghost use Rattle.argus_model.specs.Event.{Event};
-ghost use Rattle.argus_model.specs.History.{HistoryOpening, History, ◌▹◌};
-ghost use Rattle.argus_model.specs.Status.{is_begun, is_live};
-ghost use Rattle.argus_model.specs.Meaning.{Meaning, Fits};
-ghost use Rattle.argus_model.specs.Numbers.{contains};
+ghost use Rattle.argus_model.specs.{Ancestors.is_ancestor, Event.Event, Status.{is_begun, is_live}};
+ghost use Rattle.argus_model.specs.{History.{HistoryOpening, History, ◌▹◌}, Numbers.contains};
+ghost use Rattle.argus_model.specs.{Meaning.{Meaning, Fits}, Contents.{sees, base}, Lawful.Lawful};
 ghost use Rattle.argus_model.specs.Owner.{Base, is_base, is_held_by, owner};
-ghost use Rattle.argus_model.specs.Contents.{sees, base};
 ghost use Rattle.argus_model.specs.Work.{Access, IsOnRecord, work, serial_order, serial_order_to};
 ghost use Rattle.argus_model.specs.Work.{IsItsTopaction, accesses_by, committed_topactions};
-ghost use Rattle.argus_model.specs.Work.{content_after, content_before};
-ghost use Rattle.argus_model.specs.Run.{AnswersAgain, run};
-ghost use Rattle.argus_model.specs.Lawful.{Lawful};
+ghost use Rattle.argus_model.specs.{Work.{content_after, content_before}, Run.{AnswersAgain, run}};
 
 /// An object's base is what the serial order leaves in it.
 pub fn base_is_serial<V, C, A>()

@@ -1,17 +1,12 @@
 //! The step-by-step definitions, which proofs about a guardian's state use, agree with the plain
 //! ones.
 ghost use Rattle.std.specs.Prelude.{◌≡◌, ◌≢◌, ℕ, Bool, true, false};
-ghost use Rattle.argus_model.specs.History.{HistoryOpening, History};
-ghost use Rattle.argus_model.specs.Numbers.{contains};
-ghost use Rattle.argus_model.specs.Status.{is_begun, is_live, has_live_child};
-ghost use Rattle.argus_model.specs.Owner.{owner};
+ghost use Rattle.argus_model.specs.{History.{HistoryOpening, History}, Numbers.contains};
+ghost use Rattle.argus_model.specs.{Status.{is_begun, is_live, has_live_child}, Owner.owner};
 ghost use Rattle.argus_model.specs.OwnerSteps.{owner_by_steps, as_owner, stands, standing_child};
-ghost use Rattle.argus_model.specs.Meaning.{Meaning};
-ghost use Rattle.argus_model.specs.Holders.{holders, may_read, may_write};
-ghost use Rattle.argus_model.specs.HolderSteps.{holds, may_by_steps};
-ghost use Rattle.argus_model.specs.Contents.{sees, base};
-ghost use Rattle.argus_model.specs.Work.{content_after};
-ghost use Rattle.argus_model.specs.WorkSteps.{visible_accesses, LawfulSteps};
+ghost use Rattle.argus_model.specs.{Meaning.Meaning, Holders.{holders, may_read, may_write}};
+ghost use Rattle.argus_model.specs.{HolderSteps.{holds, may_by_steps}, Contents.{sees, base}};
+ghost use Rattle.argus_model.specs.{Work.content_after, WorkSteps.{visible_accesses, LawfulSteps}};
 ghost use Rattle.argus_model.specs.Lawful.{Lawful};
 
 /// Of owners and live actions.

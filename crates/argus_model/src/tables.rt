@@ -1,17 +1,11 @@
 //! What each committed topaction left for good, the table of it, and checkpoints.
 ghost use Rattle.std.specs.Prelude.{◌≡◌, ℕ, true, List, ◌++◌, ◌-◌};
 ghost use Rattle.std.specs.List.Sorted.{IsStrictlyIncreasing};
-ghost use Rattle.argus_model.specs.Event.{Event};
+ghost use Rattle.argus_model.specs.{Event.Event, Numbers.contains, Status.is_live, Meaning.Meaning};
 ghost use Rattle.argus_model.specs.History.{HistoryOpening, History, Opened, ◌▹◌, next_action};
-ghost use Rattle.argus_model.specs.Numbers.{contains};
-ghost use Rattle.argus_model.specs.Status.{is_live};
-ghost use Rattle.argus_model.specs.Meaning.{Meaning};
-ghost use Rattle.argus_model.specs.Holders.{writers};
-ghost use Rattle.argus_model.specs.Contents.{base};
-ghost use Rattle.argus_model.specs.Work.{Access, work};
+ghost use Rattle.argus_model.specs.{Holders.writers, Contents.base, Work.{Access, work}, Fold.fold};
 ghost use Rattle.argus_model.specs.Effects.{table, written_objects, effects, added_effects};
 ghost use Rattle.argus_model.specs.Lawful.{Lawful};
-ghost use Rattle.argus_model.specs.Fold.{fold};
 
 /// The table of all effects has the bases. The commit of a topaction adds an effect at the end; no
 /// other event adds one. What comes later goes on from the bases.

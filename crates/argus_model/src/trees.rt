@@ -1,20 +1,14 @@
 //! Ancestors, the actions as rows of a tree, and the siblings of an action.
-ghost use Rattle.std.specs.Prelude.{◌≡◌, ◌≢◌, ◌<◌, ◌≤◌, ℕ, ◌+◌, ◌-◌, true, false, ◌&&◌};
-ghost use Rattle.std.specs.Prelude.{length, List, Some};
-ghost use Rattle.std.specs.List.{list_any};
-ghost use Rattle.std.specs.List.Sorted.{IsStrictlyIncreasing};
+ghost use Rattle.std.specs.Prelude.{◌≡◌, ◌≢◌, ◌<◌, ◌≤◌, ℕ, ◌+◌, ◌-◌, true, false, ◌&&◌, length};
+ghost use Rattle.std.specs.{Prelude.{List, Some}, List.list_any, List.Sorted.IsStrictlyIncreasing};
 ghost use Rattle.argus_model.specs.Event.{Aborted, Began, Event, Origin, origin_parent};
-ghost use Rattle.argus_model.specs.Event.{origin_begun_by};
+ghost use Rattle.argus_model.specs.{Event.origin_begun_by, Numbers.contains, Status.live_siblings};
 ghost use Rattle.argus_model.specs.History.{HistoryOpening, History, begun_actions, folded};
 ghost use Rattle.argus_model.specs.History.{ItsBegin, followed_by, next_action, ◌▹◌};
-ghost use Rattle.argus_model.specs.Numbers.{contains};
 ghost use Rattle.argus_model.specs.Ancestors.{parent, begun_by, lineage, is_ancestor, is_under};
 ghost use Rattle.argus_model.specs.Status.{is_begun, is_live, has_live_child, is_sibling};
-ghost use Rattle.argus_model.specs.Status.{live_siblings};
-ghost use Rattle.argus_model.specs.Meaning.{Meaning};
-ghost use Rattle.argus_model.specs.Lawful.{Allowed, Lawful};
+ghost use Rattle.argus_model.specs.{Meaning.Meaning, Lawful.{Allowed, Lawful}, Rows.has_live_row};
 ghost use Rattle.argus_model.specs.Rows.{origin, row_of, row_at, is_above, depth_at, rows};
-ghost use Rattle.argus_model.specs.Rows.{has_live_row};
 
 /// An action is its own ancestor, ancestors of ancestors are ancestors, and they are older. Those
 /// of a live action are live, except for the base. A creator is older, too. Under an action without

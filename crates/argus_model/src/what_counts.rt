@@ -1,15 +1,10 @@
 //! For whom an action's work counts, as time goes on.
-ghost use Rattle.std.specs.Prelude.{◌≡◌, ◌≢◌, ℕ, true, false, ◌&&◌, ◌==◌};
-ghost use Rattle.std.specs.List.{IsDistinct};
-ghost use Rattle.argus_model.specs.Event.{Event};
-ghost use Rattle.argus_model.specs.History.{HistoryOpening, History, ◌▹◌};
-ghost use Rattle.argus_model.specs.Numbers.{contains};
-ghost use Rattle.argus_model.specs.Ancestors.{parent, is_ancestor};
+ghost use Rattle.std.specs.{Prelude.{◌≡◌, ◌≢◌, ℕ, true, false, ◌&&◌, ◌==◌}, List.IsDistinct};
+ghost use Rattle.argus_model.specs.{Event.Event, History.{HistoryOpening, History, ◌▹◌}};
+ghost use Rattle.argus_model.specs.{Numbers.contains, Ancestors.{parent, is_ancestor}};
 ghost use Rattle.argus_model.specs.Status.{is_begun, has_committed, is_doomed, is_live};
-ghost use Rattle.argus_model.specs.Owner.{owner, Gone, Held, Base};
-ghost use Rattle.argus_model.specs.Meaning.{Meaning};
-ghost use Rattle.argus_model.specs.Work.{committed_topactions};
-ghost use Rattle.argus_model.specs.Lawful.{Lawful};
+ghost use Rattle.argus_model.specs.{Owner.{owner, Gone, Held, Base}, Meaning.Meaning};
+ghost use Rattle.argus_model.specs.{Work.committed_topactions, Lawful.Lawful};
 
 /// What an action did counts for nobody after it or an ancestor was aborted. Otherwise it counts
 /// for the action itself until it commits, and then for the owner of its parent; the work of a

@@ -1,25 +1,19 @@
 //! Histories worked out, on objects that hold a number. Each is drawn as a table in docs/MODEL.md.
 ghost use Rattle.std.specs.Prelude.{◌≡◌, true, false, None, Some, [], ◌∷◌, map};
 ghost use Rattle.argus_model.specs.Event.{Began, Committed, Aborted, Accessed, Sub, Nested};
-ghost use Rattle.argus_model.specs.Ancestors.{is_ancestor};
-ghost use Rattle.argus_model.specs.Status.{is_live, has_live_child, live_siblings, status};
-ghost use Rattle.argus_model.specs.Status.{IsLive, IsCommitted, IsAborted, IsFolded};
-ghost use Rattle.argus_model.specs.Owner.{owner, Folded, Gone, Held, Base};
-ghost use Rattle.argus_model.specs.OwnerSteps.{owner_by_steps};
+ghost use Rattle.argus_model.specs.{Ancestors.is_ancestor, Owner.{owner, Folded, Gone, Held, Base}};
+ghost use Rattle.argus_model.specs.Status.{is_live, has_live_child, live_siblings, status, IsLive};
+ghost use Rattle.argus_model.specs.{Status.{IsCommitted, IsAborted, IsFolded}, Fold.fold};
+ghost use Rattle.argus_model.specs.{OwnerSteps.owner_by_steps, Contents.{sees, base}};
 ghost use Rattle.argus_model.specs.Holders.{readers, writers, may_read, may_write};
-ghost use Rattle.argus_model.specs.Contents.{sees, base};
-ghost use Rattle.argus_model.specs.Work.{work, committed_topactions, serial_order};
-ghost use Rattle.argus_model.specs.Work.{serial_order_to};
-ghost use Rattle.argus_model.specs.Effects.{effects, table};
-ghost use Rattle.argus_model.specs.Lawful.{Allowed, Lawful};
-ghost use Rattle.argus_model.specs.Fold.{fold};
+ghost use Rattle.argus_model.specs.Work.{work, committed_topactions, serial_order, serial_order_to};
+ghost use Rattle.argus_model.specs.{Effects.{effects, table}, Lawful.{Allowed, Lawful}};
 ghost use Rattle.argus_model.specs.Rows.{depth_at, is_above, rows, has_live_row};
 ghost use Rattle.argus_model.specs.Run.{AnswersAgain};
 ghost use Rattle.argus_model.specs.Worked.{Look, Put, numbers, looked, put, zeros, opened_late};
-ghost use Rattle.argus_model.specs.Worked.{pair_begins, pair_goes_on, pair_ends};
-ghost use Rattle.argus_model.specs.Worked.{creator_works, creator_aborts, creator_outlived};
-ghost use Rattle.argus_model.specs.Worked.{siblings_work, siblings_aborted, siblings_end};
-ghost use Rattle.argus_model.specs.Worked.{turns_taken, turns_end};
+ghost use Rattle.argus_model.specs.Worked.{pair_begins, pair_goes_on, pair_ends, creator_works};
+ghost use Rattle.argus_model.specs.Worked.{creator_aborts, creator_outlived, siblings_work};
+ghost use Rattle.argus_model.specs.Worked.{siblings_aborted, siblings_end, turns_taken, turns_end};
 
 /// Two subactions, 2 and 3, of topaction 1 at one object: 3 has to wait until 2 commits, and then
 /// sees what 2 left.

@@ -1,13 +1,10 @@
 -- Numbers in increasing order, and climbs that go on where the last one ended.
 use Rattle.std.proofs.Common.{◌≡◌, ℕ, ◌+◌, ◌<◌, Bool, true, false, cond, ltb, leb, ◌&&◌, List, [], ◌∷◌, ◌++◌, filter}
 use Rattle.std.proofs.Common.{reverse, length, take, get_or, refl, sym, ◌∙◌, ap, arith, inl, inr, zero, suc}
-use Rattle.std.specs.List.{list_all}
 use Rattle.std.proofs.lemmas.Bool.{lt-ltb, le-leb, ltb-true, cases_Bool, and_parts, and_from, and_right}
-use Rattle.std.proofs.lemmas.List.{take_more}
-use Rattle.std.proofs.lemmas.List.Folds.{list_all-append}
-use Rattle.std.proofs.lemmas.Grind.{reverse_onto}
-use Rattle.argus_actions.specs.declared.action_id.ActionId.{ActionId}
-use Rattle.argus_actions.specs.Tree.{Tree, is_ancestor}
+use Rattle.std.proofs.{lemmas.List.take_more, lemmas.List.Folds.list_all-append, lemmas.Grind.reverse_onto}
+use Rattle.std.specs.List.{list_all}
+use Rattle.argus_actions.specs.{declared.action_id.ActionId.ActionId, Tree.{Tree, is_ancestor}}
 use Rattle.argus_objects.specs.Rules.{all_above, is_ascending, is_chain, is_strictly_above, are_up_to}
 use Rattle.argus_actions.proofs.Above.{above_le, above_trans, above_linear}
 use Rattle.argus_objects.proofs.Chains.{all_imp, all_filter, strictly_lt}

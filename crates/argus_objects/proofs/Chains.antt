@@ -1,11 +1,10 @@
 -- Chains of holders, and which actions are related to them.
 use Rattle.std.proofs.Common.{◌≡◌, ◌≢◌, ℕ, ◌+◌, ◌<◌, ◌≤◌, Bool, true, not, cond, eqb, ◌&&◌, ◌||◌, List, [], ◌∷◌, map}
 use Rattle.std.proofs.Common.{filter, length, Some, subst, refl, sym, ◌∙◌, ap, arith, inl, inr}
-use Rattle.std.specs.List.{list_all}
 use Rattle.std.proofs.lemmas.Bool.{eq-eqb, ne_eqb, eqb-false, cases_eq, cases_Bool, and_parts, and_from, or_left}
 use Rattle.std.proofs.lemmas.Bool.{or_right, or_cases, not-true, not_from_false}
-use Rattle.argus_actions.specs.declared.action_id.ActionId.{ActionId}
-use Rattle.argus_actions.specs.Tree.{Tree, is_ancestor, parent_of}
+use Rattle.std.specs.List.{list_all}
+use Rattle.argus_actions.specs.{declared.action_id.ActionId.ActionId, Tree.{Tree, is_ancestor, parent_of}}
 use Rattle.argus_objects.specs.Rules.{all_above, is_strictly_above, is_chain, are_related}
 use Rattle.argus_actions.proofs.Above.{above_le, above_self, above_trans, above_up}
 

@@ -1,26 +1,20 @@
 -- What a change leaves of the versions, if it succeeds and if it finds no memory.
-use Rattle.std.proofs.Common.{◌≡◌, ℕ, ◌+◌, ◌<◌, true, false, eqb, ltb, ◌&&◌, ◌||◌, inl, inr, List, [], ◌∷◌, ◌++◌}
-use Rattle.std.proofs.Common.{cond, not, map, length, take, get_or, set, Option, refl, sym, ◌∙◌, ap, arith}
-use Rattle.std.specs.Prelude.{IfOk, OnOk, OnErr, Result, Ok, Err}
-use Rattle.std.specs.List.{list_all, list_any}
+use Rattle.std.proofs.Common.{◌≡◌, ℕ, ◌+◌, ◌<◌, true, false, eqb, ltb, ◌&&◌, ◌||◌, inl, inr, List, [], ◌∷◌, ◌++◌, cond}
+use Rattle.std.proofs.Common.{not, map, length, take, get_or, set, Option, refl, sym, ◌∙◌, ap, arith}
 use Rattle.std.proofs.lemmas.Bool.{cond-true, and_from, and_parts, and_right, cases_Bool, cases_eq, eq-eqb, lt-ltb}
-use Rattle.std.proofs.lemmas.Bool.{ne_eqb, ltb-true}
-use Rattle.std.proofs.lemmas.List.Folds.{list_all-append}
+use Rattle.std.proofs.{lemmas.Bool.{ne_eqb, ltb-true}, lemmas.List.Folds.list_all-append}
 use Rattle.std.proofs.lemmas.List.{take_all, take_more}
-use Rattle.argus_actions.specs.declared.action_id.ActionId.{ActionId}
-use Rattle.argus_actions.specs.Tree.{Tree, is_ancestor}
+use Rattle.std.specs.{Prelude.{IfOk, OnOk, OnErr, Result, Ok, Err}, List.{list_all, list_any}}
+use Rattle.argus_actions.specs.{declared.action_id.ActionId.ActionId, Tree.{Tree, is_ancestor}}
 use Rattle.argus_memory.specs.declared.out_of_memory.OutOfMemory.{OutOfMemory}
-use Rattle.argus_contents.specs.Answer.{PlainAnswer}
-use Rattle.argus_contents.specs.Change.{Outcome, PlainChange, outcome}
+use Rattle.argus_contents.specs.{Answer.PlainAnswer, Change.{Outcome, PlainChange, outcome}}
 use Rattle.argus_contents.specs.Content.{PlainContent, plain_option}
 use Rattle.argus_objects.specs.declared.version.Version.{Version}
 use Rattle.argus_objects.specs.Object.{Object, PlainVersion, plain_version, versions_newest_first, holders, writers}
 use Rattle.argus_objects.specs.Rules.{all_above, are_up_to, is_ascending, may_write, visible_content}
 use Rattle.argus_objects.specs.CellChanges.{changed_top, has_version, newest_content, version_inherited}
 use Rattle.argus_objects.specs.CellChanges.{versions_inherited, with_version, without_version}
-use Rattle.argus_objects.proofs.InOrder.{any_default}
-use Rattle.argus_objects.proofs.Ascending.{above_up_to}
-use Rattle.argus_objects.proofs.Chains.{all_imp}
+use Rattle.argus_objects.proofs.{InOrder.any_default, Ascending.above_up_to, Chains.all_imp}
 use Rattle.argus_objects.proofs.Stacks.{all_holders, all_lower, all_versions, has_newest, lower_newest, newest_push}
 use Rattle.argus_objects.proofs.Stacks.{newest_set, same_id, version_pushed, version_set, without_lower}
 

@@ -1,14 +1,13 @@
 -- A reader put in its place.
 use Rattle.std.proofs.Common.{◌≡◌, ℕ, ◌<◌, ◌≤◌, Bool, true, false, not, cond, eqb, ltb, List, [], ◌∷◌, ◌++◌, ◌||◌}
 use Rattle.std.proofs.Common.{filter, length, take, get_or, refl, sym, ◌∙◌, ap, arith, inl, inr, zero, suc}
-use Rattle.std.specs.List.{list_all}
 use Rattle.std.proofs.lemmas.Bool.{eq-eqb, ne_eqb, lt-ltb, le-ltb, ltb-true, cases_eq, cases_lt, cases_Bool, cond-true}
 use Rattle.std.proofs.lemmas.Bool.{cond-false, and_parts, and_from, false≢true}
+use Rattle.std.specs.List.{list_all}
 use Rattle.argus_actions.specs.declared.action_id.ActionId.{ActionId}
 use Rattle.argus_objects.specs.Rules.{is_ascending}
 use Rattle.argus_objects.specs.CellChanges.{is_reader, with_reader, without_reader, readers_inherited}
-use Rattle.argus_objects.proofs.Chains.{all_imp}
-use Rattle.argus_objects.proofs.Ascending.{lower_before, ascending_filter}
+use Rattle.argus_objects.proofs.{Chains.all_imp, Ascending.{lower_before, ascending_filter}}
 
 -- a goes before a greater number
 pub before : (a x : ActionId) (xs : List ActionId) → a.0 < x.0 → with_reader a (x ∷ xs) ≡ a ∷ x ∷ xs

@@ -1,12 +1,10 @@
 -- A cell as actions begin and end.
 use Rattle.std.proofs.Common.{◌≡◌, Bool, true, not, eqb, ◌&&◌, List, [], ◌∷◌, filter, refl, ap, inl, inr}
-use Rattle.std.specs.List.{list_all}
 use Rattle.std.proofs.lemmas.Bool.{cases_Bool, and_parts, and_from, or_cases, or_left, or_right}
-use Rattle.argus_actions.specs.declared.action_id.ActionId.{ActionId}
-use Rattle.argus_actions.specs.Tree.{Tree, is_ancestor}
-use Rattle.argus_objects.specs.Object.{Object, holders}
+use Rattle.std.specs.List.{list_all}
+use Rattle.argus_actions.specs.{declared.action_id.ActionId.ActionId, Tree.{Tree, is_ancestor}}
+use Rattle.argus_objects.specs.{Object.{Object, holders}, Rules.{may_write, KeepsAncestors}}
 use Rattle.argus_objects.specs.Rules.{all_above, are_related, is_chain, is_lawful, is_related, is_strictly_above}
-use Rattle.argus_objects.specs.Rules.{may_write, KeepsAncestors}
 use Rattle.argus_objects.proofs.Chains.{all_imp}
 
 module _ (t u : Tree) (keeps : KeepsAncestors t u) where

@@ -1,22 +1,17 @@
 -- Each change of a cell keeps it lawful.
 use Rattle.std.proofs.Common.{◌≡◌, ◌≢◌, Bool, true, false, not, cond, eqb, ◌&&◌, ◌||◌, List, [], ◌∷◌, map, filter}
-use Rattle.std.proofs.Common.{reverse, Option, subst, refl, sym, ◌∙◌, ap, inl, inr}
-use Rattle.std.specs.Prelude.{OnOk, OnErr, Result, Ok, Err}
-use Rattle.std.specs.List.{list_all}
+use Rattle.std.proofs.{Common.{reverse, Option, subst, refl, sym, ◌∙◌, ap, inl, inr}, lemmas.List.reverse-reverse}
 use Rattle.std.proofs.lemmas.Bool.{eqb-true, eqb-false, cases_Bool, and_parts, and_from, or_left, or_right, or_parts}
 use Rattle.std.proofs.lemmas.Bool.{not-true, false≢true}
-use Rattle.std.proofs.lemmas.List.{reverse-reverse}
-use Rattle.argus_actions.specs.declared.action_id.ActionId.{ActionId}
-use Rattle.argus_actions.specs.Tree.{Tree, is_ancestor}
+use Rattle.std.specs.{Prelude.{OnOk, OnErr, Result, Ok, Err}, List.list_all}
+use Rattle.argus_actions.specs.{declared.action_id.ActionId.ActionId, Tree.{Tree, is_ancestor}}
 use Rattle.argus_memory.specs.declared.out_of_memory.OutOfMemory.{OutOfMemory}
 use Rattle.argus_contents.specs.Content.{PlainContent}
-use Rattle.argus_objects.specs.declared.version.Version.{Version}
+use Rattle.argus_objects.specs.{declared.version.Version.Version, Rules.AreInOrder}
 use Rattle.argus_objects.specs.Object.{PlainVersion, versions_newest_first, holders, writers}
 use Rattle.argus_objects.specs.Rules.{all_above, are_related, is_ascending, is_chain, is_related, is_strictly_above}
-use Rattle.argus_objects.specs.Rules.{AreInOrder}
 use Rattle.argus_objects.specs.CellChanges.{is_reader, has_version, version_inherited, with_reader, without_reader}
-use Rattle.argus_objects.specs.CellChanges.{readers_inherited}
-use Rattle.argus_objects.specs.CellChanges.{with_version, without_version, versions_inherited}
+use Rattle.argus_objects.specs.CellChanges.{readers_inherited, with_version, without_version, versions_inherited}
 use Rattle.argus_objects.proofs.Chains.{IsParent, all_imp, all_moved, all_filter, all_filtered, chain_moved}
 use Rattle.argus_objects.proofs.Chains.{chain_filter, strictly_from, renamed, renamed_same, renamed_other}
 use Rattle.argus_objects.proofs.Chains.{renamed_strictly, renamed_related}

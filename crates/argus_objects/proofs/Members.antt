@@ -1,15 +1,12 @@
 -- The holders after a subaction has handed what it has to its parent.
 use Rattle.std.proofs.Common.{◌≡◌, ◌≢◌, ℕ, Bool, true, false, not, cond, eqb, ◌&&◌, ◌||◌, List, [], ◌∷◌, map, Some}
-use Rattle.std.proofs.Common.{refl, sym, ◌∙◌, ap, inl, inr}
-use Rattle.std.specs.List.{list_any}
-use Rattle.std.proofs.Math.Bool.{and-false, or-false, or-true}
+use Rattle.std.proofs.{Common.{refl, sym, ◌∙◌, ap, inl, inr}, Math.Bool.{and-false, or-false, or-true}}
 use Rattle.std.proofs.lemmas.Bool.{eq-eqb, ne_eqb, eqb-true, cases_eq, cases_lt, cases_Bool, lt-ltb, le-ltb}
+use Rattle.std.specs.List.{list_any}
 use Rattle.argus_actions.specs.declared.action_id.ActionId.{ActionId}
-use Rattle.argus_objects.specs.Object.{PlainVersion}
+use Rattle.argus_objects.specs.{Object.PlainVersion, CellChanges.versions_inherited}
 use Rattle.argus_objects.specs.CellChanges.{is_reader, has_version, version_of, with_reader, without_reader}
-use Rattle.argus_objects.specs.CellChanges.{without_version}
-use Rattle.argus_objects.specs.CellChanges.{version_inherited, is_holder_inherited, readers_inherited}
-use Rattle.argus_objects.specs.CellChanges.{versions_inherited}
+use Rattle.argus_objects.specs.CellChanges.{without_version, version_inherited, is_holder_inherited, readers_inherited}
 
 -- a reader put in its place
 pub reader_with : (a x : ActionId) (xs : List ActionId)

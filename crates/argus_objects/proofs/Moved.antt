@@ -1,8 +1,7 @@
 -- What is behind the front after a part of the list has moved.
-use Rattle.std.proofs.Common.{◌≡◌, ℕ, ◌+◌, ◌-◌, ◌≤◌, List, ◌∷◌, ◌++◌, length, take, drop, set, sym, ◌∙◌, ap, arith, zero}
+use Rattle.std.proofs.Common.{◌≡◌, ℕ, ◌+◌, ◌-◌, ◌≤◌, List, ◌∷◌, ◌++◌, length, take, drop, set, sym, ◌∙◌, ap, arith}
+use Rattle.std.proofs.{Common.zero, lemmas.List.{drop_more, drop-append-le, drop-take, append_assoc}, Math.Seq.paste}
 use Rattle.std.proofs.lemmas.List.{drop-drop, drop_at, drop-set-add, set-append_right, length-take-le, length-drop}
-use Rattle.std.proofs.lemmas.List.{drop_more, drop-append-le, drop-take, append_assoc}
-use Rattle.std.proofs.Math.Seq.{paste}
 use Rattle.argus_actions.specs.declared.action_id.ActionId.{ActionId}
 
 -- those behind a place, seen from the front

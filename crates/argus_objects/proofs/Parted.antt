@@ -1,19 +1,15 @@
 -- A place that parts the readers into older ones and others.
-use Rattle.std.proofs.Common.{◌≡◌, ◌≢◌, ℕ, ◌+◌, ◌-◌, ◌<◌, ◌≤◌, Bool, true, false, not, cond, eqb, ltb, ◌||◌, List, [], ◌∷◌}
-use Rattle.std.proofs.Common.{◌++◌, length, take, drop, get_or, refl, sym, ◌∙◌, ap, arith, inl, inr, zero, suc, subst}
-use Rattle.std.specs.List.{list_all}
+use Rattle.std.proofs.Common.{◌≡◌, ◌≢◌, ℕ, ◌+◌, ◌-◌, ◌<◌, ◌≤◌, Bool, true, false, not, cond, eqb, ltb, ◌||◌, List, []}
+use Rattle.std.proofs.Common.{◌∷◌, ◌++◌, length, take, drop, get_or, refl, sym, ◌∙◌, ap, arith, inl, inr, zero, suc}
+use Rattle.std.proofs.{Common.subst, Math.Seq.{take-length, drop-length}, Math.ListN.drop_of_length-le}
 use Rattle.std.proofs.lemmas.Bool.{eq-eqb, ne_eqb, lt-ltb, ltb-true, and_parts, and_from, cases_lt, false≢true}
 use Rattle.std.proofs.lemmas.List.{drop_more, take-append-drop, get_or-drop, length-drop, drop-append-le, append-nil}
-use Rattle.std.proofs.Math.Seq.{take-length, drop-length}
-use Rattle.std.proofs.Math.ListN.{drop_of_length-le}
-use Rattle.std.proofs.lemmas.List.Elements.{filter-append}
-use Rattle.std.proofs.lemmas.List.Folds.{list_any-append, list_all_more}
+use Rattle.std.proofs.{lemmas.List.Elements.filter-append, lemmas.List.Folds.{list_any-append, list_all_more}}
+use Rattle.std.specs.List.{list_all}
 use Rattle.argus_actions.specs.declared.action_id.ActionId.{ActionId}
-use Rattle.argus_objects.specs.Rules.{is_ascending}
-use Rattle.argus_objects.specs.CellChanges.{is_reader, with_reader, without_reader}
+use Rattle.argus_objects.specs.{Rules.is_ascending, CellChanges.{is_reader, with_reader, without_reader}}
 use Rattle.argus_objects.specs.Readers.{StandsAt, GoesTo}
-use Rattle.argus_objects.proofs.Chains.{all_imp}
-use Rattle.argus_objects.proofs.InOrder.{any_default, before, there, lower_all, lower_than}
+use Rattle.argus_objects.proofs.{Chains.all_imp, InOrder.{any_default, before, there, lower_all, lower_than}}
 
 -- those before the place are older than the action, and none behind it is
 pub record IsPlace (a : ActionId) (ys : List ActionId) (at : ℕ) : Type 0 where

@@ -1,17 +1,15 @@
 -- Lists of actions, each named in its action's place.
 use Rattle.std.proofs.Common.{◌≡◌, ◌≢◌, ℕ, Bool, true, false, zero, suc, ◌+◌, ◌-◌, ◌<◌, ◌≤◌, ◌⊎◌, cond, eqb, ltb, ◌&&◌}
-use Rattle.std.proofs.Common.{List, [], ◌∷◌, ◌++◌, length, get_or, set, Option, None, Some, refl, sym, ◌∙◌, ap, inl, inr}
-use Rattle.std.proofs.Common.{arith}
+use Rattle.std.proofs.Common.{List, [], ◌∷◌, ◌++◌, length, get_or, set, Option, None, Some, refl, sym, ◌∙◌, ap, inl}
+use Rattle.std.proofs.{Common.{inr, arith}, lemmas.Bool.{cond-false, and_from, and_parts, and_right}}
 use Rattle.std.proofs.lemmas.Bool.{eq-eqb, ne_eqb, eqb-true, cases_eq, cases_lt, lt-ltb, le-ltb, ltb-true, cond-true}
-use Rattle.std.proofs.lemmas.Bool.{cond-false, and_from, and_parts, and_right}
 use Rattle.std.proofs.lemmas.Option.{cond_some, none-some}
 use Rattle.std.proofs.lemmas.List.{get_or_past, get_or-set_same, get_or-set_other}
 use Rattle.argus_actions.specs.declared.action_id.ActionId.{ActionId}
 use Rattle.argus_contents.specs.declared.obj_id.ObjId.{ObjId}
-use Rattle.argus_objects.specs.declared.held_list.HeldList.{HeldList}
-use Rattle.argus_objects.specs.declared.holdings.Holdings.{Holdings}
-use Rattle.argus_objects.specs.Holdings.{HasPlace, IsListOf, IsOfNoOther, IsPlace, list_number, no_list, noted_by, own_objects}
-use Rattle.argus_objects.specs.Holdings.{owned_index, place_at, placed_at, placed_objects}
+use Rattle.argus_objects.specs.{declared.held_list.HeldList.HeldList, declared.holdings.Holdings.Holdings}
+use Rattle.argus_objects.specs.Holdings.{HasPlace, IsListOf, IsOfNoOther, IsPlace, list_number, no_list, noted_by}
+use Rattle.argus_objects.specs.Holdings.{own_objects, owned_index, place_at, placed_at, placed_objects}
 use Rattle.argus_objects.specs.ObjectList.{NotedObjects, no_objects, passed}
 use Rattle.argus_objects.proofs.InOrder.{any_default}
 

@@ -1,23 +1,14 @@
 -- Where a search by halving ends, among readers and among versions.
-use Rattle.std.proofs.Common.{◌≡◌, ℕ, ◌+◌, ◌<◌, ◌≤◌, true, false, eqb, ltb, List, length, take, drop, get_or, sym}
-use Rattle.std.proofs.Common.{◌∙◌, refl, ap, subst, arith, inl, inr, zero, suc, Result, Ok, Err, IfOk, IfErr}
-use Rattle.std.specs.List.{list_all}
-use Rattle.std.specs.List.Sorted.{IsSearchInRange, IsBinarySearchResult, IsNonDecreasingBy}
+use Rattle.std.proofs.Common.{◌≡◌, ℕ, ◌+◌, ◌<◌, ◌≤◌, true, false, eqb, ltb, List, length, take, drop, get_or, sym, ◌∙◌}
+use Rattle.std.proofs.Common.{refl, ap, subst, arith, inl, inr, zero, suc, Result, Ok, Err, IfOk, IfErr}
+use Rattle.std.proofs.{lemmas.Bool.{cases_eq, cases_lt, ne_eqb}, lemmas.Bool.Decides.nat_tests, lemmas.Cmp.ranked}
+use Rattle.std.proofs.{lemmas.List.{get_or-drop, get_or-map, length-drop, length-map}, lemmas.List.Folds.list_any_none}
+use Rattle.std.specs.{List.list_all, List.Sorted.{IsSearchInRange, IsBinarySearchResult, IsNonDecreasingBy}}
 use Rattle.std.specs.Ordering.{nat_cmp, ordering_index}
-use Rattle.std.proofs.lemmas.Bool.{cases_eq, cases_lt, ne_eqb}
-use Rattle.std.proofs.lemmas.Bool.Decides.{nat_tests}
-use Rattle.std.proofs.lemmas.Cmp.{ranked}
-use Rattle.std.proofs.lemmas.List.{get_or-drop, get_or-map, length-drop, length-map}
-use Rattle.std.proofs.lemmas.List.Folds.{list_any_none}
 use Rattle.argus_actions.specs.declared.action_id.ActionId.{ActionId}
-use Rattle.argus_objects.specs.declared.version.Version.{Version}
-use Rattle.argus_objects.specs.Object.{versions_newest_first, writers}
-use Rattle.argus_objects.specs.Rules.{is_ascending}
-use Rattle.argus_objects.specs.CellChanges.{has_version}
-use Rattle.argus_objects.specs.Readers.{StandsAt, GoesTo}
-use Rattle.argus_objects.proofs.Ascending.{rising}
-use Rattle.argus_objects.proofs.InOrder.{lower_than}
-use Rattle.argus_objects.proofs.Parted.{found, missing, one_more_older}
+use Rattle.argus_objects.specs.{declared.version.Version.Version, Object.{versions_newest_first, writers}}
+use Rattle.argus_objects.specs.{Rules.is_ascending, CellChanges.has_version, Readers.{StandsAt, GoesTo}}
+use Rattle.argus_objects.proofs.{Ascending.rising, InOrder.lower_than, Parted.{found, missing, one_more_older}}
 use Rattle.argus_objects.proofs.Stacks.{has_newest}
 
 -- among readers: in the action's place, or in that where it would be put

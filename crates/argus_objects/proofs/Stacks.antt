@@ -1,26 +1,20 @@
 -- Versions as the program keeps them, the newest last, and as contracts see them.
 use Rattle.std.proofs.Common.{◌≡◌, ◌≢◌, ℕ, ◌+◌, ◌<◌, ◌≤◌, Bool, true, false, not, cond, eqb, ltb, leb, ◌&&◌, ◌||◌, List}
 use Rattle.std.proofs.Common.{[], ◌∷◌, ◌++◌, map, filter, reverse, length, take, drop, get_or, set, Option, Some, None}
-use Rattle.std.proofs.Common.{refl, sym, ◌∙◌, ap, arith, zero, suc, subst}
-use Rattle.std.specs.List.{list_all, list_any}
+use Rattle.std.proofs.{Common.{refl, sym, ◌∙◌, ap, arith, zero, suc, subst}, lemmas.Bool.{and_from, or_parts}}
 use Rattle.std.proofs.lemmas.Bool.{eq-eqb, ne_eqb, lt-ltb, ltb-true, leb-true, cond-true, cond-false, and_parts}
-use Rattle.std.proofs.lemmas.Bool.{and_from, or_parts}
 use Rattle.std.proofs.lemmas.List.{take_more, drop_more, append_assoc, append-nil, take-append-drop, reverse-append}
 use Rattle.std.proofs.lemmas.List.{map-append, get_or-map, get_or_at, set_at, length-map, length-take-le, drop_all}
-use Rattle.std.proofs.lemmas.List.{take_all}
-use Rattle.std.proofs.lemmas.List.Elements.{filter-append}
-use Rattle.std.proofs.lemmas.List.Folds.{list_any-append, list_all-map}
-use Rattle.std.proofs.lemmas.Grind.{reverse_onto}
-use Rattle.std.proofs.lemmas.Simd.{map-map}
-use Rattle.argus_actions.specs.declared.action_id.ActionId.{ActionId}
-use Rattle.argus_actions.specs.Tree.{Tree}
+use Rattle.std.proofs.{lemmas.List.take_all, lemmas.List.Elements.filter-append, lemmas.Grind.reverse_onto}
+use Rattle.std.proofs.{lemmas.List.Folds.{list_any-append, list_all-map}, lemmas.Simd.map-map}
+use Rattle.std.specs.List.{list_all, list_any}
+use Rattle.argus_actions.specs.{declared.action_id.ActionId.ActionId, Tree.Tree}
 use Rattle.argus_contents.specs.Content.{PlainContent}
 use Rattle.argus_objects.specs.declared.version.Version.{Version}
 use Rattle.argus_objects.specs.Object.{PlainVersion, plain_version, versions_newest_first, holders, writers}
 use Rattle.argus_objects.specs.Rules.{are_related, are_up_to, is_ascending, is_chain, is_related, is_strictly_above}
 use Rattle.argus_objects.specs.CellChanges.{has_version, version_inherited, version_of, with_version, without_version}
-use Rattle.argus_objects.proofs.Chains.{renamed, all_imp}
-use Rattle.argus_objects.proofs.Ascending.{list_all_reverse, lower_before}
+use Rattle.argus_objects.proofs.{Chains.{renamed, all_imp}, Ascending.{list_all_reverse, lower_before}}
 
 pub newest_push : (vs : List Version) (v : Version) → versions_newest_first (vs ++ v ∷ []) ≡ plain_version v
     ∷ versions_newest_first vs

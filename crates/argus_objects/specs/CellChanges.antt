@@ -1,13 +1,9 @@
 -- What each call leaves of the readers and of the versions.
-use Rattle.std.specs.Prelude.{Bool, not, ◌&&◌, ◌||◌, ◌==◌, nat_lt, if◌then◌else◌, List, [], ◌∷◌}
-use Rattle.std.specs.Prelude.{map, Option, Some, None}
-use Rattle.std.specs.List.{list_any, filter}
-use Rattle.argus_actions.specs.declared.action_id.ActionId.{ActionId}
-use Rattle.argus_actions.specs.Tree.{Tree}
-use Rattle.argus_contents.specs.Content.{PlainContent}
-use Rattle.argus_contents.specs.Change.{PlainChange, Outcome, outcome}
-use Rattle.argus_objects.specs.Object.{Object, PlainVersion}
-use Rattle.argus_objects.specs.Rules.{visible_content}
+use Rattle.std.specs.Prelude.{Bool, not, ◌&&◌, ◌||◌, ◌==◌, nat_lt, if◌then◌else◌, List, [], ◌∷◌, map, Option, Some}
+use Rattle.std.specs.{Prelude.None, List.{list_any, filter}}
+use Rattle.argus_actions.specs.{declared.action_id.ActionId.ActionId, Tree.Tree}
+use Rattle.argus_contents.specs.{Content.PlainContent, Change.{PlainChange, Outcome, outcome}}
+use Rattle.argus_objects.specs.{Object.{Object, PlainVersion}, Rules.visible_content}
 
 -- a is one of these readers
 abbrev pub is_reader : ActionId → List ActionId → Bool

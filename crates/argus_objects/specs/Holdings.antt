@@ -1,11 +1,10 @@
 -- The list of each action's objects.
 pub use Rattle.argus_objects.specs.ObjectList.{noted, passed, no_objects}
-use Rattle.std.specs.Prelude.{◌≡◌, ◌≢◌, ℕ, ◌+◌, ◌-◌, ◌<◌, ◌≤◌, ◌==◌, ◌&&◌, nat_lt}
-use Rattle.std.specs.Prelude.{List, [], length, slice_index_or, if◌then◌else◌, Option, None, Some}
+use Rattle.std.specs.Prelude.{◌≡◌, ◌≢◌, ℕ, ◌+◌, ◌-◌, ◌<◌, ◌≤◌, ◌==◌, ◌&&◌, nat_lt, List, [], length, slice_index_or}
+use Rattle.std.specs.Prelude.{if◌then◌else◌, Option, None, Some}
 use Rattle.argus_actions.specs.declared.action_id.ActionId.{ActionId}
 use Rattle.argus_contents.specs.declared.obj_id.ObjId.{ObjId}
-use Rattle.argus_objects.specs.declared.held_list.HeldList.{HeldList}
-use Rattle.argus_objects.specs.declared.holdings.Holdings.{Holdings}
+use Rattle.argus_objects.specs.{declared.held_list.HeldList.HeldList, declared.holdings.Holdings.Holdings}
 use Rattle.argus_objects.specs.ObjectList.{NotedObjects}
 
 -- a list that was given to no action

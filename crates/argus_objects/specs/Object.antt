@@ -2,8 +2,7 @@
 use Rattle.std.specs.Prelude.{◌≡◌, ℕ, List, map, reverse, refl, Option}
 use Rattle.std.specs.Coded.{Coded, code_by, coded×, coded_ℕ, coded_list, coded_option}
 use Rattle.argus_actions.specs.declared.action_id.ActionId.{ActionId}
-use Rattle.argus_contents.specs.Content.{PlainContent, plain_option}
-use Rattle.argus_contents.specs.ContentCode.{content_coded}
+use Rattle.argus_contents.specs.{Content.{PlainContent, plain_option}, ContentCode.content_coded}
 use Rattle.argus_objects.specs.declared.version.Version.{Version}
 
 -- a version: whose it is, and the content that the object has for its holder

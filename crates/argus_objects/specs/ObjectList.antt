@@ -1,6 +1,5 @@
 -- What contracts see of a list of objects, and how it changes.
-use Rattle.std.specs.Prelude.{ℕ, ◌==◌, if◌then◌else◌, List, [], ◌∷◌, ◌++◌}
-use Rattle.std.specs.List.{list_any}
+use Rattle.std.specs.{Prelude.{ℕ, ◌==◌, if◌then◌else◌, List, [], ◌∷◌, ◌++◌}, List.list_any}
 use Rattle.argus_contents.specs.declared.obj_id.ObjId.{ObjId}
 
 -- the objects that were noted, and how many more fit

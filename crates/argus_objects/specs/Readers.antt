@@ -1,10 +1,8 @@
 -- What contracts see of a cell's list of readers.
-use Rattle.std.specs.Prelude.{◌≡◌, ℕ, ◌+◌, ◌<◌, ◌≤◌, true, false, List, ◌∷◌, ◌++◌, length, take, drop}
-use Rattle.std.specs.Prelude.{slice_index_or, refl}
-use Rattle.std.specs.Coded.{Coded, code_by, coded×, coded_ℕ, coded_list}
+use Rattle.std.specs.Prelude.{◌≡◌, ℕ, ◌+◌, ◌<◌, ◌≤◌, true, false, List, ◌∷◌, ◌++◌, length, take, drop, slice_index_or}
+use Rattle.std.specs.{Prelude.refl, Coded.{Coded, code_by, coded×, coded_ℕ, coded_list}}
 use Rattle.argus_actions.specs.declared.action_id.ActionId.{ActionId}
-use Rattle.argus_objects.specs.Object.{action_coded}
-use Rattle.argus_objects.specs.CellChanges.{is_reader, with_reader, without_reader}
+use Rattle.argus_objects.specs.{Object.action_coded, CellChanges.{is_reader, with_reader, without_reader}}
 
 -- the readers in increasing number, and room for how many more there is
 pub record ReaderList : Type 0 where

@@ -1,13 +1,10 @@
 -- The lock rules (Moss, Nested Transactions, 1981; Argus Reference Manual, MIT/LCS/TR-400, 1987),
 -- and what holds of each object.
-use Rattle.std.specs.Prelude.{◌≡◌, ℕ, Bool, true, not, ◌&&◌, ◌||◌, ◌==◌, nat_lt, nat_le}
-use Rattle.std.specs.Prelude.{if◌then◌else◌, List, [], ◌∷◌, Option}
-use Rattle.std.specs.List.{list_all}
-use Rattle.argus_actions.specs.declared.action_id.ActionId.{ActionId}
-use Rattle.argus_actions.specs.Tree.{Tree, is_ancestor}
+use Rattle.std.specs.Prelude.{◌≡◌, ℕ, Bool, true, not, ◌&&◌, ◌||◌, ◌==◌, nat_lt, nat_le, if◌then◌else◌, List, [], ◌∷◌}
+use Rattle.std.specs.{Prelude.Option, List.list_all}
+use Rattle.argus_actions.specs.{declared.action_id.ActionId.ActionId, Tree.{Tree, is_ancestor}}
 use Rattle.argus_contents.specs.Content.{PlainContent}
-use Rattle.argus_objects.specs.declared.version.Version.{Version}
-use Rattle.argus_objects.specs.Object.{Object, PlainVersion, holders, writers}
+use Rattle.argus_objects.specs.{declared.version.Version.Version, Object.{Object, PlainVersion, holders, writers}}
 
 -- these are all ancestors of the action
 abbrev pub all_above : Tree → ActionId → List ActionId → Bool

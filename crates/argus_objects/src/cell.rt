@@ -1,21 +1,16 @@
 //! `Cell`: one object, with its base, its readers and its versions.
 
-ghost use Rattle.std.specs.Prelude.{◌≡◌, ◌<◌, ◌≤◌, false, true, [], None, Some, IfOk, OnErr};
-ghost use Rattle.std.specs.Prelude.{◌||◌, ◌+◌, OnOk};
-ghost use Rattle.std.specs.Option.{unwrap_or};
-ghost use Rattle.argus_actions.specs.Refusals.{commit_refusal};
-ghost use Rattle.argus_actions.specs.Tree.{parent_of};
+ghost use Rattle.std.specs.Prelude.{◌≡◌, ◌<◌, ◌≤◌, false, true, [], None, Some, IfOk, OnErr, ◌||◌};
+ghost use Rattle.std.specs.{Prelude.{◌+◌, OnOk}, Option.unwrap_or};
+ghost use Rattle.argus_actions.specs.{Refusals.commit_refusal, Tree.parent_of};
 ghost use Rattle.argus_contents.specs.Answer.{done_or, plain_answer};
 ghost use Rattle.argus_contents.specs.Change.{CreatesWithin, gives_value, plain_change};
 ghost use Rattle.argus_contents.specs.Content.{KeepsLimits, plain_option};
 ghost use Rattle.argus_objects.specs.Object.{versions_newest_first, SameLocks};
 ghost use Rattle.argus_objects.specs.Rules.{is_lawful, may_read, may_write, visible_content};
 ghost use Rattle.argus_objects.specs.CellChanges.{changed, has_version, is_reader, newest_content};
-ghost use Rattle.argus_objects.specs.CellChanges.{readers_inherited};
-ghost use Rattle.argus_objects.specs.CellChanges.{version_of, with_reader};
-ghost use Rattle.argus_objects.specs.CellChanges.{without_reader};
-ghost use Rattle.argus_objects.specs.CellChanges.{versions_inherited};
-ghost use Rattle.argus_objects.specs.CellChanges.{with_version};
+ghost use Rattle.argus_objects.specs.CellChanges.{readers_inherited, version_of, with_reader};
+ghost use Rattle.argus_objects.specs.CellChanges.{without_reader, versions_inherited, with_version};
 ghost use Rattle.argus_objects.specs.CellChanges.{without_version};
 
 use crate::changing::{change_version, change_version_by_reference, content_on_top};

@@ -1,7 +1,6 @@
 //! A change of an object's version: in place if the action has one, otherwise on a copy.
 
-ghost use Rattle.std.specs.Prelude.{◌≡◌, ◌≤◌, ◌+◌, ◌-◌, false, true, vec_len};
-ghost use Rattle.std.specs.Prelude.{IfOk, OnErr, OnOk};
+ghost use Rattle.std.specs.Prelude.{◌≡◌, ◌≤◌, ◌+◌, ◌-◌, false, true, vec_len, IfOk, OnErr, OnOk};
 ghost use Rattle.std.specs.Vec.{vec_capacity};
 ghost use Rattle.argus_contents.specs.Answer.{done_or, plain_answer};
 ghost use Rattle.argus_contents.specs.Change.{gives_value, plain_change};

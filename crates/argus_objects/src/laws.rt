@@ -3,14 +3,13 @@
 
 ghost use Rattle.std.specs.Prelude.{◌≡◌, ◌≢◌, true, List};
 ghost use Rattle.argus_actions.specs.declared.action_id.ActionId.{ActionId};
-ghost use Rattle.argus_actions.specs.declared.origin.Origin.{Origin};
+ghost use Rattle.argus_actions.specs.{declared.origin.Origin.Origin, Tree.after_abort_others};
 ghost use Rattle.argus_actions.specs.Tree.{Tree, after_begin, after_commit, after_abort};
-ghost use Rattle.argus_actions.specs.Tree.{after_abort_others};
 ghost use Rattle.argus_objects.specs.Object.{Object, PlainVersion};
 ghost use Rattle.argus_objects.specs.Rules.{is_lawful, may_read, may_write, KeepsAncestors};
 ghost use Rattle.argus_objects.specs.CellChanges.{is_reader, has_version, version_of};
-ghost use Rattle.argus_objects.specs.CellChanges.{is_holder_inherited};
-ghost use Rattle.argus_objects.specs.CellChanges.{readers_inherited, versions_inherited};
+ghost use Rattle.argus_objects.specs.CellChanges.{is_holder_inherited, readers_inherited};
+ghost use Rattle.argus_objects.specs.CellChanges.{versions_inherited};
 
 /// Ancestors stay ancestors, whatever begins or ends.
 pub fn ancestors_stay()

@@ -2,13 +2,11 @@
 
 ghost use Rattle.std.specs.Prelude.{◌≡◌, ◌<◌, ◌≤◌, ◌+◌, ◌-◌, ◌∷◌, ◌++◌, [], true, false, length};
 ghost use Rattle.std.specs.Prelude.{take, drop, slice_index_or, vec_len, OnOk, IfOk, IfErr};
-ghost use Rattle.std.specs.List.{copy_within};
-ghost use Rattle.std.specs.Vec.{vec_capacity};
+ghost use Rattle.std.specs.{List.copy_within, Vec.vec_capacity};
 ghost use Rattle.argus_actions.specs.declared.action_id.ActionId.{ActionId};
-ghost use Rattle.argus_objects.specs.Rules.{all_above, is_ascending};
+ghost use Rattle.argus_objects.specs.{Rules.{all_above, is_ascending}, Readers.{StandsAt, GoesTo}};
 ghost use Rattle.argus_objects.specs.CellChanges.{is_reader, with_reader, without_reader};
 ghost use Rattle.argus_objects.specs.CellChanges.{readers_inherited};
-ghost use Rattle.argus_objects.specs.Readers.{StandsAt, GoesTo};
 
 use argus_actions::{ActionId, ActionTree};
 use argus_memory::{Heap, OutOfMemory, Room};

@@ -1,18 +1,14 @@
 //! Work on the versions of a cell, which go from ancestor to descendant.
 
-ghost use Rattle.std.specs.Prelude.{◌≡◌, ◌<◌, ◌≤◌, ◌==◌, ◌+◌, ◌-◌, true, length, map, nat_lt};
-ghost use Rattle.std.specs.Prelude.{take, vec_len, OnOk};
-ghost use Rattle.std.specs.List.{list_all, list_any};
+ghost use Rattle.std.specs.Prelude.{◌≡◌, ◌<◌, ◌≤◌, ◌==◌, ◌+◌, ◌-◌, true, length, map, nat_lt, take};
+ghost use Rattle.std.specs.{Prelude.{vec_len, OnOk}, List.{list_all, list_any}, Vec.vec_capacity};
 ghost use Rattle.std.specs.Option.{option_map, unwrap_or};
-ghost use Rattle.std.specs.Vec.{vec_capacity};
 ghost use Rattle.argus_contents.specs.Content.{plain_option};
 ghost use Rattle.argus_objects.specs.Object.{holders, versions_newest_first, plain_version};
-ghost use Rattle.argus_objects.specs.Object.{writers};
+ghost use Rattle.argus_objects.specs.{Object.writers, Rules.{is_chain, is_strictly_above}};
 ghost use Rattle.argus_objects.specs.Rules.{all_above, are_related, are_up_to, is_ascending};
-ghost use Rattle.argus_objects.specs.Rules.{is_chain, is_strictly_above};
 ghost use Rattle.argus_objects.specs.CellChanges.{version_inherited, version_of, with_version};
-ghost use Rattle.argus_objects.specs.CellChanges.{without_version};
-ghost use Rattle.argus_objects.specs.CellChanges.{versions_inherited};
+ghost use Rattle.argus_objects.specs.CellChanges.{without_version, versions_inherited};
 
 use crate::version::Version;
 use argus_actions::{ActionId, ActionTree};

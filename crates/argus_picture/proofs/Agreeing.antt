@@ -1,6 +1,6 @@
 -- How far the objects that a script declares agree with a journal's.
-use Rattle.std.proofs.Common.{List, ap, ap₂, append-nil, arith, drop, get_or, length, refl, sym, take, take_all}
-use Rattle.std.proofs.Common.{suc, zero, ◌+◌, ◌++◌, ◌<◌, ◌∙◌, ◌∷◌, ◌≡◌, ◌≤◌, ℕ, []}
+use Rattle.std.proofs.Common.{List, ap, ap₂, append-nil, arith, drop, get_or, length, refl, sym, take, take_all, suc}
+use Rattle.std.proofs.Common.{zero, ◌+◌, ◌++◌, ◌<◌, ◌∙◌, ◌∷◌, ◌≡◌, ◌≤◌, ℕ, []}
 use Rattle.std.proofs.lemmas.List.{drop_more, length-take-le, take-append-drop, take_more}
 use Rattle.argus_contents.specs.Shape.{PlainShape}
 use Rattle.argus_picture.specs.Naming.{IsNamesFault}

@@ -1,8 +1,6 @@
 -- What one more character adds to an escaped text.
-use Rattle.std.proofs.Common.{IsUtf8, List, ap, append-nil, append_assoc, encode_utf8, length, sym, ◌++◌, ◌∙◌}
-use Rattle.std.proofs.Common.{◌≡◌, ℕ}
-use Rattle.std.proofs.lemmas.List.{nil_from_length}
-use Rattle.std.proofs.lemmas.Str.{chars-nil, chars_past_char}
+use Rattle.std.proofs.Common.{IsUtf8, List, ap, append-nil, append_assoc, encode_utf8, length, sym, ◌++◌, ◌∙◌, ◌≡◌, ℕ}
+use Rattle.std.proofs.{lemmas.List.nil_from_length, lemmas.Str.{chars-nil, chars_past_char}}
 use Rattle.std.specs.List.{flat_map}
 use Rattle.argus_picture.specs.Escaping.{escape, escaped}
 

@@ -3,10 +3,8 @@ use Rattle.std.proofs.Common.{Err, List, Ok, Result, inl, inr, subst, sym, â—Œ+â
 use Rattle.std.proofs.lemmas.Result.{IfErr-weaker}
 use Rattle.std.specs.Prelude.{IfErr, OnOk}
 use Rattle.argus_picture.specs.declared.listing_fault_kind.ListingFaultKind.TheVariants as kind
-use Rattle.argus_picture.specs.Faults.{SaysOfLine}
-use Rattle.argus_picture.specs.Listing.{Enters, IsNumbered, Place}
-use Rattle.argus_picture.specs.declared.limits.TheConstants.{MAX_ENTRIES}
-use Rattle.argus_picture.specs.declared.line_error.LineError.{LineError}
+use Rattle.argus_picture.specs.{Faults.SaysOfLine, Listing.{Enters, IsNumbered, Place}}
+use Rattle.argus_picture.specs.{declared.limits.TheConstants.MAX_ENTRIES, declared.line_error.LineError.LineError}
 use Rattle.argus_picture.specs.declared.line_error.LineError.TheVariants as line_error
 
 -- if there was no error, the line was taken as an entry

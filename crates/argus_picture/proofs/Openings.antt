@@ -1,16 +1,12 @@
 -- The lines of openings: what each says, and which text can't be the next line.
-use Rattle.std.proofs.Common.{List, ap, arith, codes, inl, inr, refl, subst, sym, true, ◌+◌, ◌++◌, ◌<◌}
-use Rattle.std.proofs.Common.{◌∙◌, ◌≡◌, ℕ}
+use Rattle.std.proofs.Common.{List, ap, arith, codes, inl, inr, refl, subst, sym, true, ◌+◌, ◌++◌, ◌<◌, ◌∙◌, ◌≡◌, ℕ}
 use Rattle.std.proofs.lemmas.List.{append_cancel_left}
 use Rattle.std.specs.Prelude.{Option}
-use Rattle.argus_contents.specs.Content.{PlainContent}
-use Rattle.argus_contents.specs.Shape.{PlainShape}
-use Rattle.argus_contents.specs.declared.limits.TheConstants.{MAX_OBJECTS}
+use Rattle.argus_contents.specs.{Content.PlainContent, Shape.PlainShape, declared.limits.TheConstants.MAX_OBJECTS}
 use Rattle.argus_reading.specs.OpeningLanguages.{FoldedLines, IsForm, ObjectLines}
 use Rattle.argus_reading.proofs.Told.{object_told}
 use Rattle.argus_texts.specs.Language.{FormOf}
-use Rattle.argus_picture.specs.Faults.{IsNoOpening}
-use Rattle.argus_picture.specs.Fitting.{may_fit}
+use Rattle.argus_picture.specs.{Faults.IsNoOpening, Fitting.may_fit}
 use Rattle.argus_picture.specs.Listing.{IsNextOfOpening, IsOfOpening, Place, start}
 
 pub of_opening : (line rest : List ℕ) → line ≡ codes "opening " ++ rest → IsOfOpening line

@@ -1,18 +1,15 @@
 -- How far a listing is read, line by line.
-use Rattle.std.proofs.Common.{◌≡◌, ◌≢◌, ℕ, ◌+◌, ◌<◌, ◌≤◌, Bool, true, false, cond, List, [], ◌∷◌, ◌++◌, length}
-use Rattle.std.proofs.Common.{None, Some, take, drop, refl, sym, ap, ◌∙◌, subst, arith, append_assoc, inr}
-use Rattle.std.proofs.lemmas.List.{length-append}
+use Rattle.std.proofs.Common.{◌≡◌, ◌≢◌, ℕ, ◌+◌, ◌<◌, ◌≤◌, Bool, true, false, cond, List, [], ◌∷◌, ◌++◌, length, None}
+use Rattle.std.proofs.Common.{Some, take, drop, refl, sym, ap, ◌∙◌, subst, arith, append_assoc, inr}
+use Rattle.std.proofs.{lemmas.List.length-append, lemmas.List.Sums.fails_before_first}
 use Rattle.std.proofs.lemmas.List.Splits.{length-slice_split, slice_split_first, slice_split_none}
-use Rattle.std.proofs.lemmas.List.Sums.{fails_before_first}
-use Rattle.std.specs.List.{position, position_or_len}
-use Rattle.std.specs.Prelude.{nat_lt, ◌==◌}
+use Rattle.std.specs.{List.{position, position_or_len}, Prelude.{nat_lt, ◌==◌}}
 use Rattle.argus_picture.specs.declared.listing_fault_kind.ListingFaultKind.{ListingFaultKind}
-use Rattle.argus_picture.specs.declared.listing_fault_kind.ListingFaultKind.TheVariants as kind
 use Rattle.argus_picture.specs.Faults.{IsFaultyLine, IsTorn, SaysOf, SaysOfLine, SaysOfListing, error_at}
-use Rattle.argus_picture.specs.declared.line_error.LineError.{LineError}
-use Rattle.argus_picture.specs.declared.line_error.LineError.TheVariants as line_error
-use Rattle.argus_picture.specs.declared.limits.TheConstants.{MAX_BYTES}
+use Rattle.argus_picture.specs.{declared.line_error.LineError.LineError, declared.limits.TheConstants.MAX_BYTES}
 use Rattle.argus_picture.specs.Listing.{IsListing, Leads, Place, Takes, parts, start}
+use Rattle.argus_picture.specs.declared.listing_fault_kind.ListingFaultKind.TheVariants as kind
+use Rattle.argus_picture.specs.declared.line_error.LineError.TheVariants as line_error
 
 abbrev is_feed : ℕ → Bool
 is_feed b = b == 10

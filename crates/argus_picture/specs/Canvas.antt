@@ -1,10 +1,7 @@
 -- The text of a picture, with the names of its objects.
-use Rattle.std.specs.Fmt.{decimal}
-use Rattle.std.specs.List.{flat_map, slice_get}
+use Rattle.std.specs.{Fmt.decimal, List.{flat_map, slice_get}}
 use Rattle.std.specs.Prelude.{List, None, Option, Some, codes, string_bytes, ℕ, ◌++◌}
-use Rattle.argus_picture.specs.Escaping.{escaped}
-use Rattle.argus_picture.specs.declared.canvas.Canvas.{Canvas}
-use Rattle.argus_picture.specs.declared.canvas.Stretch.{Stretch}
+use Rattle.argus_picture.specs.{Escaping.escaped, declared.canvas.Canvas.Canvas, declared.canvas.Stretch.Stretch}
 
 -- the label of an object without a name: `o3`
 abbrev pub number_label : ℕ → List ℕ

@@ -1,11 +1,9 @@
 -- What `draw` has read: a listing, or what an error says about it.
 use Rattle.std.specs.Prelude.{List, Option, ℕ, ◌+◌}
-use Rattle.argus_picture.specs.declared.draw_error.DrawError.{DrawError}
-use Rattle.argus_picture.specs.declared.draw_error.DrawError.TheVariants as draw_error
+use Rattle.argus_picture.specs.{declared.draw_error.DrawError.DrawError, Faults.SaysOfListing, Listing.IsListing}
 use Rattle.argus_picture.specs.declared.listing_fault.ListingFault.{ListingFault}
-use Rattle.argus_picture.specs.Faults.{SaysOfListing}
-use Rattle.argus_picture.specs.Listing.{IsListing}
 use Rattle.argus_picture.specs.declared.limits.TheConstants.{MAX_BYTES}
+use Rattle.argus_picture.specs.declared.draw_error.DrawError.TheVariants as draw_error
 use Rattle.argus_picture.specs.declared.picture_error.PictureError.TheVariants as error
 use Rattle.argus_streams.specs.Input.{ReadUpTo}
 

@@ -1,7 +1,6 @@
 -- How a text is escaped in a picture.
 use Rattle.std.specs.List.{flat_map}
-use Rattle.std.specs.Prelude.{Bool, List, chars, codes, encode_utf8, if◌then◌else◌, nat_lt, ℕ}
-use Rattle.std.specs.Prelude.{◌&&◌, ◌==◌, ◌||◌}
+use Rattle.std.specs.Prelude.{Bool, List, chars, codes, encode_utf8, if◌then◌else◌, nat_lt, ℕ, ◌&&◌, ◌==◌, ◌||◌}
 
 -- a picture has no such character: one below U+0020 other than tab and line feed, U+FFFE or U+FFFF
 abbrev pub is_no_character : ℕ → Bool

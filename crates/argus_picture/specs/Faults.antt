@@ -1,16 +1,14 @@
 -- What a fault says about a listing: which line is faulty, and why.
-use Rattle.std.specs.Prelude.{List, [], length, ℕ, ◌+◌, ◌++◌, ◌<◌, ◌∷◌, ◌≡◌, ◌≢◌, ◌≤◌, ◌⊎◌}
-use Rattle.std.specs.Str.{IsUtf8, IsValidUpTo}
+use Rattle.std.specs.{Prelude.{List, [], length, ℕ, ◌+◌, ◌++◌, ◌<◌, ◌∷◌, ◌≡◌, ◌≢◌, ◌≤◌, ◌⊎◌}, Str.{IsUtf8, IsValidUpTo}}
 use Rattle.argus_picture.specs.declared.listing_fault.ListingFault.{ListingFault}
 use Rattle.argus_picture.specs.declared.listing_fault_kind.ListingFaultKind.{ListingFaultKind}
-use Rattle.argus_picture.specs.declared.listing_fault_kind.ListingFaultKind.TheVariants as kind
-use Rattle.argus_reading.specs.Line.{IsEntryLine, IsNoLine, LacksShape}
-use Rattle.argus_picture.specs.Listing.{IsNextOfOpening, IsNumbered, IsOfOpening, Leads, Place}
-use Rattle.argus_picture.specs.Listing.{parts, start}
+use Rattle.argus_picture.specs.Listing.{IsNextOfOpening, IsNumbered, IsOfOpening, Leads, Place, parts, start}
 use Rattle.argus_picture.specs.declared.limits.TheConstants.{MAX_BYTES, MAX_ENTRIES}
 use Rattle.argus_picture.specs.declared.line_error.LineError.{LineError}
-use Rattle.argus_picture.specs.declared.line_error.LineError.TheVariants as line_error
 use Rattle.argus_picture.specs.declared.picture_error.PictureError.{PictureError}
+use Rattle.argus_picture.specs.declared.listing_fault_kind.ListingFaultKind.TheVariants as kind
+use Rattle.argus_reading.specs.Line.{IsEntryLine, IsNoLine, LacksShape}
+use Rattle.argus_picture.specs.declared.line_error.LineError.TheVariants as line_error
 use Rattle.argus_picture.specs.declared.picture_error.PictureError.TheVariants as error
 
 -- the line isn't the next one of an opening

@@ -1,8 +1,6 @@
 -- Whether an object of an opening may have its content.
 use Rattle.std.specs.Prelude.{Bool, None, Option, Some, true}
-use Rattle.argus_contents.specs.Content.{PlainContent}
-use Rattle.argus_contents.specs.Fitting.{is_fitting}
-use Rattle.argus_contents.specs.Shape.{PlainShape}
+use Rattle.argus_contents.specs.{Content.PlainContent, Fitting.is_fitting, Shape.PlainShape}
 use Rattle.argus_contents.specs.declared.limits.TheConstants.{MAX_OBJECTS}
 
 -- there is no content, or it fits the shape as if all `MAX_OBJECTS` objects were declared: it may

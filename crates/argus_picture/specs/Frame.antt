@@ -1,7 +1,6 @@
 -- Where the parts of a picture are, in pixels from its upper left corner.
 use Rattle.std.specs.Prelude.{if◌then◌else◌, max, nat_lt, ℕ, ◌+◌, ◌*◌}
-use Rattle.argus_picture.specs.declared.entry_spacing.EntrySpacing.{EntrySpacing}
-use Rattle.argus_picture.specs.declared.frame.Frame.{Frame}
+use Rattle.argus_picture.specs.{declared.entry_spacing.EntrySpacing.EntrySpacing, declared.frame.Frame.Frame}
 use Rattle.argus_picture.specs.declared.entry_spacing.EntrySpacing.TheVariants.{Wide, Middle, Narrow}
 
 -- how many pixels there are from one entry to the next

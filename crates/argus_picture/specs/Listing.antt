@@ -1,18 +1,11 @@
 -- The lines of a listing that can be drawn.
 use Rattle.std.specs.List.{slice_split}
-use Rattle.std.specs.Prelude.{List, Option, [], codes, length, true, ℕ, ◌+◌, ◌++◌, ◌<◌, ◌==◌, ◌^◌}
-use Rattle.std.specs.Prelude.{◌∷◌, ◌≡◌, ◌≤◌, ◌⊎◌}
-use Rattle.argus_contents.specs.Content.{PlainContent}
-use Rattle.argus_contents.specs.Shape.{PlainShape}
-use Rattle.argus_contents.specs.declared.limits.TheConstants.{MAX_OBJECTS}
-use Rattle.argus_entries.specs.Entry.{PlainEntry}
-use Rattle.argus_entries.specs.EntrySpelling.{entry_spelling}
-use Rattle.argus_reading.specs.OpeningLanguages.{FoldedLines, IsForm, ObjectLines}
-use Rattle.argus_reading.specs.Line.{IsReadable}
-use Rattle.argus_texts.specs.Language.{Starts}
-use Rattle.argus_texts.specs.Languages.{Word}
-use Rattle.argus_picture.specs.Fitting.{may_fit}
-use Rattle.argus_picture.specs.declared.limits.TheConstants.{MAX_BYTES, MAX_ENTRIES}
+use Rattle.std.specs.Prelude.{List, Option, [], codes, length, true, ℕ, ◌+◌, ◌++◌, ◌<◌, ◌==◌, ◌^◌, ◌∷◌, ◌≡◌, ◌≤◌, ◌⊎◌}
+use Rattle.argus_contents.specs.{Content.PlainContent, Shape.PlainShape, declared.limits.TheConstants.MAX_OBJECTS}
+use Rattle.argus_entries.specs.{Entry.PlainEntry, EntrySpelling.entry_spelling}
+use Rattle.argus_reading.specs.{OpeningLanguages.{FoldedLines, IsForm, ObjectLines}, Line.IsReadable}
+use Rattle.argus_texts.specs.{Language.Starts, Languages.Word}
+use Rattle.argus_picture.specs.{Fitting.may_fit, declared.limits.TheConstants.{MAX_BYTES, MAX_ENTRIES}}
 
 -- a text split at its line feeds: one that ends in a line feed has an empty part at the end
 abbrev pub parts : List ℕ → List (List ℕ)

@@ -1,14 +1,11 @@
 -- What `draw_named` has read: a script and a listing, or what an error says about them.
 use Rattle.std.specs.Prelude.{List, Option, ℕ, ◌+◌, ◌≡◌, ◌≢◌}
-use Rattle.argus_picture.specs.DrawError.{draw_status}
+use Rattle.argus_picture.specs.{DrawError.draw_status, Drawn.{ReadsListing, RefusesListing}}
+use Rattle.argus_picture.specs.declared.named_draw_error.NamedDrawError.{NamedDrawError}
 use Rattle.argus_picture.specs.declared.draw_error.DrawError.TheVariants as draw_error
-use Rattle.argus_language.specs.Fault.{IsFaultOf, NoFault}
-use Rattle.argus_language.specs.Lines.{lines_of}
-use Rattle.argus_language.specs.Script.{PlainScript, Spells}
+use Rattle.argus_language.specs.{Fault.{IsFaultOf, NoFault}, Lines.lines_of, Script.{PlainScript, Spells}}
 use Rattle.argus_language.specs.declared.limits.TheConstants.{MAX_SCRIPT_BYTES}
 use Rattle.argus_language.specs.declared.script_fault.ScriptFault.{ScriptFault}
-use Rattle.argus_picture.specs.Drawn.{ReadsListing, RefusesListing}
-use Rattle.argus_picture.specs.declared.named_draw_error.NamedDrawError.{NamedDrawError}
 use Rattle.argus_picture.specs.declared.named_draw_error.NamedDrawError.TheVariants as error
 use Rattle.argus_streams.specs.Input.{ReadUpTo}
 

@@ -1,14 +1,12 @@
 -- Whether the objects that a script declares are those of a journal.
 use Rattle.std.specs.Prelude.{List, [], length, ℕ, ◌++◌, ◌∷◌, ◌≡◌, ◌≢◌}
 use Rattle.argus_contents.specs.Shape.{PlainShape}
-use Rattle.argus_picture.specs.Canvas.{canvas_text}
-use Rattle.argus_language.specs.Objects.{PlainObjects}
-use Rattle.argus_picture.specs.declared.names_error.NamesError.{NamesError}
-use Rattle.argus_picture.specs.declared.names_error.NamesError.TheVariants as error
-use Rattle.argus_picture.specs.declared.names_fault.NamesFault.{NamesFault}
+use Rattle.argus_picture.specs.{Canvas.canvas_text, declared.names_error.NamesError.NamesError}
+use Rattle.argus_picture.specs.{declared.names_fault.NamesFault.NamesFault, declared.sketch.Sketch.Sketch}
 use Rattle.argus_picture.specs.declared.names_fault_kind.NamesFaultKind.{NamesFaultKind}
+use Rattle.argus_language.specs.Objects.{PlainObjects}
+use Rattle.argus_picture.specs.declared.names_error.NamesError.TheVariants as error
 use Rattle.argus_picture.specs.declared.names_fault_kind.NamesFaultKind.TheVariants as kind
-use Rattle.argus_picture.specs.declared.sketch.Sketch.{Sketch}
 
 -- what a kind of fault says about an object that the script declares with this shape; `there` are
 -- the shapes of the journal's objects from its number on. Either the journal lacks it, or it has

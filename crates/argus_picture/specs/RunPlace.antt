@@ -1,7 +1,6 @@
 -- How far the listing of a run has come.
 use Rattle.std.specs.Prelude.{length}
-use Rattle.argus_picture.specs.Listing.{Place}
-use Rattle.argus_picture.specs.declared.run.Run.{Run}
+use Rattle.argus_picture.specs.{Listing.Place, declared.run.Run.Run}
 
 -- how far the run's listing has come
 abbrev pub place_of : Run → Place

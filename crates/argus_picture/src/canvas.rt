@@ -1,8 +1,7 @@
 //! `Canvas`: a picture's text in which the names of objects are filled in later.
 
 ghost use Rattle.std.specs.Prelude.{IfOk, List, OnErr, OnOk, [], map, string_bytes, ℕ, ◌++◌, ◌≡◌};
-ghost use Rattle.argus_picture.specs.Canvas.{canvas_text, label_of, number_label};
-ghost use Rattle.argus_picture.specs.Canvas.{stretch_text};
+ghost use Rattle.argus_picture.specs.Canvas.{canvas_text, label_of, number_label, stretch_text};
 
 use crate::escaping::append_escaped;
 use argus_memory::{Heap, OutOfMemory, Room};

@@ -3,15 +3,13 @@
 ghost use Rattle.std.specs.Prelude.{IfErr, IfOk, OnOk, false, true, ◌+◌, ◌↔◌, ◌≡◌, ◌≢◌};
 ghost use Rattle.argus_picture.specs.declared.draw_error.DrawError.TheVariants as DrawError;
 ghost use Rattle.argus_language.specs.Script.{plain_script};
-ghost use Rattle.argus_picture.specs.Drawn.{ReadsListing, RefusesListing};
 ghost use Rattle.argus_language.specs.declared.limits.TheConstants.{MAX_SCRIPT_BYTES};
+ghost use Rattle.argus_picture.specs.Drawn.{ReadsListing, RefusesListing};
 ghost use Rattle.argus_picture.specs.Named.{IsAboutScript, IsOfScript, ReadsScript};
-ghost use Rattle.argus_picture.specs.Named.{ReadsSomeScript};
-ghost use Rattle.argus_picture.specs.Named.{RefusesNamedListing, RefusesScript};
-ghost use Rattle.argus_picture.specs.declared.named_draw_error.NamedDrawError.TheVariants as error;
+ghost use Rattle.argus_picture.specs.Named.{ReadsSomeScript, RefusesNamedListing, RefusesScript};
 ghost use Rattle.argus_picture.specs.declared.limits.TheConstants.{MAX_BYTES};
-ghost use Rattle.argus_streams.specs.FailStop.{has_failed, inner_of};
-ghost use Rattle.argus_streams.specs.Input.{ReadAtMost};
+ghost use Rattle.argus_picture.specs.declared.named_draw_error.NamedDrawError.TheVariants as error;
+ghost use Rattle.argus_streams.specs.{FailStop.{has_failed, inner_of}, Input.ReadAtMost};
 
 use crate::draw_error::DrawError;
 use crate::limits::MAX_BYTES;

@@ -1,8 +1,7 @@
 //! `picture`: draws the picture of a listing.
 
 ghost use Rattle.std.specs.Prelude.{IfErr, OnOk};
-ghost use Rattle.argus_picture.specs.Faults.{SaysOfListing};
-ghost use Rattle.argus_picture.specs.Listing.{IsListing};
+ghost use Rattle.argus_picture.specs.{Faults.SaysOfListing, Listing.IsListing};
 
 use crate::action_drawing::draw_actions;
 use crate::canvas::Canvas;

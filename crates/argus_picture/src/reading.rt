@@ -1,12 +1,10 @@
 //! Reads a listing line by line, up to the first faulty line.
 
-ghost use Rattle.std.specs.List.{position};
+ghost use Rattle.std.specs.{List.position, Prelude.{◌≡◌}};
 ghost use Rattle.std.specs.Prelude.{IfErr, IfNone, IfOk, IfSome, OnOk, [], length, ◌<◌, ◌==◌, ◌∷◌};
-ghost use Rattle.std.specs.Prelude.{◌≡◌};
 ghost use Rattle.argus_picture.specs.Faults.{SaysOfLine, SaysOfListing, error_at};
+ghost use Rattle.argus_picture.specs.{Listing.{IsListing, Takes, parts}, RunPlace.place_of};
 ghost use Rattle.argus_picture.specs.declared.picture_error.PictureError.TheVariants as error;
-ghost use Rattle.argus_picture.specs.Listing.{IsListing, Takes, parts};
-ghost use Rattle.argus_picture.specs.RunPlace.{place_of};
 
 use crate::limits::MAX_BYTES;
 use crate::line_error::LineError;

@@ -1,8 +1,7 @@
 //! `Run`: what a listing says, in the form in which it is drawn.
 
 ghost use Rattle.std.specs.Prelude.{◌≡◌};
-ghost use Rattle.argus_picture.specs.Listing.{start};
-ghost use Rattle.argus_picture.specs.RunPlace.{place_of};
+ghost use Rattle.argus_picture.specs.{Listing.start, RunPlace.place_of};
 
 use crate::access::Access;
 use crate::action::Action;

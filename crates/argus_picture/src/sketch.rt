@@ -3,9 +3,7 @@
 
 ghost use Rattle.std.specs.Prelude.{IfErr, IfOk, OnOk, [], map, string_bytes, ◌≡◌};
 ghost use Rattle.argus_language.specs.Script.{plain_script};
-ghost use Rattle.argus_picture.specs.Canvas.{canvas_text};
-ghost use Rattle.argus_picture.specs.Faults.{SaysOfListing};
-ghost use Rattle.argus_picture.specs.Listing.{IsListing};
+ghost use Rattle.argus_picture.specs.{Canvas.canvas_text, Faults.SaysOfListing, Listing.IsListing};
 ghost use Rattle.argus_picture.specs.Naming.{IsNamed, RefusesNames};
 
 use crate::canvas::Canvas;

@@ -4,13 +4,10 @@ ghost use Rattle.std.specs.Prelude.{IfErr, IsTrue, OnOk, codes, length, true, �
 ghost use Rattle.std.specs.Prelude.{◌≡◌, ◌⊎◌};
 ghost use Rattle.argus_contents.specs.Content.{plain_option};
 ghost use Rattle.argus_contents.specs.declared.limits.TheConstants.{MAX_OBJECTS};
-ghost use Rattle.argus_entries.specs.Entry.{plain_entry};
-ghost use Rattle.argus_entries.specs.EntrySpelling.{entry_spelling};
+ghost use Rattle.argus_entries.specs.{Entry.plain_entry, EntrySpelling.entry_spelling};
 ghost use Rattle.argus_picture.specs.declared.listing_fault_kind.ListingFaultKind.TheVariants as kind;
-ghost use Rattle.argus_picture.specs.Faults.{SaysOfLine};
-ghost use Rattle.argus_picture.specs.Fitting.{may_fit};
+ghost use Rattle.argus_picture.specs.{Faults.SaysOfLine, Fitting.may_fit, RunPlace.place_of};
 ghost use Rattle.argus_picture.specs.Listing.{Enters, IsNextOfOpening, IsOfOpening, Takes, start};
-ghost use Rattle.argus_picture.specs.RunPlace.{place_of};
 ghost use Rattle.argus_picture.specs.declared.limits.TheConstants.{MAX_ENTRIES};
 ghost use Rattle.argus_picture.specs.declared.line_error.LineError.TheVariants as line_error;
 ghost use Rattle.argus_reading.specs.Line.{IsReadable};

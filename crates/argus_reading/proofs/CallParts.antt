@@ -4,18 +4,14 @@ use Rattle.std.specs.Prelude.{codes}
 use Rattle.argus_contents.specs.Shape.{PlainShape}
 use Rattle.argus_contents.specs.Shape as shape
 use Rattle.argus_contents.specs.Ty as ty
-use Rattle.argus_texts.specs.Language.{FormOf, Starts}
-use Rattle.argus_texts.specs.ShapeLanguages.{Shapes}
+use Rattle.argus_texts.specs.{Language.{FormOf, Starts}, ShapeLanguages.Shapes}
 use Rattle.argus_texts.specs.ShapeSpelling.{IsMakeable, shape_spelling}
-use Rattle.argus_texts.proofs.Lists.{cancel}
-use Rattle.argus_texts.proofs.Stops.{Behind}
-use Rattle.argus_entries.specs.Call.{PlainCall}
-use Rattle.argus_entries.specs.Call as call
-use Rattle.argus_entries.specs.EntrySpelling.{call_spelling}
+use Rattle.argus_texts.proofs.{Lists.cancel, Stops.Behind}
+use Rattle.argus_entries.specs.{Call.PlainCall, EntrySpelling.call_spelling}
 use Rattle.argus_entries.specs.OperationSpelling.{change_spelling, query_spelling}
+use Rattle.argus_entries.specs.Call as call
 use Rattle.argus_reading.specs.Calls.{CallEnds, CallParts, Calls, IsReadableCall}
-use Rattle.argus_reading.proofs.Calls.{access_form, declare_kind, place_form}
-use Rattle.argus_reading.proofs.Parts.{same}
+use Rattle.argus_reading.proofs.{Calls.{access_form, declare_kind, place_form}, Parts.same}
 
 -- a shape, as an example
 abbrev pub nulls : PlainShape

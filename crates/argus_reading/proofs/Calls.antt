@@ -1,26 +1,18 @@
 -- A text begins with one call at most.
-use Rattle.std.proofs.Common.{◌≡◌, ℕ, true, List, [], ◌∷◌, ◌++◌, arith, refl, sym, ap, inl}
-use Rattle.std.proofs.Common.{◌∙◌, append_assoc}
-use Rattle.std.specs.Fmt.{decimal}
-use Rattle.std.specs.Prelude.{codes, ◌==◌}
+use Rattle.std.proofs.Common.{◌≡◌, ℕ, true, List, [], ◌∷◌, ◌++◌, arith, refl, sym, ap, inl, ◌∙◌, append_assoc}
 use Rattle.std.proofs.lemmas.Bool.{false≢true}
+use Rattle.std.specs.{Fmt.decimal, Prelude.{codes, ◌==◌}}
 use Rattle.argus_contents.specs.Change as change
 use Rattle.argus_contents.specs.declared.query.Query.TheVariants as query
-use Rattle.argus_texts.proofs.Lists.{cancel}
-use Rattle.argus_texts.proofs.ShapeForms.{one_shape}
-use Rattle.argus_texts.proofs.Stops.{Clear, Precedes}
-use Rattle.argus_entries.specs.Call.{PlainCall}
-use Rattle.argus_entries.specs.Call as call
-use Rattle.argus_entries.specs.EntrySpelling.{call_spelling, place_spelling}
+use Rattle.argus_texts.proofs.{Lists.cancel, ShapeForms.one_shape, Stops.{Clear, Precedes}}
+use Rattle.argus_entries.specs.{Call.PlainCall, EntrySpelling.{call_spelling, place_spelling}}
 use Rattle.argus_entries.specs.OperationSpelling.{change_spelling, query_spelling}
+use Rattle.argus_entries.specs.Call as call
 use Rattle.argus_entries.proofs.FirstWords.{call_key, call_key_is, call_kind, one_call_kind}
-use Rattle.argus_reading.specs.Calls.{CallEnds, Calls, IsReadableCall, Places}
-use Rattle.argus_reading.specs.Operations.{Changes, Queries}
+use Rattle.argus_reading.specs.{Calls.{CallEnds, Calls, IsReadableCall, Places}, Operations.{Changes, Queries}}
 use Rattle.argus_reading.proofs.Operations.{change_first, change_nil, changes_clear, queries_clear, query_first}
-use Rattle.argus_reading.proofs.Operations.{query_nil}
-use Rattle.argus_reading.proofs.Operations.{change_precedes, query_precedes}
+use Rattle.argus_reading.proofs.{Operations.{query_nil, change_precedes, query_precedes}, Words.{Joint, joint_clear}}
 use Rattle.argus_reading.proofs.Joints.{ids_clear, place_joint}
-use Rattle.argus_reading.proofs.Words.{Joint, joint_clear}
 
 pub places_clear : (w : List ℕ) → Clear (Places w)
 places_clear w = joint_clear (place_joint w) (ids_clear (codes "o"))

@@ -3,10 +3,8 @@ use Rattle.std.proofs.Common.{ℕ, List, arith, inl}
 use Rattle.std.specs.Prelude.{codes, pos}
 use Rattle.argus_contents.specs.Value.{null}
 use Rattle.argus_texts.specs.Languages.{Ints, Values}
-use Rattle.argus_texts.proofs.Digits.{ints_clear, numbers_clear}
-use Rattle.argus_texts.proofs.Stops.{Clear}
-use Rattle.argus_reading.specs.Combined.{Worded}
-use Rattle.argus_reading.specs.Operations.{Bytes, Ids}
+use Rattle.argus_texts.proofs.{Digits.{ints_clear, numbers_clear}, Stops.Clear}
+use Rattle.argus_reading.specs.{Combined.Worded, Operations.{Bytes, Ids}}
 use Rattle.argus_reading.proofs.Words.{Joint, worded_clear}
 
 pub bytes_clear : (w : List ℕ) → Clear (Worded w Bytes)

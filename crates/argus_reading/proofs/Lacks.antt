@@ -1,12 +1,10 @@
 -- Stops of lines: at a missing shape, and as they are handed on.
 use Rattle.std.proofs.Common.{◌≡◌, ℕ, List, ◌++◌, length, refl, sym, ap, ◌∙◌, subst, append_assoc}
 use Rattle.std.specs.Prelude.{codes}
-use Rattle.argus_texts.specs.declared.stop.Stop.{Stop}
-use Rattle.argus_texts.specs.declared.stop.Stop.TheVariants as stop
-use Rattle.argus_texts.specs.Language.{Language, OnLeft, Starts}
+use Rattle.argus_texts.specs.{declared.stop.Stop.Stop, Language.{Language, OnLeft, Starts}}
 use Rattle.argus_texts.specs.ShapeLanguages.{BeginsNo, Shapes}
-use Rattle.argus_reading.specs.Farther.{OnStop, line_stop}
-use Rattle.argus_reading.specs.Line.{Declares, Lacks}
+use Rattle.argus_texts.specs.declared.stop.Stop.TheVariants as stop
+use Rattle.argus_reading.specs.{Farther.{OnStop, line_stop}, Line.{Declares, Lacks}}
 use Rattle.argus_reading.specs.declared.line_stop.LineStop.{LineStop}
 use Rattle.argus_reading.specs.declared.line_stop.LineStop.TheVariants as line
 

@@ -1,24 +1,16 @@
 -- The parts of an opening's lines: if one is missing, the text isn't such a line.
 use Rattle.std.proofs.Common.{◌≡◌, ℕ, ◌<◌, List, ◌∷◌, length, arith, inl}
 use Rattle.std.specs.Prelude.{None, Option, Some, codes}
-use Rattle.argus_contents.specs.Content.{PlainContent}
-use Rattle.argus_contents.specs.Shape.{PlainShape}
-use Rattle.argus_contents.specs.declared.limits.TheConstants.{MAX_ACTIONS}
+use Rattle.argus_contents.specs.{Content.PlainContent, Shape.PlainShape, declared.limits.TheConstants.MAX_ACTIONS}
 use Rattle.argus_journal.specs.declared.limits.TheConstants.{MAX_FIRST_ENTRY}
-use Rattle.argus_reading.proofs.Joints.{ids_clear}
-use Rattle.argus_reading.proofs.Words.{stops_starts, worded_clear}
-use Rattle.argus_reading.specs.Combined.{Worded}
-use Rattle.argus_reading.specs.Operations.{Ids}
-use Rattle.argus_texts.specs.Language.{FormOf, IsNot, Language, Reads, Stops}
-use Rattle.argus_texts.specs.Languages.{Contents, Numbers, Pairs}
-use Rattle.argus_texts.specs.ShapeLanguages.{BeginsNo, Shapes}
-use Rattle.argus_texts.proofs.Contents.{contents_clear}
-use Rattle.argus_texts.proofs.Digits.{numbers_clear}
-use Rattle.argus_texts.proofs.ShapeForms.{one_shape}
-use Rattle.argus_texts.proofs.Stops.{Clear, Precedes}
-use Rattle.argus_reading.specs.OpeningLanguages.{FoldedLines, IsForm, ObjectLines, OptionContents}
+use Rattle.argus_reading.proofs.{Joints.ids_clear, Words.{stops_starts, worded_clear}, WholeForms.second_no}
 use Rattle.argus_reading.proofs.WholeForms.{between_no, form_starts, left_no, pair_starts, pair_whole, read_whole}
-use Rattle.argus_reading.proofs.WholeForms.{second_no}
+use Rattle.argus_reading.specs.{Combined.Worded, Operations.Ids}
+use Rattle.argus_reading.specs.OpeningLanguages.{FoldedLines, IsForm, ObjectLines, OptionContents}
+use Rattle.argus_texts.specs.{Language.{FormOf, IsNot, Language, Reads, Stops}, Languages.{Contents, Numbers, Pairs}}
+use Rattle.argus_texts.specs.ShapeLanguages.{BeginsNo, Shapes}
+use Rattle.argus_texts.proofs.{Contents.contents_clear, Digits.numbers_clear, ShapeForms.one_shape}
+use Rattle.argus_texts.proofs.Stops.{Clear, Precedes}
 
 -- THE FIRST LINE
 

@@ -1,23 +1,14 @@
 -- A text begins with one query and change at most.
-use Rattle.std.proofs.Common.{◌≡◌, ℕ, true, List, [], ◌∷◌, ◌++◌, arith, refl, sym, ap}
-use Rattle.std.proofs.Common.{◌∙◌, append_assoc, inl}
-use Rattle.std.specs.Fmt.{decimal, signed_decimal}
-use Rattle.std.specs.Prelude.{codes, ◌==◌}
+use Rattle.std.proofs.Common.{◌≡◌, ℕ, true, List, [], ◌∷◌, ◌++◌, arith, refl, sym, ap, ◌∙◌, append_assoc, inl}
 use Rattle.std.proofs.lemmas.Bool.{false≢true}
-use Rattle.argus_contents.specs.Change.{PlainChange}
+use Rattle.std.specs.{Fmt.{decimal, signed_decimal}, Prelude.{codes, ◌==◌}}
+use Rattle.argus_contents.specs.{Change.PlainChange, declared.query.Query.Query, Value.PlainValue}
 use Rattle.argus_contents.specs.Change as change
-use Rattle.argus_contents.specs.declared.query.Query.{Query}
 use Rattle.argus_contents.specs.declared.query.Query.TheVariants as query
-use Rattle.argus_contents.specs.Value.{PlainValue}
-use Rattle.argus_texts.specs.Languages.{Contents, ValueEnds, Values}
-use Rattle.argus_texts.specs.Spelling.{spelling}
-use Rattle.argus_texts.proofs.Contents.{contents_clear}
-use Rattle.argus_texts.proofs.Digits.{ints_clear}
-use Rattle.argus_texts.proofs.Forms.{ends_first, value_ends, values_clear}
-use Rattle.argus_texts.proofs.Lists.{cancel}
-use Rattle.argus_texts.proofs.Stops.{Clear, Precedes}
-use Rattle.argus_entries.specs.Laws.{ChangeWithin, QueryWithin}
-use Rattle.argus_entries.specs.OperationSpelling.{change_spelling, query_spelling}
+use Rattle.argus_texts.specs.{Languages.{Contents, ValueEnds, Values}, Spelling.spelling}
+use Rattle.argus_texts.proofs.{Contents.contents_clear, Digits.ints_clear, Forms.{ends_first, value_ends, values_clear}}
+use Rattle.argus_texts.proofs.{Lists.cancel, Stops.{Clear, Precedes}}
+use Rattle.argus_entries.specs.{Laws.{ChangeWithin, QueryWithin}, OperationSpelling.{change_spelling, query_spelling}}
 use Rattle.argus_entries.proofs.FirstWords.{change_kind, one_change_kind, one_query_kind, query_kind}
 use Rattle.argus_reading.specs.Operations.{ChangeEnds, Changes, Queries, QueryEnds}
 use Rattle.argus_reading.proofs.Joints.{byte_joint, bytes_clear, int_joint, ints_joint, worded_ints_clear}

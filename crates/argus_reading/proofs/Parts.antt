@@ -1,28 +1,21 @@
 -- What queries, changes, answers, replies and calls are read from: their parts cover them.
 use Rattle.std.proofs.Common.{◌≡◌, ℕ, inl, inr, true, false, List, [], ◌∷◌, ◌++◌, arith, refl, sym, ap, ◌∙◌}
 use Rattle.std.proofs.Common.{append_assoc}
-use Rattle.std.specs.Fmt.{decimal, signed_decimal}
-use Rattle.std.specs.Prelude.{codes}
-use Rattle.argus_contents.specs.Answer.{PlainAnswer}
-use Rattle.argus_contents.specs.Answer as answer
-use Rattle.argus_contents.specs.Change.{PlainChange}
-use Rattle.argus_contents.specs.Change as change
-use Rattle.argus_contents.specs.declared.query.Query.{Query}
-use Rattle.argus_contents.specs.declared.query.Query.TheVariants as query
-use Rattle.argus_contents.specs.declared.signal.Signal.{Signal}
+use Rattle.std.specs.{Fmt.{decimal, signed_decimal}, Prelude.codes}
+use Rattle.argus_contents.specs.{Answer.PlainAnswer, Change.PlainChange, declared.query.Query.Query}
+use Rattle.argus_contents.specs.{declared.signal.Signal.Signal, declared.signal.Signal.TheVariants.WrongTag}
 use Rattle.argus_contents.specs.declared.signal.Signal.TheVariants.{Absent, Bounds, Exists, Limits, NegativeSize}
-use Rattle.argus_contents.specs.declared.signal.Signal.TheVariants.{WrongTag}
-use Rattle.argus_texts.specs.Language.{FormOf, Language, Starts}
-use Rattle.argus_texts.specs.Spelling.{spelling}
+use Rattle.argus_contents.specs.Answer as answer
+use Rattle.argus_contents.specs.Change as change
+use Rattle.argus_contents.specs.declared.query.Query.TheVariants as query
+use Rattle.argus_texts.specs.{Language.{FormOf, Language, Starts}, Spelling.spelling}
 use Rattle.argus_texts.proofs.Stops.{Behind}
-use Rattle.argus_entries.specs.Reply.{PlainReply}
-use Rattle.argus_entries.specs.Reply as reply
-use Rattle.argus_entries.specs.declared.refusal.Refusal.{Refusal}
+use Rattle.argus_entries.specs.{Reply.PlainReply, declared.refusal.Refusal.Refusal}
 use Rattle.argus_entries.specs.declared.refusal.Refusal.TheVariants.{Conflict, IllTyped, NoAction, NoObject, NoSiblings}
 use Rattle.argus_entries.specs.declared.refusal.Refusal.TheVariants.{Over, Suspended, TooDeep, TooMany}
-use Rattle.argus_reading.specs.Operations.{ChangeParts, Changes, Queries, QueryParts}
-use Rattle.argus_reading.specs.Replies.{AnswerParts, Answers, RefusalParts, Refusals, Replies, ReplyParts}
-use Rattle.argus_reading.specs.Replies.{Signals, SignalWords}
+use Rattle.argus_entries.specs.Reply as reply
+use Rattle.argus_reading.specs.{Operations.{ChangeParts, Changes, Queries, QueryParts}, Replies.SignalWords}
+use Rattle.argus_reading.specs.Replies.{AnswerParts, Answers, RefusalParts, Refusals, Replies, ReplyParts, Signals}
 
 -- each form of L is one of M, and what a form of M begins, one of L begins
 pub record Covers (L M : Language) : Type 0 where

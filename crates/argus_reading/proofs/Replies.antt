@@ -1,26 +1,19 @@
 -- A text begins with one signal, refusal, answer and reply at most.
-use Rattle.std.proofs.Common.{◌≡◌, Bool, ℕ, true, List, [], ◌∷◌, ◌++◌, arith, refl, sym, ap}
-use Rattle.std.proofs.Common.{◌∙◌}
-use Rattle.std.specs.Prelude.{codes, ◌==◌}
+use Rattle.std.proofs.Common.{◌≡◌, Bool, ℕ, true, List, [], ◌∷◌, ◌++◌, arith, refl, sym, ap, ◌∙◌}
 use Rattle.std.proofs.lemmas.Bool.{false≢true}
-use Rattle.argus_contents.specs.Answer.{PlainAnswer}
+use Rattle.std.specs.Prelude.{codes, ◌==◌}
+use Rattle.argus_contents.specs.{Answer.PlainAnswer, declared.signal.Signal.Signal}
 use Rattle.argus_contents.specs.Answer as answer
-use Rattle.argus_contents.specs.declared.signal.Signal.{Signal}
 use Rattle.argus_texts.specs.Languages.{Contents, Values}
-use Rattle.argus_texts.proofs.Contents.{contents_clear}
-use Rattle.argus_texts.proofs.Forms.{ends_first, value_ends, values_clear}
-use Rattle.argus_texts.proofs.Lists.{cancel}
+use Rattle.argus_texts.proofs.{Contents.contents_clear, Forms.{ends_first, value_ends, values_clear}, Lists.cancel}
 use Rattle.argus_texts.proofs.Stops.{Clear}
 use Rattle.argus_entries.specs.EntrySpelling.{answer_spelling, refusal_name, reply_spelling, signal_spelling}
-use Rattle.argus_entries.specs.Laws.{AnswerWithin, ReplyWithin}
-use Rattle.argus_entries.specs.Reply.{PlainReply}
+use Rattle.argus_entries.specs.{Laws.{AnswerWithin, ReplyWithin}, Reply.PlainReply, declared.refusal.Refusal.Refusal}
 use Rattle.argus_entries.specs.Reply as reply
-use Rattle.argus_entries.specs.declared.refusal.Refusal.{Refusal}
 use Rattle.argus_entries.proofs.FirstWords.{answer_kind, flag_at, flag_back, one_answer_kind, one_reply_kind}
 use Rattle.argus_entries.proofs.FirstWords.{refusal_at, refusal_back, reply_kind, signal_at, signal_back}
 use Rattle.argus_reading.specs.Replies.{AnswerEnds, Answers, Refusals, Replies, ReplyEnds}
-use Rattle.argus_reading.proofs.Joints.{ids_clear, worded_ints_clear}
-use Rattle.argus_reading.proofs.Words.{worded_clear}
+use Rattle.argus_reading.proofs.{Joints.{ids_clear, worded_ints_clear}, Words.worded_clear}
 
 -- what is told by its front alone, and the rest with it
 by_front : (A : Type 0) (form : A → List ℕ) (at : List ℕ → A) → ((a : A) (x : List ℕ) → at (form a ++ x) ≡ a)

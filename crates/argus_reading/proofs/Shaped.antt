@@ -1,19 +1,12 @@
 -- Texts that lack no shape: no declaration's word is in its place, or a shape begins behind it.
 use Rattle.std.proofs.Common.{◌≡◌, ℕ, ◌≤◌, ◌-◌, inl, List, ◌∷◌, [], ◌++◌, arith, length, refl, sym, ap, ◌∙◌, subst}
-use Rattle.std.proofs.Common.{append_assoc}
-use Rattle.std.proofs.lemmas.List.{take-append-drop}
-use Rattle.std.specs.Fmt.{decimal}
-use Rattle.std.specs.Prelude.{codes, drop, take}
-use Rattle.argus_texts.specs.Fault.{IsFault}
-use Rattle.argus_texts.specs.Language.{IsNot, Reads, Starts, Stops}
-use Rattle.argus_texts.specs.ShapeLanguages.{BeginsNo, Shapes}
+use Rattle.std.proofs.{Common.append_assoc, lemmas.List.take-append-drop}
+use Rattle.std.specs.{Fmt.decimal, Prelude.{codes, drop, take}}
+use Rattle.argus_texts.specs.{Fault.IsFault, Language.{IsNot, Reads, Starts, Stops}, ShapeLanguages.{BeginsNo, Shapes}}
 use Rattle.argus_texts.proofs.Lists.{tail_of}
-use Rattle.argus_reading.specs.Calls.{CallParts, Calls}
+use Rattle.argus_reading.specs.{Calls.{CallParts, Calls}, Line.Shaped}
 use Rattle.argus_reading.specs.Line.{Declares, DeclaresAt, Entries, IsEntryLine, IsNoLine, LacksShape, Lines, Ordinals}
-use Rattle.argus_reading.specs.Line.{Shaped}
-use Rattle.argus_reading.proofs.CallParts.{shape_part}
-use Rattle.argus_reading.proofs.Parts.{same}
-use Rattle.argus_reading.proofs.Words.{stops_starts}
+use Rattle.argus_reading.proofs.{CallParts.shape_part, Parts.same, Words.stops_starts}
 use Rattle.argus_reading.proofs.Whole.{call_part, entry_part, line_joint}
 
 -- a text that begins with a form

@@ -1,17 +1,11 @@
 -- The text of an object's line determines what it says.
 use Rattle.std.proofs.Common.{List, ap, append-nil, arith, get_or, inl, refl, sym, ◌++◌, ◌∙◌, ◌∷◌, ◌≡◌, ℕ, []}
 use Rattle.std.specs.Prelude.{None, Option, Some, codes}
-use Rattle.argus_contents.specs.Content.{PlainContent, arr, rec, var}
-use Rattle.argus_contents.specs.Shape.{PlainShape}
-use Rattle.argus_contents.specs.Value.{listed}
+use Rattle.argus_contents.specs.{Content.{PlainContent, arr, rec, var}, Shape.PlainShape, Value.listed}
 use Rattle.argus_reading.proofs.Joints.{ids_clear}
-use Rattle.argus_texts.specs.ContentSpelling.{PartsWithin, content_spelling}
-use Rattle.argus_texts.specs.ShapeSpelling.{shape_spelling}
+use Rattle.argus_texts.specs.{ContentSpelling.{PartsWithin, content_spelling}, ShapeSpelling.shape_spelling}
 use Rattle.argus_texts.specs.Spelling.{inside}
-use Rattle.argus_texts.proofs.Contents.{one_content}
-use Rattle.argus_texts.proofs.Forms.{int_lead}
-use Rattle.argus_texts.proofs.Lists.{tail_of}
-use Rattle.argus_texts.proofs.ShapeForms.{one_shape}
+use Rattle.argus_texts.proofs.{Contents.one_content, Forms.int_lead, Lists.tail_of, ShapeForms.one_shape}
 use Rattle.argus_reading.specs.OpeningLanguages.{IsForm, IsReadableContent, ObjectLines, content_text}
 
 absent_not : (c : PlainContent) → PartsWithin 16 c → codes "absent" ≡ content_spelling c → ⊥

@@ -1,12 +1,10 @@
 -- Where reading stops that may go on in either of two ways: where the later of them stops.
-use Rattle.std.proofs.Common.{◌≡◌, ℕ, zero, suc, ◌≤◌, ◌⊎◌, inl, inr, List, [], ◌∷◌, ◌++◌, length, sym, ap, ◌∙◌}
-use Rattle.std.proofs.Common.{subst, arith, min, length-append}
-use Rattle.argus_texts.specs.declared.stop.Stop.{Stop}
+use Rattle.std.proofs.Common.{◌≡◌, ℕ, zero, suc, ◌≤◌, ◌⊎◌, inl, inr, List, [], ◌∷◌, ◌++◌, length, sym, ap, ◌∙◌, subst}
+use Rattle.std.proofs.Common.{arith, min, length-append}
+use Rattle.argus_texts.specs.{declared.stop.Stop.Stop, Language.{Language, FormOf, NoWay, OnLeft, Reads, Starts, Stops}}
 use Rattle.argus_texts.specs.declared.stop.Stop.TheVariants as stop
-use Rattle.argus_texts.specs.Language.{Language, FormOf, NoWay, OnLeft, Reads, Starts, Stops}
 use Rattle.argus_texts.proofs.Lists.{tail_of, head_of}
-use Rattle.argus_reading.specs.Combined.{Either}
-use Rattle.argus_reading.specs.Farther.{farther}
+use Rattle.argus_reading.specs.{Combined.Either, Farther.farther}
 
 -- front begins no text of P that goes on as back does
 abbrev Cannot : (List ℕ → Type 0) → List ℕ → List ℕ → Type 0

@@ -1,26 +1,17 @@
 -- From a stop of a line to what an error says of the whole text.
-use Rattle.std.proofs.Common.{ap, ◌≡◌, ℕ, ◌<◌, ◌≤◌, ◌-◌, inl, List, [], ◌∷◌, ◌++◌, length, arith}
-use Rattle.std.proofs.Common.{sym, ◌∙◌, subst, append_assoc, append-nil, length-append}
-use Rattle.std.specs.Fmt.{decimal}
-use Rattle.std.specs.Prelude.{codes}
-use Rattle.std.proofs.Math.Seq.{drop-append_seam, take-append_seam}
+use Rattle.std.proofs.Common.{ap, ◌≡◌, ℕ, ◌<◌, ◌≤◌, ◌-◌, inl, List, [], ◌∷◌, ◌++◌, length, arith, sym, ◌∙◌, subst}
+use Rattle.std.proofs.{Common.{append_assoc, append-nil, length-append}, Math.Seq.{drop-append_seam, take-append_seam}}
+use Rattle.std.specs.{Fmt.decimal, Prelude.codes}
 use Rattle.argus_contents.specs.Answer as answer
-use Rattle.argus_texts.specs.Fault.{IsFault}
-use Rattle.argus_texts.specs.Language.{Reads, Starts, Stops}
-use Rattle.argus_texts.specs.ShapeLanguages.{BeginsNo, Shapes}
-use Rattle.argus_texts.proofs.Digits.{numbers_clear}
-use Rattle.argus_texts.proofs.Faults.{Accepts, left_behind, stopped}
+use Rattle.argus_texts.specs.{Fault.IsFault, Language.{Reads, Starts, Stops}, ShapeLanguages.{BeginsNo, Shapes}}
+use Rattle.argus_texts.proofs.{Digits.numbers_clear, Faults.{Accepts, left_behind, stopped}}
 use Rattle.argus_texts.proofs.Stops.{Behind, Clear, pair_first, pair_second}
 use Rattle.argus_entries.specs.Call as call
-use Rattle.argus_entries.specs.Entry.{PlainEntry}
-use Rattle.argus_entries.specs.EntrySpelling.{call_spelling, entry_spelling, reply_spelling}
+use Rattle.argus_entries.specs.{Entry.PlainEntry, EntrySpelling.{call_spelling, entry_spelling, reply_spelling}}
 use Rattle.argus_entries.specs.Reply as reply
-use Rattle.argus_reading.specs.Calls.{Calls}
-use Rattle.argus_reading.specs.Combined.{Worded}
+use Rattle.argus_reading.specs.{Calls.Calls, Combined.Worded, Replies.Replies}
 use Rattle.argus_reading.specs.Line.{Declares, DeclaresAt, Entries, IsEntryLine, Lacks, LacksShape, Lines, Ordinals}
-use Rattle.argus_reading.specs.Replies.{Replies}
-use Rattle.argus_reading.proofs.Calls.{call_precedes, calls_clear}
-use Rattle.argus_reading.proofs.Replies.{replies_clear}
+use Rattle.argus_reading.proofs.{Calls.{call_precedes, calls_clear}, Replies.replies_clear}
 use Rattle.argus_reading.proofs.Words.{Joint, joint_clear, worded_clear}
 
 -- a call and a reply

@@ -1,9 +1,7 @@
 -- Texts that are whole forms of a language: without one of its parts a text isn't a pair.
 use Rattle.std.proofs.Common.{◌≡◌, ℕ, ◌<◌, List, [], ◌∷◌, ◌++◌, length, refl, sym, ap, ◌∙◌, subst, append-nil, arith}
-use Rattle.argus_texts.specs.Language.{FormOf, IsNot, Language, Reads, Starts}
-use Rattle.argus_texts.specs.Languages.{Pairs}
-use Rattle.argus_texts.proofs.Lists.{tail_of}
-use Rattle.argus_texts.proofs.Stops.{Clear, Precedes}
+use Rattle.argus_texts.specs.{Language.{FormOf, IsNot, Language, Reads, Starts}, Languages.Pairs}
+use Rattle.argus_texts.proofs.{Lists.tail_of, Stops.{Clear, Precedes}}
 use Rattle.argus_reading.specs.OpeningLanguages.{IsForm}
 
 -- a text that is a form begins with a form

@@ -1,10 +1,8 @@
 -- Languages with a word before, and two languages with a byte between: where they stop.
 use Rattle.std.proofs.Common.{◌≡◌, ℕ, List, [], ◌∷◌, ◌++◌, length, sym, ap, ◌∙◌, subst, append-nil, append_assoc}
-use Rattle.argus_texts.specs.Language.{Language, IsNot, NoWay, Reads, Starts, Stops}
-use Rattle.argus_texts.specs.Languages.{Pairs, Word}
-use Rattle.argus_texts.proofs.Lists.{cancel, tail_of}
+use Rattle.argus_texts.specs.{Language.{Language, IsNot, NoWay, Reads, Starts, Stops}, Languages.{Pairs, Word}}
+use Rattle.argus_texts.proofs.{Lists.{cancel, tail_of}, Stops.{pair_second, pair_whole}}
 use Rattle.argus_texts.proofs.Stops.{Behind, Clear, Precedes, stops_behind, stops_in, pair_between, pair_first}
-use Rattle.argus_texts.proofs.Stops.{pair_second, pair_whole}
 use Rattle.argus_reading.specs.Combined.{Worded}
 
 no_way_starts : (L : Language) (front back : List ℕ) → NoWay L front back → Starts L (front ++ back) → ⊥

@@ -1,13 +1,9 @@
 -- The languages of calls, and of the readers of some of them.
 use Rattle.std.specs.Prelude.{ℕ, List, codes}
 use Rattle.argus_contents.specs.declared.limits.TheConstants.{MAX_VALUE_DEPTH}
-use Rattle.argus_texts.specs.Language.{Language}
-use Rattle.argus_texts.specs.Languages.{NotDigit, Pairs, Word}
-use Rattle.argus_texts.specs.ShapeSpelling.{IsMakeable}
-use Rattle.argus_entries.specs.Call.{PlainCall}
+use Rattle.argus_texts.specs.{Language.Language, Languages.{NotDigit, Pairs, Word}, ShapeSpelling.IsMakeable}
+use Rattle.argus_entries.specs.{Call.PlainCall, EntrySpelling.call_spelling, Laws.CallWithin}
 use Rattle.argus_entries.specs.Call as call
-use Rattle.argus_entries.specs.EntrySpelling.{call_spelling}
-use Rattle.argus_entries.specs.Laws.{CallWithin}
 use Rattle.argus_reading.specs.Combined.{Either, Worded}
 use Rattle.argus_reading.specs.Operations.{blank, ChangeEnds, Changes, Ids, Queries, QueryEnds}
 

@@ -1,9 +1,7 @@
 -- The laws of lines that are read back, and of texts that aren't lines.
 use Rattle.std.specs.Prelude.{List, ◌≡◌, ◌≢◌, ℕ, ◌<◌, ◌^◌}
-use Rattle.argus_entries.specs.Entry.{PlainEntry}
-use Rattle.argus_entries.specs.EntrySpelling.{entry_spelling}
-use Rattle.argus_reading.specs.Line.{IsReadable, Tells}
-use Rattle.argus_reading.specs.declared.read_entry_error.ReadEntryError.{ReadEntryError}
+use Rattle.argus_entries.specs.{Entry.PlainEntry, EntrySpelling.entry_spelling}
+use Rattle.argus_reading.specs.{Line.{IsReadable, Tells}, declared.read_entry_error.ReadEntryError.ReadEntryError}
 use Rattle.argus_reading.specs.declared.read_entry_error.ReadEntryError.TheVariants.{OutOfMemory}
 
 -- for the line of a readable entry the only error is out of memory, and the line is that of no

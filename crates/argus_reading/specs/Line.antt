@@ -1,18 +1,10 @@
 -- The lines that are read, and where a text stops being the beginning of one.
-use Rattle.std.specs.Fmt.{decimal}
-use Rattle.std.specs.Prelude.{◌≡◌, ℕ, ◌<◌, ◌≤◌, ◌^◌, ◌++◌, List, codes, drop, length, take}
+use Rattle.std.specs.{Fmt.decimal, Prelude.{◌≡◌, ℕ, ◌<◌, ◌≤◌, ◌^◌, ◌++◌, List, codes, drop, length, take}}
 use Rattle.argus_contents.specs.declared.limits.TheConstants.{MAX_VALUE_DEPTH}
-use Rattle.argus_texts.specs.Fault.{IsFault}
-use Rattle.argus_texts.specs.Language.{Language, Starts}
-use Rattle.argus_texts.specs.Languages.{Numbers, Pairs}
+use Rattle.argus_texts.specs.{Fault.IsFault, Language.{Language, Starts}, Languages.{Numbers, Pairs}}
 use Rattle.argus_texts.specs.ShapeLanguages.{BeginsNo, Shapes}
-use Rattle.argus_entries.specs.Entry.{PlainEntry}
-use Rattle.argus_entries.specs.EntrySpelling.{entry_spelling}
-use Rattle.argus_entries.specs.Laws.{ReplyWithin}
-use Rattle.argus_reading.specs.Calls.{Calls, IsReadableCall}
-use Rattle.argus_reading.specs.Combined.{Worded}
-use Rattle.argus_reading.specs.Operations.{blank}
-use Rattle.argus_reading.specs.Replies.{Replies}
+use Rattle.argus_entries.specs.{Entry.PlainEntry, EntrySpelling.entry_spelling, Laws.ReplyWithin}
+use Rattle.argus_reading.specs.{Calls.{Calls, IsReadableCall}, Combined.Worded, Operations.blank, Replies.Replies}
 use Rattle.argus_reading.specs.declared.read_entry_error.ReadEntryError.{ReadEntryError}
 use Rattle.argus_reading.specs.declared.read_entry_error.ReadEntryError.TheVariants as error
 

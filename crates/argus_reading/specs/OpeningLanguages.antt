@@ -1,14 +1,10 @@
 -- The languages of an opening's lines, after their first word.
 use Rattle.std.specs.Prelude.{List, None, Option, Some, codes, ℕ, ◌≡◌}
-use Rattle.argus_contents.specs.Content.{PlainContent}
-use Rattle.argus_contents.specs.declared.limits.TheConstants.{MAX_ACTIONS, MAX_VALUE_DEPTH}
+use Rattle.argus_contents.specs.{Content.PlainContent, declared.limits.TheConstants.{MAX_ACTIONS, MAX_VALUE_DEPTH}}
 use Rattle.argus_journal.specs.declared.limits.TheConstants.{MAX_FIRST_ENTRY}
-use Rattle.argus_reading.specs.Combined.{Worded}
-use Rattle.argus_reading.specs.Operations.{Ids, blank}
-use Rattle.argus_texts.specs.ContentSpelling.{PartsWithin, content_spelling}
-use Rattle.argus_texts.specs.Language.{Language}
+use Rattle.argus_reading.specs.{Combined.Worded, Operations.{Ids, blank}}
+use Rattle.argus_texts.specs.{ContentSpelling.{PartsWithin, content_spelling}, Language.Language, ShapeLanguages.Shapes}
 use Rattle.argus_texts.specs.Languages.{Numbers, Pairs}
-use Rattle.argus_texts.specs.ShapeLanguages.{Shapes}
 
 -- how many entries and actions the opening stands for: `entries 11 actions 3`
 abbrev pub FoldedLines : Language

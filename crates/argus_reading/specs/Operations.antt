@@ -1,15 +1,12 @@
 -- The languages of queries and changes, and of the readers of some of them.
 use Rattle.std.specs.Prelude.{ℕ, List, codes}
-use Rattle.argus_contents.specs.Change.{PlainChange}
-use Rattle.argus_contents.specs.Change as change
-use Rattle.argus_contents.specs.declared.limits.TheConstants.{MAX_VALUE_DEPTH}
+use Rattle.argus_contents.specs.{Change.PlainChange, declared.limits.TheConstants.MAX_VALUE_DEPTH}
 use Rattle.argus_contents.specs.declared.query.Query.{Query}
+use Rattle.argus_contents.specs.Change as change
 use Rattle.argus_contents.specs.declared.query.Query.TheVariants as query
 use Rattle.argus_texts.specs.Language.{Language}
-use Rattle.argus_texts.specs.Languages.{Contents, Ints, NotDigit, Numbers, Pairs, ValueEnds, Values}
-use Rattle.argus_texts.specs.Languages.{Word}
-use Rattle.argus_entries.specs.Laws.{ChangeWithin, QueryWithin}
-use Rattle.argus_entries.specs.OperationSpelling.{change_spelling, query_spelling}
+use Rattle.argus_texts.specs.Languages.{Contents, Ints, NotDigit, Numbers, Pairs, ValueEnds, Values, Word}
+use Rattle.argus_entries.specs.{Laws.{ChangeWithin, QueryWithin}, OperationSpelling.{change_spelling, query_spelling}}
 use Rattle.argus_reading.specs.Combined.{Either, Worded}
 
 -- a blank

@@ -1,19 +1,13 @@
 -- The languages of replies, and of the readers of some of them.
 use Rattle.std.specs.Prelude.{ℕ, List, codes}
-use Rattle.argus_contents.specs.Answer.{PlainAnswer}
-use Rattle.argus_contents.specs.Answer as answer
-use Rattle.argus_contents.specs.declared.limits.TheConstants.{MAX_VALUE_DEPTH}
+use Rattle.argus_contents.specs.{Answer.PlainAnswer, declared.limits.TheConstants.MAX_VALUE_DEPTH}
 use Rattle.argus_contents.specs.declared.signal.Signal.{Signal}
-use Rattle.argus_texts.specs.Language.{Language}
-use Rattle.argus_texts.specs.Languages.{Contents, Ints, NotDigit, ValueEnds, Values, Word}
-use Rattle.argus_entries.specs.EntrySpelling.{answer_spelling, refusal_name, reply_spelling}
-use Rattle.argus_entries.specs.EntrySpelling.{signal_spelling}
-use Rattle.argus_entries.specs.Laws.{AnswerWithin, ReplyWithin}
-use Rattle.argus_entries.specs.Reply.{PlainReply}
+use Rattle.argus_contents.specs.Answer as answer
+use Rattle.argus_texts.specs.{Language.Language, Languages.{Contents, Ints, NotDigit, ValueEnds, Values, Word}}
+use Rattle.argus_entries.specs.EntrySpelling.{answer_spelling, refusal_name, reply_spelling, signal_spelling}
+use Rattle.argus_entries.specs.{Laws.{AnswerWithin, ReplyWithin}, Reply.PlainReply, declared.refusal.Refusal.Refusal}
 use Rattle.argus_entries.specs.Reply as reply
-use Rattle.argus_entries.specs.declared.refusal.Refusal.{Refusal}
-use Rattle.argus_reading.specs.Combined.{Either, Worded}
-use Rattle.argus_reading.specs.Operations.{Ids}
+use Rattle.argus_reading.specs.{Combined.{Either, Worded}, Operations.Ids}
 
 -- signals
 abbrev pub Signals : Language

@@ -3,8 +3,7 @@
 ghost use Rattle.std.specs.Prelude.{◌≡◌, IfErr, IfOk, length};
 ghost use Rattle.argus_entries.specs.Call.{plain_call};
 ghost use Rattle.argus_reading.specs.Calls.{ActionCalls, Alters, Asks, Calls, ObjectCalls};
-ghost use Rattle.argus_reading.specs.Farther.{OnStop};
-ghost use Rattle.argus_reading.specs.Line.{Declares, Lacks, Shaped};
+ghost use Rattle.argus_reading.specs.{Farther.OnStop, Line.{Declares, Lacks, Shaped}};
 ghost use Rattle.argus_contents.specs.Change.{plain_change};
 ghost use Rattle.argus_texts.specs.Language.{OnLeft, Reads, Stops};
 ghost use Rattle.argus_texts.specs.ShapeLanguages.{BeginsNo, Shapes};

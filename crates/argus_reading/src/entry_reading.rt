@@ -1,14 +1,11 @@
 //! `read_entry`: the entry of a line.
 
 ghost use Rattle.std.specs.Prelude.{◌≡◌, ◌≤◌, ◌-◌, IfErr, IfOk, codes, length};
-ghost use Rattle.argus_entries.specs.Entry.{plain_entry};
-ghost use Rattle.argus_entries.specs.EntrySpelling.{entry_spelling};
+ghost use Rattle.argus_entries.specs.{Entry.plain_entry, EntrySpelling.entry_spelling};
 ghost use Rattle.argus_entries.specs.Reply.{plain_reply};
-ghost use Rattle.argus_reading.specs.Combined.{Worded};
-ghost use Rattle.argus_reading.specs.Farther.{OnStop};
-ghost use Rattle.argus_reading.specs.Line.{Declares, DeclaresAt, Entries, IsNoLine};
-ghost use Rattle.argus_reading.specs.Line.{IsReadable, Lacks, LacksShape, Lines, Shaped, Tells};
-ghost use Rattle.argus_reading.specs.Replies.{Replies};
+ghost use Rattle.argus_reading.specs.{Combined.Worded, Farther.OnStop, Replies.Replies};
+ghost use Rattle.argus_reading.specs.Line.{Declares, DeclaresAt, Entries, IsNoLine, IsReadable};
+ghost use Rattle.argus_reading.specs.Line.{Lacks, LacksShape, Lines, Shaped, Tells};
 ghost use Rattle.argus_texts.specs.Language.{OnLeft, Reads, Stops};
 
 use crate::call_reading::call;

@@ -3,11 +3,9 @@
 ghost use Rattle.std.specs.List.{list_all};
 ghost use Rattle.std.specs.Prelude.{IfErr, IfOk, nat_lt, true, ◌<◌, ◌^◌, ◌≡◌, ◌≢◌, ◌≤◌};
 ghost use Rattle.argus_contents.specs.Content.{plain_option};
-ghost use Rattle.argus_reading.specs.Combined.{Worded};
+ghost use Rattle.argus_reading.specs.{Combined.Worded, OpeningLanguages.OptionContents};
 ghost use Rattle.argus_reading.specs.OpeningLanguages.{FoldedLines, IsForm, ObjectLines};
-ghost use Rattle.argus_reading.specs.OpeningLanguages.{OptionContents};
-ghost use Rattle.argus_texts.specs.Language.{FormOf, OnLeft, Reads, Stops};
-ghost use Rattle.argus_texts.specs.Languages.{Numbers};
+ghost use Rattle.argus_texts.specs.{Language.{FormOf, OnLeft, Reads, Stops}, Languages.Numbers};
 ghost use Rattle.argus_texts.specs.ShapeLanguages.{BeginsNo, Shapes};
 ghost use Rattle.argus_texts.specs.declared.stop.Stop.TheVariants as stop;
 

@@ -1,12 +1,9 @@
 //! Parts of a line that come after a word: numbers, values, an action and an object.
 
-ghost use Rattle.std.specs.Prelude.{◌≡◌, ◌≤◌, true, nat_lt, IfErr, IfOk};
-ghost use Rattle.std.specs.List.{list_all};
-ghost use Rattle.argus_contents.specs.Content.{plain_content};
-ghost use Rattle.argus_contents.specs.Value.{plain_value};
+ghost use Rattle.std.specs.{Prelude.{◌≡◌, ◌≤◌, true, nat_lt, IfErr, IfOk}, List.list_all};
+ghost use Rattle.argus_contents.specs.{Content.plain_content, Value.plain_value};
 ghost use Rattle.argus_contents.specs.declared.limits.TheConstants.{MAX_VALUE_DEPTH};
-ghost use Rattle.argus_reading.specs.Calls.{Places};
-ghost use Rattle.argus_reading.specs.Combined.{Worded};
+ghost use Rattle.argus_reading.specs.{Calls.Places, Combined.Worded};
 ghost use Rattle.argus_reading.specs.Operations.{ByteAndValue, Bytes, Ids, IntAndValue, TwoInts};
 ghost use Rattle.argus_texts.specs.Language.{OnLeft, Reads, Stops};
 ghost use Rattle.argus_texts.specs.Languages.{Contents, Ints, Numbers, Values};

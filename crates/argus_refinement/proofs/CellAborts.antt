@@ -1,35 +1,23 @@
 -- A cell when holders are ended: actions under the aborted ones release it.
 use Rattle.std.proofs.Common.{Bool, List, ap, inl, inr, subst, sym, true, ℕ, ◌+◌, ◌∙◌, ◌≡◌}
-use Rattle.std.specs.List.{filter}
-use Rattle.std.specs.Prelude.{not, ◌&&◌}
 use Rattle.std.proofs.lemmas.Bool.{and_left, cases_Bool}
+use Rattle.std.specs.{List.filter, Prelude.{not, ◌&&◌}}
 use Rattle.argus_actions.proofs.Marks.{is_above-mark}
 use Rattle.argus_actions.specs.Rows as tree_rows
 use Rattle.argus_actions.specs.Tree.{Tree, after_abort, after_abort_others, is_ancestor, is_live_sibling}
 use Rattle.argus_actions.specs.declared.action_id.ActionId.{ActionId}
 use Rattle.argus_actions.specs.declared.status.Status.TheVariants.{Aborted as became_aborted}
 use Rattle.argus_entries.specs.Entry.{PlainEntry}
-use Rattle.argus_journal.specs.Entries.{entries}
-use Rattle.argus_journal.specs.Opening.{Opening, model_opening}
+use Rattle.argus_journal.specs.{Entries.entries, Opening.{Opening, model_opening}}
 use Rattle.argus_refinement.proofs.CellHolders.{orderly, reader_live, seen_filter, seen_step, version_live, writer_live}
 use Rattle.argus_refinement.proofs.CellLists.{filter_said, has_filtered, lawful_more}
-use Rattle.argus_refinement.specs.CellRefinement.{AreSeen, IsCell, history_numbers}
-use Rattle.argus_refinement.specs.TreeRefinement.{IsTree}
-use Rattle.argus_model.proofs.Live.{live_stands}
-use Rattle.argus_model.proofs.NextHolders.{contains_filtered, holders_after_abort}
+use Rattle.argus_refinement.specs.{CellRefinement.{AreSeen, IsCell, history_numbers}, TreeRefinement.IsTree}
+use Rattle.argus_model.proofs.{Live.live_stands, NextHolders.{contains_filtered, holders_after_abort}, Standing.Orderly}
 use Rattle.argus_model.proofs.NextSees.{base_after_abort, sees_after_abort}
-use Rattle.argus_model.proofs.Standing.{Orderly}
 use Rattle.argus_model.specs.Ancestors as model
-use Rattle.argus_model.specs.Event.{Aborted}
-use Rattle.argus_model.specs.History.{History, ◌▹◌}
-use Rattle.argus_model.specs.Holders.{writers}
-use Rattle.argus_model.specs.Lawful.{Lawful}
-use Rattle.argus_model.specs.Meaning.{reads}
-use Rattle.argus_model.specs.Numbers.{contains}
-use Rattle.argus_model.specs.Status.{is_live}
-use Rattle.argus_objects.specs.CellChanges.{has_version}
-use Rattle.argus_objects.specs.Object.{Object}
-use Rattle.argus_objects.specs.Rules.{is_lawful}
+use Rattle.argus_model.specs.{Event.Aborted, History.{History, ◌▹◌}, Holders.writers, Lawful.Lawful, Meaning.reads}
+use Rattle.argus_model.specs.{Numbers.contains, Status.is_live}
+use Rattle.argus_objects.specs.{CellChanges.has_version, Object.Object, Rules.is_lawful}
 
 -- ended says of each live action whether it stands under one of those that the event names; t' is the tree after it
 module _ (s : Opening) (h : History PlainEntry) (t t' : Tree) (is : IsTree t h) (actions : List ℕ) (ended : ℕ → Bool)

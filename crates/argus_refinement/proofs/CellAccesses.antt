@@ -1,34 +1,22 @@
 -- A cell when an access was granted: a read makes a reader, a write a version; other cells stay.
-use Rattle.std.proofs.Common.{Bool, ap, arith, cond, false, inl, inr, refl, subst, sym, true, ℕ, ◌+◌}
-use Rattle.std.proofs.Common.{◌∙◌, ◌≡◌, ◌≢◌, eqb, ◌||◌}
-use Rattle.std.specs.Prelude.{Option, not, ◌&&◌, ◌==◌}
+use Rattle.std.proofs.Common.{Bool, ap, arith, cond, false, inl, inr, refl, subst, sym, true, ℕ, ◌+◌, ◌∙◌, ◌≡◌, ◌≢◌}
+use Rattle.std.proofs.Common.{eqb, ◌||◌}
 use Rattle.std.proofs.lemmas.Bool.{and_left, and_parts, and_right, both_ways, cases_eq, eq-eqb, ne_eqb}
-use Rattle.argus_actions.specs.Tree.{Tree}
-use Rattle.argus_actions.specs.declared.action_id.ActionId.{ActionId}
+use Rattle.std.specs.Prelude.{Option, not, ◌&&◌, ◌==◌}
+use Rattle.argus_actions.specs.{Tree.Tree, declared.action_id.ActionId.ActionId}
 use Rattle.argus_contents.specs.Content.{PlainContent}
 use Rattle.argus_entries.specs.Entry.{PlainEntry}
 use Rattle.argus_journal.specs.Entries.{entries, entry_keeps, is_write, content_after_call}
 use Rattle.argus_journal.specs.Opening.{Opening, model_opening}
 use Rattle.argus_refinement.proofs.CellHolders.{orderly, seen_filter, seen_step, version_live}
 use Rattle.argus_refinement.proofs.CellLists.{has_filtered, with_said}
-use Rattle.argus_refinement.specs.CellRefinement.{AreSeen, IsCell, history_numbers}
-use Rattle.argus_refinement.specs.TreeRefinement.{IsTree}
-use Rattle.argus_model.proofs.Bools.{and_all}
-use Rattle.argus_model.proofs.Live.{live_stands}
-use Rattle.argus_model.proofs.NextHolders.{holders_after_access}
+use Rattle.argus_refinement.specs.{CellRefinement.{AreSeen, IsCell, history_numbers}, TreeRefinement.IsTree}
+use Rattle.argus_model.proofs.{Bools.and_all, Live.live_stands, NextHolders.holders_after_access, Standing.Orderly}
 use Rattle.argus_model.proofs.NextSees.{base_after_access, sees_after_access_other, sees_after_access_own}
 use Rattle.argus_model.proofs.Numbers.{contains_insert}
-use Rattle.argus_model.proofs.Standing.{Orderly}
-use Rattle.argus_model.specs.Contents.{base, sees}
-use Rattle.argus_model.specs.Event.{Accessed}
-use Rattle.argus_model.specs.History.{History, ◌▹◌}
-use Rattle.argus_model.specs.Holders.{readers, writers}
-use Rattle.argus_model.specs.Lawful.{Lawful}
-use Rattle.argus_model.specs.Meaning.{reads}
-use Rattle.argus_model.specs.Numbers.{contains, insert}
-use Rattle.argus_model.specs.Status.{is_live}
-use Rattle.argus_objects.specs.CellChanges.{has_version, with_reader, with_version, without_version}
-use Rattle.argus_objects.specs.Object.{Object}
+use Rattle.argus_model.specs.{Contents.{base, sees}, Event.Accessed, History.{History, ◌▹◌}, Holders.{readers, writers}}
+use Rattle.argus_model.specs.{Lawful.Lawful, Meaning.reads, Numbers.{contains, insert}, Status.is_live}
+use Rattle.argus_objects.specs.{CellChanges.{has_version, with_reader, with_version, without_version}, Object.Object}
 use Rattle.argus_objects.specs.Rules.{is_lawful}
 
 module _ (s : Opening) (h : History PlainEntry) (t : Tree) (is : IsTree t h) (a : ActionId) (o : ℕ) (e : PlainEntry)

@@ -1,28 +1,16 @@
 -- A cell is unchanged when an action begins.
 use Rattle.std.proofs.Common.{ap, arith, sym, true, ℕ, ◌+◌, ◌∙◌, ◌≡◌}
-use Rattle.argus_actions.proofs.Above.{above_le}
-use Rattle.argus_actions.proofs.RowsLemmas.{is_above_older}
+use Rattle.argus_actions.proofs.{Above.above_le, RowsLemmas.is_above_older}
 use Rattle.argus_actions.specs.Row as act
-use Rattle.argus_actions.specs.Tree.{Tree, after_begin, is_ancestor}
+use Rattle.argus_actions.specs.{Tree.{Tree, after_begin, is_ancestor}, declared.status.Status.TheVariants.Live}
 use Rattle.argus_actions.specs.declared.origin.Origin as act_origin
-use Rattle.argus_actions.specs.declared.status.Status.TheVariants.{Live}
 use Rattle.argus_entries.specs.Entry.{PlainEntry}
-use Rattle.argus_journal.specs.Entries.{entries}
-use Rattle.argus_journal.specs.Opening.{Opening, model_opening}
-use Rattle.argus_refinement.proofs.CellHolders.{orderly, seen_step, version_live}
-use Rattle.argus_refinement.proofs.CellLists.{lawful_more}
-use Rattle.argus_refinement.specs.CellRefinement.{IsCell}
-use Rattle.argus_refinement.specs.TreeRefinement.{IsTree, history_origin}
-use Rattle.argus_model.proofs.Live.{is_begun_parts}
-use Rattle.argus_model.proofs.NextHolders.{holders_after_begin}
-use Rattle.argus_model.proofs.NextSees.{base_after_begin, sees_after_begin}
-use Rattle.argus_model.proofs.Siblings.{live_begun}
-use Rattle.argus_model.proofs.Standing.{Orderly}
-use Rattle.argus_model.specs.Event.{Began}
-use Rattle.argus_model.specs.History.{History, ◌▹◌}
-use Rattle.argus_model.specs.Lawful.{Lawful}
-use Rattle.argus_model.specs.Meaning.{reads}
-use Rattle.argus_model.specs.Numbers.{contains}
+use Rattle.argus_journal.specs.{Entries.entries, Opening.{Opening, model_opening}}
+use Rattle.argus_refinement.proofs.{CellHolders.{orderly, seen_step, version_live}, CellLists.lawful_more}
+use Rattle.argus_refinement.specs.{CellRefinement.IsCell, TreeRefinement.{IsTree, history_origin}}
+use Rattle.argus_model.proofs.{Live.is_begun_parts, NextHolders.holders_after_begin, Siblings.live_begun}
+use Rattle.argus_model.proofs.{NextSees.{base_after_begin, sees_after_begin}, Standing.Orderly}
+use Rattle.argus_model.specs.{Event.Began, History.{History, ◌▹◌}, Lawful.Lawful, Meaning.reads, Numbers.contains}
 use Rattle.argus_objects.specs.Object.{Object}
 
 module _ (s : Opening) (h : History PlainEntry) (t : Tree) (is : IsTree t h) (from : act_origin.Origin)

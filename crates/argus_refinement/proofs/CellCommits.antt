@@ -1,58 +1,37 @@
 -- A cell when its holder commits: what a subaction held is its parent's, what a topaction wrote is the base.
-use Rattle.std.proofs.Common.{Bool, List, None, Some, [], ap, arith, cond, false, inl, inr, refl, subst, sym}
-use Rattle.std.proofs.Common.{true, ℕ, ◌+◌, ◌<◌, ◌≤◌, ◌∙◌, ◌∷◌, ◌≡◌, ◌≢◌, eqb, length, ◌||◌, ⊎_elim}
-use Rattle.std.specs.Option.{option_and_then, unwrap_or}
-use Rattle.std.specs.Prelude.{map, not, ◌&&◌, ◌==◌}
+use Rattle.std.proofs.Common.{Bool, List, None, Some, [], ap, arith, cond, false, inl, inr, refl, subst, sym, true, ℕ}
+use Rattle.std.proofs.Common.{◌+◌, ◌<◌, ◌≤◌, ◌∙◌, ◌∷◌, ◌≡◌, ◌≢◌, eqb, length, ◌||◌, ⊎_elim}
 use Rattle.std.proofs.lemmas.Bool.{and_from, and_left, and_parts, and_right, both_ways, cases_Bool, cases_eq, eq-eqb}
 use Rattle.std.proofs.lemmas.Bool.{eqb-true, ne_eqb, or_cases, or_left, or_parts, or_right, false≢true}
+use Rattle.std.specs.{Option.{option_and_then, unwrap_or}, Prelude.{map, not, ◌&&◌, ◌==◌}}
 use Rattle.argus_actions.specs.Row as act
-use Rattle.argus_actions.specs.Rows.{is_above}
-use Rattle.argus_actions.specs.Rows as act_rows
-use Rattle.argus_actions.specs.Tree.{Tree, after_commit, is_ancestor, parent_by_origin, parent_of}
+use Rattle.argus_actions.specs.{Rows.is_above, Tree.{Tree, after_commit, is_ancestor, parent_by_origin, parent_of}}
 use Rattle.argus_actions.specs.declared.action_id.ActionId.{ActionId}
+use Rattle.argus_actions.specs.Rows as act_rows
 use Rattle.argus_actions.specs.declared.origin.Origin as act_origin
 use Rattle.argus_actions.specs.declared.origin.Origin.TheVariants as begun_as
 use Rattle.argus_actions.specs.declared.status.Status.TheVariants.{Committed as became_committed}
-use Rattle.argus_actions.proofs.Above.{above_le, above_up}
-use Rattle.argus_actions.proofs.Marks.{is_above-mark}
+use Rattle.argus_actions.proofs.{Above.{above_le, above_up}, Marks.is_above-mark}
 use Rattle.argus_actions.proofs.RowsLemmas.{is_above_newest, is_above_older, numbered_newest, numbered_older}
 use Rattle.argus_entries.specs.Entry.{PlainEntry}
-use Rattle.argus_refinement.specs.CellRefinement.{AreSeen, IsCell, history_numbers}
-use Rattle.argus_refinement.specs.TreeRefinement.{IsTree}
-use Rattle.argus_refinement.proofs.CellHolders.{above, orderly, seen_filter, seen_step, version_live}
-use Rattle.argus_refinement.proofs.CellHolders.{writer_live}
-use Rattle.argus_refinement.proofs.TreeAnswers.{no_parent_is, parent_is}
-use Rattle.argus_model.proofs.Siblings.{live_begun}
+use Rattle.argus_refinement.specs.{CellRefinement.{AreSeen, IsCell, history_numbers}, TreeRefinement.IsTree}
+use Rattle.argus_refinement.proofs.CellHolders.{above, orderly, seen_filter, seen_step, version_live, writer_live}
+use Rattle.argus_refinement.proofs.{TreeAnswers.{no_parent_is, parent_is}, CellLists.{inherits_own, inherits_parent}}
 use Rattle.argus_refinement.proofs.CellLists.{filter_said, has_filtered, lawful_more, inherited_said, inherits_other}
-use Rattle.argus_refinement.proofs.CellLists.{inherits_own, inherits_parent}
 use Rattle.argus_refinement.proofs.TreeRows.{eqb_up}
-use Rattle.argus_journal.specs.Entries.{entries}
-use Rattle.argus_journal.specs.Opening.{Opening, model_opening}
-use Rattle.argus_model.specs.Ancestors as model
-use Rattle.argus_model.specs.Contents.{base, sees}
-use Rattle.argus_model.specs.Event.{Committed}
-use Rattle.argus_model.specs.History.{History, ◌▹◌}
-use Rattle.argus_model.specs.Holders.{inherited, readers, writers}
-use Rattle.argus_model.specs.Lawful.{Lawful}
-use Rattle.argus_model.specs.Meaning.{reads}
-use Rattle.argus_model.specs.OwnerSteps.{stands}
-use Rattle.argus_model.specs.Numbers.{contains, insert, without}
-use Rattle.argus_model.specs.Status.{is_live}
-use Rattle.argus_model.proofs.Ancestors.{ancestor_self}
-use Rattle.argus_model.proofs.Lawful.{lawful_steps}
-use Rattle.argus_model.proofs.Live.{live_stands}
-use Rattle.argus_model.proofs.NextHolders.{holders_after_commit}
-use Rattle.argus_model.proofs.NextHolders.{inherited_other, inherited_own, inherited_parent}
-use Rattle.argus_model.proofs.NextSees.{base_after_commit, sees_after_commit}
-use Rattle.argus_model.proofs.Numbers.{joined}
-use Rattle.argus_model.proofs.Serial.{guarded}
-use Rattle.argus_model.proofs.Standing.{Orderly, parent_is as parent_step, parents_are_older}
+use Rattle.argus_model.proofs.{Siblings.live_begun, Ancestors.ancestor_self, Lawful.lawful_steps, Live.live_stands}
+use Rattle.argus_model.proofs.NextHolders.{holders_after_commit, inherited_other, inherited_own, inherited_parent}
+use Rattle.argus_model.proofs.{NextSees.{base_after_commit, sees_after_commit}, Numbers.joined, Serial.guarded}
 use Rattle.argus_model.proofs.Theorems.{ancestor_live, ancestor_older, live_alone, one_above_the_other}
+use Rattle.argus_journal.specs.{Entries.entries, Opening.{Opening, model_opening}}
+use Rattle.argus_model.specs.Ancestors as model
+use Rattle.argus_model.specs.{Contents.{base, sees}, Event.Committed, History.{History, ◌▹◌}, Lawful.Lawful}
+use Rattle.argus_model.specs.{Holders.{inherited, readers, writers}, Meaning.reads, OwnerSteps.stands, Status.is_live}
+use Rattle.argus_model.specs.Numbers.{contains, insert, without}
+use Rattle.argus_model.proofs.Standing.{Orderly, parent_is as parent_step, parents_are_older}
 use Rattle.argus_objects.specs.CellChanges.{version_inherited, has_version, readers_inherited, version_of}
-use Rattle.argus_objects.specs.CellChanges.{versions_inherited, without_reader}
-use Rattle.argus_objects.specs.CellChanges.{without_version}
+use Rattle.argus_objects.specs.{CellChanges.{versions_inherited, without_reader, without_version}, Rules.is_lawful}
 use Rattle.argus_objects.specs.Object.{Object, PlainVersion}
-use Rattle.argus_objects.specs.Rules.{is_lawful}
 use Rattle.argus_objects.proofs.Stacks.{version_of_none, same_id}
 
 parent_known : (h : History PlainEntry) → Orderly h → (x : ℕ) → x ≢ 0 → stands h x ≡ true

@@ -1,37 +1,21 @@
 -- Holders of a cell are live, and the read lock is free in the cell exactly if it is free in the history.
-use Rattle.std.proofs.Common.{Bool, List, [], ap, arith, cond, false, refl, subst, sym}
-use Rattle.std.proofs.Common.{true, ℕ, ◌+◌, ◌∙◌, ◌∷◌, ◌≡◌, ◌≢◌, eqb}
-use Rattle.std.specs.List.{filter, list_all}
-use Rattle.std.specs.Prelude.{◌&&◌, ◌-◌}
-use Rattle.std.proofs.lemmas.Bool.{eq-eqb}
-use Rattle.std.proofs.lemmas.Bool.{or_left, or_right, both_ways}
-use Rattle.argus_actions.specs.Tree.{SameActions, Tree, is_ancestor}
-use Rattle.argus_actions.specs.declared.action_id.ActionId.{ActionId}
+use Rattle.std.proofs.Common.{Bool, List, [], ap, arith, cond, false, refl, subst, sym, true, ℕ, ◌+◌, ◌∙◌, ◌∷◌, ◌≡◌}
+use Rattle.std.proofs.{Common.{◌≢◌, eqb}, lemmas.Bool.{eq-eqb, or_left, or_right, both_ways}}
+use Rattle.std.specs.{List.{filter, list_all}, Prelude.{◌&&◌, ◌-◌}}
+use Rattle.argus_actions.specs.{Tree.{SameActions, Tree, is_ancestor}, declared.action_id.ActionId.ActionId}
 use Rattle.argus_actions.specs.Rows.{is_above}
 use Rattle.argus_entries.specs.Entry.{PlainEntry}
-use Rattle.argus_refinement.specs.CellRefinement.{AreSeen, IsCell, history_numbers}
-use Rattle.argus_refinement.specs.TreeRefinement.{IsTree}
-use Rattle.argus_refinement.proofs.TreeAnswers.{ancestor_begun_is}
-use Rattle.argus_model.proofs.Siblings.{live_begun}
-use Rattle.argus_refinement.proofs.CellLists.{all_at, all_from, lawful_more}
-use Rattle.argus_journal.specs.Entries.{entries}
-use Rattle.argus_journal.specs.Opening.{Opening, model_opening}
-use Rattle.argus_model.specs.Ancestors as model
-use Rattle.argus_model.specs.Contents.{sees}
-use Rattle.argus_model.specs.History.{History}
-use Rattle.argus_model.specs.Holders as holders_of
-use Rattle.argus_model.specs.Holders.{readers, writers}
-use Rattle.argus_model.specs.Lawful.{Lawful}
-use Rattle.argus_model.specs.Numbers.{contains}
-use Rattle.argus_model.specs.Status.{is_live}
-use Rattle.argus_model.proofs.Bools.{same_bool}
-use Rattle.argus_model.proofs.Lawful.{lawful_orderly}
-use Rattle.argus_model.proofs.LockRules.{holders_live}
-use Rattle.argus_model.proofs.NextHolders.{no_base_holder}
-use Rattle.argus_model.proofs.Numbers.{every_at, every_from, joined, joined_left}
+use Rattle.argus_refinement.specs.{CellRefinement.{AreSeen, IsCell, history_numbers}, TreeRefinement.IsTree}
+use Rattle.argus_refinement.proofs.{TreeAnswers.ancestor_begun_is, CellLists.{all_at, all_from, lawful_more}}
+use Rattle.argus_model.proofs.{Siblings.live_begun, Bools.same_bool, Lawful.lawful_orderly, LockRules.holders_live}
+use Rattle.argus_model.proofs.{NextHolders.no_base_holder, Numbers.{every_at, every_from, joined, joined_left}}
 use Rattle.argus_model.proofs.Standing.{Orderly}
-use Rattle.argus_objects.specs.CellChanges.{has_version}
-use Rattle.argus_objects.specs.Object.{Object, PlainVersion, SameLocks, holders}
+use Rattle.argus_journal.specs.{Entries.entries, Opening.{Opening, model_opening}}
+use Rattle.argus_model.specs.Ancestors as model
+use Rattle.argus_model.specs.{Contents.sees, History.History, Holders.{readers, writers}, Lawful.Lawful, Status.is_live}
+use Rattle.argus_model.specs.Numbers.{contains}
+use Rattle.argus_model.specs.Holders as holders_of
+use Rattle.argus_objects.specs.{CellChanges.has_version, Object.{Object, PlainVersion, SameLocks, holders}}
 use Rattle.argus_objects.specs.Rules.{is_chain, is_related, may_read}
 
 pub seen_step : (s : Opening) (h h' : History PlainEntry) (o : ℕ) (vs : List PlainVersion)

@@ -1,20 +1,16 @@
 -- Members of the lists of a cell, and its readers as the history numbers them.
-use Rattle.std.proofs.Common.{Bool, List, [], ap, arith, cond, false, inl, inr, refl, subst, sym}
-use Rattle.std.proofs.Common.{true, ℕ, ◌+◌, ◌<◌, ◌≤◌, ◌∙◌, ◌∷◌, ◌≡◌, ◌≢◌, eqb, ◌||◌, ◌⊎◌, ⊎_elim}
-use Rattle.std.specs.List.{filter, list_all}
-use Rattle.std.specs.Prelude.{map, not, ◌&&◌, ◌==◌, nat_lt}
+use Rattle.std.proofs.Common.{Bool, List, [], ap, arith, cond, false, inl, inr, refl, subst, sym, true, ℕ, ◌+◌, ◌<◌}
+use Rattle.std.proofs.Common.{◌≤◌, ◌∙◌, ◌∷◌, ◌≡◌, ◌≢◌, eqb, ◌||◌, ◌⊎◌, ⊎_elim}
 use Rattle.std.proofs.lemmas.Bool.{and_from, and_parts, and_right, cases_Bool, cases_eq, cases_lt, eq-eqb, eqb-true}
 use Rattle.std.proofs.lemmas.Bool.{lt-ltb, le-ltb, ne_eqb, or_cases, or_left, or_right}
-use Rattle.argus_actions.specs.Tree.{Tree, is_ancestor}
-use Rattle.argus_actions.specs.declared.action_id.ActionId.{ActionId}
+use Rattle.std.specs.{List.{filter, list_all}, Prelude.{map, not, ◌&&◌, ◌==◌, nat_lt}}
+use Rattle.argus_actions.specs.{Tree.{Tree, is_ancestor}, declared.action_id.ActionId.ActionId}
 use Rattle.argus_objects.specs.CellChanges.{version_inherited, has_version, is_reader, readers_inherited}
-use Rattle.argus_objects.specs.CellChanges.{versions_inherited}
-use Rattle.argus_objects.specs.CellChanges.{with_reader, without_reader, without_version}
+use Rattle.argus_objects.specs.CellChanges.{versions_inherited, with_reader, without_reader, without_version}
 use Rattle.argus_objects.specs.Object.{Object, PlainVersion, holders}
 use Rattle.argus_objects.specs.Rules.{are_related, is_chain, is_lawful, is_related, is_strictly_above}
 use Rattle.argus_objects.proofs.Chains.{all_imp}
-use Rattle.argus_model.specs.Holders.{inherited}
-use Rattle.argus_model.specs.Numbers.{contains, insert, without}
+use Rattle.argus_model.specs.{Holders.inherited, Numbers.{contains, insert, without}}
 use Rattle.argus_refinement.specs.CellRefinement.{history_numbers}
 use Rattle.argus_refinement.proofs.TreeRows.{eqb_up}
 

@@ -1,41 +1,26 @@
 -- The versions of a cell go from ancestor to descendant, and lawful follows from exclusion.
-use Rattle.std.proofs.Common.{Bool, List, Option, [], ap, arith, false, inl, inr, refl, subst, sym, true, ℕ, ◌+◌}
-use Rattle.std.proofs.Common.{◌<◌, ◌∙◌, ◌∷◌, ◌≡◌, ◌≢◌, ◌++◌, ◌||◌, eqb, ⊎_elim}
-use Rattle.std.specs.List.{list_all}
-use Rattle.std.specs.Prelude.{map, nat_lt, not, reverse, ◌&&◌, ◌-◌, ◌==◌}
-use Rattle.std.proofs.lemmas.Bool.{and_from, and_parts, both_ways, cases_eq, eq-eqb, eqb-true, false≢true}
-use Rattle.std.proofs.lemmas.Bool.{ltb-true, ne_eqb, not-true, or_cases, or_left, or_right}
-use Rattle.std.proofs.lemmas.Grind.{reverse_onto}
-use Rattle.std.proofs.lemmas.List.{map-append}
+use Rattle.std.proofs.Common.{Bool, List, Option, [], ap, arith, false, inl, inr, refl, subst, sym, true, ℕ, ◌+◌, ◌<◌}
+use Rattle.std.proofs.{Common.{◌∙◌, ◌∷◌, ◌≡◌, ◌≢◌, ◌++◌, ◌||◌, eqb, ⊎_elim}, lemmas.Grind.reverse_onto}
+use Rattle.std.proofs.lemmas.Bool.{and_from, and_parts, both_ways, cases_eq, eq-eqb, eqb-true, false≢true, ltb-true}
+use Rattle.std.proofs.{lemmas.Bool.{ne_eqb, not-true, or_cases, or_left, or_right}, lemmas.List.map-append}
+use Rattle.std.specs.{List.list_all, Prelude.{map, nat_lt, not, reverse, ◌&&◌, ◌-◌, ◌==◌}}
 use Rattle.argus_actions.proofs.Above.{above_le}
-use Rattle.argus_actions.specs.Tree.{Tree, is_ancestor}
-use Rattle.argus_actions.specs.declared.action_id.ActionId.{ActionId}
+use Rattle.argus_actions.specs.{Tree.{Tree, is_ancestor}, declared.action_id.ActionId.ActionId}
 use Rattle.argus_contents.specs.Content.{PlainContent}
 use Rattle.argus_entries.specs.Entry.{PlainEntry}
-use Rattle.argus_journal.specs.Entries.{entries}
-use Rattle.argus_journal.specs.Opening.{Opening, model_opening}
-use Rattle.argus_refinement.proofs.CellHolders.{orderly}
-use Rattle.argus_refinement.proofs.CellLists.{all_at, all_from}
-use Rattle.argus_refinement.proofs.TreeAnswers.{ancestor_begun_is}
+use Rattle.argus_journal.specs.{Entries.entries, Opening.{Opening, model_opening}}
+use Rattle.argus_refinement.proofs.{CellHolders.orderly, CellLists.{all_at, all_from}, TreeAnswers.ancestor_begun_is}
 use Rattle.argus_refinement.proofs.TreeRows.{eqb_up}
 use Rattle.argus_refinement.specs.CellRefinement.{AreSeen, IsCell, history_numbers, stack, numbered_versions}
 use Rattle.argus_refinement.specs.TreeRefinement.{IsTree}
-use Rattle.argus_model.proofs.Bools.{eqb_sym, or_none}
-use Rattle.argus_model.proofs.Holders.{holders_rising}
-use Rattle.argus_model.proofs.LockRules.{holders_live}
-use Rattle.argus_model.proofs.NextHolders.{no_base_holder}
+use Rattle.argus_model.proofs.{Bools.{eqb_sym, or_none}, Holders.holders_rising, LockRules.holders_live}
+use Rattle.argus_model.proofs.{NextHolders.no_base_holder, Siblings.live_begun}
 use Rattle.argus_model.proofs.Numbers.{IsRising, joined, joined_left, rising-more, rising_same}
-use Rattle.argus_model.proofs.Siblings.{live_begun}
 use Rattle.argus_model.proofs.Theorems.{one_above_the_other, writers_in_line}
 use Rattle.argus_model.specs.Ancestors as model
-use Rattle.argus_model.specs.Contents.{sees}
-use Rattle.argus_model.specs.History.{History}
-use Rattle.argus_model.specs.Holders.{readers, writers}
-use Rattle.argus_model.specs.Lawful.{Lawful}
-use Rattle.argus_model.specs.Numbers.{contains}
-use Rattle.argus_model.specs.Status.{is_begun}
-use Rattle.argus_objects.specs.CellChanges.{has_version}
-use Rattle.argus_objects.specs.Object.{Object, PlainVersion, holders}
+use Rattle.argus_model.specs.{Contents.sees, History.History, Holders.{readers, writers}, Lawful.Lawful}
+use Rattle.argus_model.specs.{Numbers.contains, Status.is_begun}
+use Rattle.argus_objects.specs.{CellChanges.has_version, Object.{Object, PlainVersion, holders}}
 use Rattle.argus_objects.specs.Rules.{are_related, is_ascending, is_chain, is_lawful, is_related, is_strictly_above}
 
 -- the last comes first in the reverse

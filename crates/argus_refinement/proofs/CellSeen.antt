@@ -1,47 +1,27 @@
 -- What an action that may read sees in a cell is what it sees in the history, and the write lock is free in both or in
 -- neither.
-use Rattle.std.proofs.Common.{Bool, List, None, Option, Some, [], ap, arith, false, inl, inr, refl, subst, sym}
-use Rattle.std.proofs.Common.{true, ℕ, ◌+◌, ◌-◌, ◌∙◌, ◌∷◌, ◌≡◌, ◌≢◌, eqb, ⊎_elim}
-use Rattle.std.specs.List.{list_all}
-use Rattle.std.specs.Prelude.{not, ◌&&◌}
-use Rattle.std.proofs.lemmas.Bool.{and_parts, both_ways, cases_eq, eq-eqb, eqb-true, or_cases, or_left}
-use Rattle.std.proofs.lemmas.Bool.{or_right}
-use Rattle.argus_actions.specs.Tree.{Tree, is_ancestor}
-use Rattle.argus_actions.specs.declared.action_id.ActionId.{ActionId}
+use Rattle.std.proofs.Common.{Bool, List, None, Option, Some, [], ap, arith, false, inl, inr, refl, subst, sym, true, ℕ}
+use Rattle.std.proofs.Common.{◌+◌, ◌-◌, ◌∙◌, ◌∷◌, ◌≡◌, ◌≢◌, eqb, ⊎_elim}
+use Rattle.std.proofs.lemmas.Bool.{and_parts, both_ways, cases_eq, eq-eqb, eqb-true, or_cases, or_left, or_right}
+use Rattle.std.specs.{List.list_all, Prelude.{not, ◌&&◌}}
+use Rattle.argus_actions.specs.{Tree.{Tree, is_ancestor}, declared.action_id.ActionId.ActionId}
 use Rattle.argus_entries.specs.Entry.{PlainEntry}
-use Rattle.argus_refinement.specs.CellRefinement.{AreSeen, IsCell, history_numbers}
-use Rattle.argus_refinement.specs.TreeRefinement.{IsTree}
+use Rattle.argus_refinement.specs.{CellRefinement.{AreSeen, IsCell, history_numbers}, TreeRefinement.IsTree}
 use Rattle.argus_refinement.proofs.CellHolders.{above, may_read_is, orderly, reader_live, version_live}
-use Rattle.argus_refinement.proofs.TreeAnswers.{ancestor_begun_is}
-use Rattle.argus_model.proofs.Siblings.{live_begun}
-use Rattle.argus_refinement.proofs.CellLists.{all_at}
-use Rattle.argus_journal.specs.Entries.{entries}
-use Rattle.argus_journal.specs.Opening.{Opening, model_opening}
-use Rattle.argus_model.specs.Ancestors as model
-use Rattle.argus_model.specs.Contents.{sees}
-use Rattle.argus_model.specs.History.{History}
-use Rattle.argus_model.specs.HolderSteps.{has_used}
-use Rattle.argus_model.specs.Holders as holders_of
-use Rattle.argus_model.specs.Holders.{readers, writers}
-use Rattle.argus_model.specs.Lawful.{Lawful}
-use Rattle.argus_model.specs.Numbers.{contains}
-use Rattle.argus_model.specs.OwnerSteps.{is_exactly, owner_by_steps}
-use Rattle.argus_model.specs.Status.{is_live}
-use Rattle.argus_model.specs.WorkSteps.{owner_passes}
-use Rattle.argus_model.proofs.Ancestors.{ancestor_self}
-use Rattle.argus_model.proofs.Contents.{accesses_by_agree}
-use Rattle.argus_model.proofs.Holders.{contains_holders}
-use Rattle.argus_model.proofs.HolderSteps.{used_by_from}
-use Rattle.argus_model.proofs.NextHolders.{no_base_holder}
-use Rattle.argus_model.proofs.NextSees.{sees_base}
-use Rattle.argus_model.proofs.Numbers.{contains_first, every_at}
-use Rattle.argus_model.proofs.Owner.{base_above}
-use Rattle.argus_model.proofs.Sees.{sees_is}
+use Rattle.argus_refinement.proofs.{TreeAnswers.ancestor_begun_is, CellLists.all_at}
+use Rattle.argus_model.proofs.{Siblings.live_begun, Ancestors.ancestor_self, Contents.accesses_by_agree, Sees.sees_is}
+use Rattle.argus_model.proofs.{Holders.contains_holders, HolderSteps.used_by_from, NextHolders.no_base_holder}
+use Rattle.argus_model.proofs.{NextSees.sees_base, Numbers.{contains_first, every_at}, Owner.base_above}
 use Rattle.argus_model.proofs.Standing.{Orderly, some_at}
-use Rattle.argus_objects.specs.CellChanges.{has_version, newest_content}
-use Rattle.argus_objects.specs.Object.{Object, PlainVersion, holders}
-use Rattle.argus_objects.specs.Rules.{all_above, is_chain, is_related, is_strictly_above, may_read}
-use Rattle.argus_objects.specs.Rules.{may_write, visible_content}
+use Rattle.argus_journal.specs.{Entries.entries, Opening.{Opening, model_opening}}
+use Rattle.argus_model.specs.Ancestors as model
+use Rattle.argus_model.specs.{Contents.sees, History.History, HolderSteps.has_used, Holders.{readers, writers}}
+use Rattle.argus_model.specs.{Lawful.Lawful, Numbers.contains, OwnerSteps.{is_exactly, owner_by_steps}, Status.is_live}
+use Rattle.argus_model.specs.WorkSteps.{owner_passes}
+use Rattle.argus_model.specs.Holders as holders_of
+use Rattle.argus_objects.specs.{CellChanges.{has_version, newest_content}, Object.{Object, PlainVersion, holders}}
+use Rattle.argus_objects.specs.Rules.{all_above, is_chain, is_related, is_strictly_above, may_read, may_write}
+use Rattle.argus_objects.specs.Rules.{visible_content}
 use Rattle.argus_objects.proofs.Changes.{seen_on_top}
 
 -- who stand under the same writers see the same

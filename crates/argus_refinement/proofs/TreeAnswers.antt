@@ -1,10 +1,8 @@
 -- What a tree with the rows of a history returns is what the history says.
-use Rattle.std.proofs.Common.{None, Option, Some, ap, arith, cond, false, inl, inr, length, refl}
-use Rattle.std.proofs.Common.{sym, true, ℕ, ◌+◌, ◌<◌, ◌≤◌, ◌∙◌, ◌≡◌}
-use Rattle.std.specs.Option.{option_and_then, option_map, option_map_or}
-use Rattle.std.specs.Prelude.{not, ◌&&◌, ◌-◌}
-use Rattle.std.proofs.lemmas.Bool.{and_from, both_ways, cases_Bool, cases_lt, le-ltb}
+use Rattle.std.proofs.Common.{None, Option, Some, ap, arith, cond, false, inl, inr, length, refl, sym, true, ℕ, ◌+◌}
+use Rattle.std.proofs.{Common.{◌<◌, ◌≤◌, ◌∙◌, ◌≡◌}, lemmas.Bool.{and_from, both_ways, cases_Bool, cases_lt, le-ltb}}
 use Rattle.std.proofs.lemmas.List.{length-map}
+use Rattle.std.specs.{Option.{option_and_then, option_map, option_map_or}, Prelude.{not, ◌&&◌, ◌-◌}}
 use Rattle.argus_actions.proofs.RowsLemmas.{numbered_low, numbered_past}
 use Rattle.argus_actions.specs.Row as tree_row
 use Rattle.argus_actions.specs.Rows as tree_rows
@@ -16,17 +14,14 @@ use Rattle.argus_actions.specs.declared.origin.Origin.TheVariants as begun
 use Rattle.argus_actions.specs.declared.status.Status.TheVariants as became
 use Rattle.argus_refinement.proofs.TreeRows.{above_said, depth_said, live_row_said, live_said, row_at_said}
 use Rattle.argus_refinement.specs.TreeRefinement.{IsTree, history_origin, history_row, history_status}
-use Rattle.argus_model.proofs.Depth.{depth_is}
-use Rattle.argus_model.proofs.Live.{is_begun_from, is_begun_parts}
+use Rattle.argus_model.proofs.{Depth.depth_is, Live.{is_begun_from, is_begun_parts}, Standing.Orderly}
 use Rattle.argus_model.proofs.Rows.{creator_of_origin, has_live_row_is, is_above_exactly, live_status_is}
 use Rattle.argus_model.proofs.Rows.{parent_of_origin, row_is, rows_length}
-use Rattle.argus_model.proofs.Standing.{Orderly}
 use Rattle.argus_model.specs.Ancestors as model
 use Rattle.argus_model.specs.Event as event
-use Rattle.argus_model.specs.History.{History, folded, next_action}
+use Rattle.argus_model.specs.{History.{History, folded, next_action}, Status.{is_begun, is_live, status}}
 use Rattle.argus_model.specs.Rows as model_rows
 use Rattle.argus_model.specs.Status as model_status
-use Rattle.argus_model.specs.Status.{is_begun, is_live, status}
 
 -- the row that says this
 said_row : (q : Option tree_row.Row) (r : model_rows.Row) → option_map history_row q ≡ Some r

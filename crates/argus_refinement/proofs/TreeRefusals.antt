@@ -1,35 +1,29 @@
 -- The tree refuses a call exactly if the journal does, and for the same reason.
-use Rattle.std.proofs.Common.{Bool, None, Option, Some, ap, arith, cond, false, inl, inr, refl, sym}
-use Rattle.std.proofs.Common.{true, ℕ, ◌+◌, ◌<◌, ◌≤◌, ◌∙◌, ◌≡◌}
-use Rattle.std.specs.Option.{is_none, option_map, option_or}
-use Rattle.std.specs.Prelude.{nat_le, nat_lt, not, ◌&&◌, ◌==◌, ◌-◌}
+use Rattle.std.proofs.Common.{Bool, None, Option, Some, ap, arith, cond, false, inl, inr, refl, sym, true, ℕ, ◌+◌, ◌<◌}
+use Rattle.std.proofs.Common.{◌≤◌, ◌∙◌, ◌≡◌}
 use Rattle.std.proofs.lemmas.Bool.{cases_Bool, cases_lt, le-leb, le-ltb, lt-leb, lt-ltb, ne_eqb}
+use Rattle.std.specs.{Option.{is_none, option_map, option_or}, Prelude.{nat_le, nat_lt, not, ◌&&◌, ◌==◌, ◌-◌}}
 use Rattle.argus_actions.proofs.RowsLemmas.{numbered_past}
 use Rattle.argus_actions.specs.Refusals.{abort_others_refusal, abort_refusal, begin_nested_refusal, begin_sub_refusal}
 use Rattle.argus_actions.specs.Refusals.{begin_top_refusal, commit_refusal, refused_if, unless_live}
-use Rattle.argus_actions.specs.Rows as tree_rows
 use Rattle.argus_actions.specs.Tree.{Tree, has_live_child, next, row_of}
 use Rattle.argus_actions.specs.declared.action_refusal.ActionRefusal.{ActionRefusal}
+use Rattle.argus_actions.specs.Rows as tree_rows
 use Rattle.argus_actions.specs.declared.action_refusal.ActionRefusal.TheVariants as refusal
 use Rattle.argus_actions.specs.declared.status.Status as tree_status
 use Rattle.argus_actions.specs.declared.status.Status.TheVariants as became
 use Rattle.argus_contents.specs.declared.limits.TheConstants.{MAX_ACTIONS, MAX_ACTION_DEPTH}
-use Rattle.argus_entries.specs.Entry.{PlainEntry}
-use Rattle.argus_entries.specs.declared.refusal.Refusal.{Refusal}
+use Rattle.argus_entries.specs.{Entry.PlainEntry, declared.refusal.Refusal.Refusal}
 use Rattle.argus_entries.specs.declared.refusal.Refusal.TheVariants.{NoAction, NoSiblings, Over, Suspended, TooDeep}
 use Rattle.argus_entries.specs.declared.refusal.Refusal.TheVariants.{TooMany}
 use Rattle.argus_journal.specs.Answers.{depth, if_created, if_free, if_live, if_room, if_shallow, unless}
 use Rattle.argus_refinement.proofs.TreeAnswers.{begun_from_tree, begun_row, child_is, depth_in_rows, next_is, under_is}
 use Rattle.argus_refinement.proofs.TreeAnswers.{under_none_is}
 use Rattle.argus_refinement.specs.TreeRefinement.{IsTree, journal_refusal_if_any, history_status}
-use Rattle.argus_model.proofs.Live.{is_begun_parts}
-use Rattle.argus_model.proofs.Rows.{live_status_is}
-use Rattle.argus_model.proofs.Standing.{Orderly}
-use Rattle.argus_model.specs.Ancestors.{begun_by}
-use Rattle.argus_model.specs.History.{History, folded, next_action}
-use Rattle.argus_model.specs.Rows.{Row, is_live_status}
-use Rattle.argus_model.specs.Status as model_status
+use Rattle.argus_model.proofs.{Live.is_begun_parts, Rows.live_status_is, Standing.Orderly}
+use Rattle.argus_model.specs.{Ancestors.begun_by, History.{History, folded, next_action}, Rows.{Row, is_live_status}}
 use Rattle.argus_model.specs.Status.{is_begun, is_live}
+use Rattle.argus_model.specs.Status as model_status
 
 -- a live row isn't refused, any other is over
 unless_status : (st : tree_status.Status) (b : Bool) → is_live_status (history_status st) ≡ b

@@ -1,10 +1,8 @@
 -- The rows of a tree, in the terms of the history: each test of them, number by number.
-use Rattle.std.proofs.Common.{Bool, List, Option, Some, [], ap, arith, cond, false, inl, inr, length, refl, subst}
-use Rattle.std.proofs.Common.{sym, true, ℕ, ◌+◌, ◌∙◌, ◌∷◌, ◌≡◌, eqb, ◌||◌, ⊎_elim}
-use Rattle.std.specs.Option.{option_map}
-use Rattle.std.specs.Prelude.{map, ◌&&◌, ◌==◌}
+use Rattle.std.proofs.Common.{Bool, List, Option, Some, [], ap, arith, cond, false, inl, inr, length, refl, subst, sym}
+use Rattle.std.proofs.{Common.{true, ℕ, ◌+◌, ◌∙◌, ◌∷◌, ◌≡◌, eqb, ◌||◌, ⊎_elim}, lemmas.List.length-map}
 use Rattle.std.proofs.lemmas.Bool.{cases_eq, eq-eqb, eqb-true, false≢true, ne_eqb, or_cases, or_left, or_right}
-use Rattle.std.proofs.lemmas.List.{length-map}
+use Rattle.std.specs.{Option.option_map, Prelude.{map, ◌&&◌, ◌==◌}}
 use Rattle.argus_actions.specs.Row as tree_row
 use Rattle.argus_actions.specs.Rows as tree_rows
 use Rattle.argus_actions.specs.declared.origin.Origin as tree_origin

@@ -1,10 +1,7 @@
 -- Each call of a tree is an event of its history.
-use Rattle.std.proofs.Common.{Bool, Some, [], ap, arith, false, inl, inr}
-use Rattle.std.proofs.Common.{sym, true, ℕ, ◌+◌, ◌∙◌, ◌∷◌, ◌≡◌, ◌≢◌, eqb}
-use Rattle.std.specs.List.{list_any}
-use Rattle.std.specs.Option.{option_map_or}
-use Rattle.std.specs.Prelude.{map, not, ◌&&◌, ◌==◌, ◌-◌}
+use Rattle.std.proofs.Common.{Bool, Some, [], ap, arith, false, inl, inr, sym, true, ℕ, ◌+◌, ◌∙◌, ◌∷◌, ◌≡◌, ◌≢◌, eqb}
 use Rattle.std.proofs.lemmas.Bool.{and_parts, both_ways, cases_Bool, eq-eqb, ne_eqb, not-true}
+use Rattle.std.specs.{List.list_any, Option.option_map_or, Prelude.{map, not, ◌&&◌, ◌==◌, ◌-◌}}
 use Rattle.argus_actions.specs.Row as tree_row
 use Rattle.argus_actions.specs.Rows as tree_rows
 use Rattle.argus_actions.specs.Tree.{SameActions, Tree, after_abort, after_abort_others, after_begin, after_commit}
@@ -14,15 +11,10 @@ use Rattle.argus_actions.specs.declared.status.Status.TheVariants as became
 use Rattle.argus_refinement.proofs.TreeAnswers.{begun_row, live_is, under_is}
 use Rattle.argus_refinement.proofs.TreeRows.{above_said, ancestor_found, ancestor_from, eqb_up, mark_said, under_said}
 use Rattle.argus_refinement.specs.TreeRefinement.{IsTree, history_origin, history_row}
-use Rattle.argus_model.proofs.Bools.{or_none, same_bool}
-use Rattle.argus_model.proofs.Live.{contains_siblings}
-use Rattle.argus_model.proofs.Numbers.{any_found, any_from}
-use Rattle.argus_model.proofs.Rows.{creator_of_origin}
-use Rattle.argus_model.proofs.Standing.{Orderly}
-use Rattle.argus_model.specs.Ancestors.{begun_by}
-use Rattle.argus_model.specs.Event.{Aborted, Began, Committed, origin_begun_by}
-use Rattle.argus_model.specs.History.{History, Opened, folded, ◌▹◌}
-use Rattle.argus_model.specs.Rows.{Row, is_above, mark, rows}
+use Rattle.argus_model.proofs.{Bools.{or_none, same_bool}, Live.contains_siblings, Numbers.{any_found, any_from}}
+use Rattle.argus_model.proofs.{Rows.creator_of_origin, Standing.Orderly}
+use Rattle.argus_model.specs.{Ancestors.begun_by, Event.{Aborted, Began, Committed, origin_begun_by}}
+use Rattle.argus_model.specs.{History.{History, Opened, folded, ◌▹◌}, Rows.{Row, is_above, mark, rows}}
 use Rattle.argus_model.specs.Status.{IsAborted, IsCommitted, IsLive, has_committed, is_begun, is_doomed, is_live}
 use Rattle.argus_model.specs.Status.{is_sibling, live_siblings}
 

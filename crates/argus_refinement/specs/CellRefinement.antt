@@ -1,18 +1,11 @@
 -- A cell in the terms of the history. The program's action a is a + 1 there.
 use Rattle.std.specs.Prelude.{List, Option, [], map, reverse, true, ℕ, ◌+◌, ◌++◌, ◌∷◌, ◌≡◌}
-use Rattle.argus_actions.specs.Tree.{Tree}
-use Rattle.argus_actions.specs.declared.action_id.ActionId.{ActionId}
+use Rattle.argus_actions.specs.{Tree.Tree, declared.action_id.ActionId.ActionId}
 use Rattle.argus_contents.specs.Content.{PlainContent}
 use Rattle.argus_entries.specs.Entry.{PlainEntry}
-use Rattle.argus_journal.specs.Entries.{entries}
-use Rattle.argus_journal.specs.Opening.{Opening, model_opening}
-use Rattle.argus_model.specs.Contents.{base, sees}
-use Rattle.argus_model.specs.History.{History}
-use Rattle.argus_model.specs.Holders.{readers, writers}
-use Rattle.argus_model.specs.Numbers.{contains}
-use Rattle.argus_objects.specs.CellChanges.{has_version}
-use Rattle.argus_objects.specs.Object.{Object, PlainVersion, holders}
-use Rattle.argus_objects.specs.Rules.{is_lawful}
+use Rattle.argus_journal.specs.{Entries.entries, Opening.{Opening, model_opening}}
+use Rattle.argus_model.specs.{Contents.{base, sees}, History.History, Holders.{readers, writers}, Numbers.contains}
+use Rattle.argus_objects.specs.{CellChanges.has_version, Object.{Object, PlainVersion, holders}, Rules.is_lawful}
 
 -- these actions as the history numbers them
 abbrev pub history_numbers : List ActionId → List ℕ

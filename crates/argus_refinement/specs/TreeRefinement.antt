@@ -1,10 +1,8 @@
 -- A tree of actions in the terms of the history. The tree's action a is a + 1 there, where 0 is the
 -- base.
-use Rattle.std.specs.Option.{option_map}
-use Rattle.std.specs.Prelude.{Option, map, ◌+◌, ◌≡◌}
+use Rattle.std.specs.{Option.option_map, Prelude.{Option, map, ◌+◌, ◌≡◌}}
 use Rattle.argus_actions.specs.Row as tree_row
-use Rattle.argus_actions.specs.Tree.{Tree}
-use Rattle.argus_actions.specs.declared.action_refusal.ActionRefusal.{ActionRefusal}
+use Rattle.argus_actions.specs.{Tree.Tree, declared.action_refusal.ActionRefusal.ActionRefusal}
 use Rattle.argus_actions.specs.declared.action_refusal.ActionRefusal.TheVariants as refusal
 use Rattle.argus_actions.specs.declared.origin.Origin as tree_origin
 use Rattle.argus_actions.specs.declared.origin.Origin.TheVariants as begun
@@ -12,9 +10,7 @@ use Rattle.argus_actions.specs.declared.status.Status as tree_status
 use Rattle.argus_actions.specs.declared.status.Status.TheVariants as became
 use Rattle.argus_entries.specs.declared.refusal.Refusal.{Refusal}
 use Rattle.argus_entries.specs.declared.refusal.Refusal.TheVariants as why
-use Rattle.argus_model.specs.Event.{Nested, Origin, Sub, Top}
-use Rattle.argus_model.specs.History.{History, folded}
-use Rattle.argus_model.specs.Rows.{Row, rows}
+use Rattle.argus_model.specs.{Event.{Nested, Origin, Sub, Top}, History.{History, folded}, Rows.{Row, rows}}
 use Rattle.argus_model.specs.Status.{IsAborted, IsCommitted, IsFolded, IsLive, Status}
 
 -- how an action was begun

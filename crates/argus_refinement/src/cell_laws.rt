@@ -2,33 +2,26 @@
 //! its object (`IsCell`): what it returns is what the journal says, and each of its steps is an
 //! event.
 ghost use Rattle.std.specs.Prelude.{◌≡◌, ◌≢◌, ◌∷◌, Bool, List, None, Option, Some, ℕ, filter, map};
-ghost use Rattle.std.specs.Prelude.{not, reverse, true, false};
-ghost use Rattle.std.specs.Option.{unwrap_or};
+ghost use Rattle.std.specs.{Prelude.{not, reverse, true, false}, Option.unwrap_or};
 ghost use Rattle.argus_actions.specs.Tree.{Tree, after_begin, after_commit, is_ancestor, parent_of};
 ghost use Rattle.argus_actions.specs.declared.action_id.ActionId.{ActionId};
 ghost use Rattle.argus_actions.specs.declared.origin.Origin as tree_origin;
 ghost use Rattle.argus_contents.specs.Content.{PlainContent};
 ghost use Rattle.argus_entries.specs.Entry.{PlainEntry};
-ghost use Rattle.argus_journal.specs.Entries.{entries, is_write, content_after_call};
-ghost use Rattle.argus_journal.specs.Events.{happens, history};
-ghost use Rattle.argus_journal.specs.Legal.{Legal};
-ghost use Rattle.argus_journal.specs.Numbering.{in_history};
-ghost use Rattle.argus_journal.specs.Opening.{Opening};
+ghost use Rattle.argus_journal.specs.{Entries.{entries, is_write, content_after_call}, Legal.Legal};
+ghost use Rattle.argus_journal.specs.{Events.{happens, history}, Numbering.in_history};
+ghost use Rattle.argus_journal.specs.{Opening.Opening, JournalFacts.versions_of};
 ghost use Rattle.argus_journal.specs.JournalFacts.{base_of, is_live_in, readers_of, visible_to};
-ghost use Rattle.argus_journal.specs.JournalFacts.{versions_of};
 ghost use Rattle.argus_refinement.specs.CellRefinement.{IsCell, history_numbers, numbered_versions};
 ghost use Rattle.argus_refinement.specs.TreeRefinement.{IsTree, history_origin};
-ghost use Rattle.argus_model.specs.Ancestors.{is_under};
-ghost use Rattle.argus_model.specs.Event.{Aborted, Accessed, Began, Committed};
+ghost use Rattle.argus_model.specs.{Ancestors.is_under, Holders.{readers, writers}};
+ghost use Rattle.argus_model.specs.{Event.{Aborted, Accessed, Began, Committed}, Numbers.contains};
 ghost use Rattle.argus_model.specs.Holders as model;
-ghost use Rattle.argus_model.specs.Holders.{readers, writers};
-ghost use Rattle.argus_model.specs.Numbers.{contains};
 ghost use Rattle.argus_objects.specs.CellChanges.{has_version, readers_inherited, version_of};
 ghost use Rattle.argus_objects.specs.CellChanges.{versions_inherited, with_reader, with_version};
 ghost use Rattle.argus_objects.specs.CellChanges.{without_reader, without_version};
-ghost use Rattle.argus_objects.specs.Object.{Object, holders};
+ghost use Rattle.argus_objects.specs.{Object.{Object, holders}, Rules.{is_ascending, is_lawful}};
 ghost use Rattle.argus_objects.specs.Rules as cell;
-ghost use Rattle.argus_objects.specs.Rules.{is_ascending, is_lawful};
 
 /// What a cell holds is what the journal says: its readers in increasing number, its versions from
 /// ancestor to descendant, each with what its holder sees, and its base. A lock is free in the cell

@@ -1,8 +1,7 @@
 //! Laws of a tree of actions that has the rows of a journal's history (`IsTree`): what it returns
 //! is what the history says, each of its calls is an event, and it refuses what the journal
 //! refuses.
-ghost use Rattle.std.specs.Prelude.{◌≡◌, ◌∷◌, ◌&&◌, [], List, None, Some, ℕ};
-ghost use Rattle.std.specs.Prelude.{true};
+ghost use Rattle.std.specs.Prelude.{◌≡◌, ◌∷◌, ◌&&◌, [], List, None, Some, ℕ, true};
 ghost use Rattle.std.specs.Option.{option_map};
 ghost use Rattle.argus_actions.specs.Refusals.{abort_others_refusal, abort_refusal};
 ghost use Rattle.argus_actions.specs.Refusals.{begin_nested_refusal, begin_sub_refusal};
@@ -10,26 +9,21 @@ ghost use Rattle.argus_actions.specs.Refusals.{begin_top_refusal, commit_refusal
 ghost use Rattle.argus_actions.specs.Rows.{is_live_at, under_at};
 ghost use Rattle.argus_actions.specs.Tree.{SameActions, Tree, after_abort, after_abort_others};
 ghost use Rattle.argus_actions.specs.Tree.{after_begin, after_commit, creator_of, depth_of};
-ghost use Rattle.argus_actions.specs.Tree.{has_live_child};
-ghost use Rattle.argus_actions.specs.Tree.{is_ancestor, next, parent_of, status_of};
+ghost use Rattle.argus_actions.specs.Tree.{has_live_child, is_ancestor, next, parent_of, status_of};
 ghost use Rattle.argus_actions.specs.declared.action_id.ActionId.{ActionId};
 ghost use Rattle.argus_actions.specs.declared.origin.Origin as tree_origin;
 ghost use Rattle.argus_entries.specs.Entry.{PlainEntry};
-ghost use Rattle.argus_journal.specs.Answers.{depth, if_created, if_free, if_live};
-ghost use Rattle.argus_journal.specs.Answers.{if_room, if_shallow};
-ghost use Rattle.argus_journal.specs.Events.{history};
-ghost use Rattle.argus_journal.specs.Legal.{Legal};
-ghost use Rattle.argus_journal.specs.Numbering.{in_history};
-ghost use Rattle.argus_journal.specs.Opening.{Opening};
+ghost use Rattle.argus_journal.specs.Answers.{depth, if_created, if_free, if_live, if_room};
+ghost use Rattle.argus_journal.specs.{Answers.if_shallow, Events.history, Legal.Legal};
+ghost use Rattle.argus_journal.specs.{Numbering.in_history, Opening.Opening};
 ghost use Rattle.argus_journal.specs.JournalFacts.{begun_by_in, is_ancestor_in, is_live_in};
-ghost use Rattle.argus_journal.specs.JournalFacts.{next_action_number};
-ghost use Rattle.argus_journal.specs.JournalFacts.{parent_in};
+ghost use Rattle.argus_journal.specs.JournalFacts.{next_action_number, parent_in};
 ghost use Rattle.argus_refinement.specs.TreeRefinement.{IsTree, history_origin};
 ghost use Rattle.argus_refinement.specs.TreeRefinement.{journal_refusal_if_any, history_status};
 ghost use Rattle.argus_model.specs.Event.{Aborted, Began, Committed};
 ghost use Rattle.argus_model.specs.History.{History, Opened, ◌▹◌};
-ghost use Rattle.argus_model.specs.Status as model_status;
 ghost use Rattle.argus_model.specs.Status.{is_begun, live_siblings, status};
+ghost use Rattle.argus_model.specs.Status as model_status;
 
 /// What a tree returns is what the history says: the next number, which actions are live, the
 /// ancestors, parents and creators, which actions have a live child, the depth of an action, and

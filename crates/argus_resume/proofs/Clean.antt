@@ -1,49 +1,35 @@
 -- The lines of entries and openings are UTF-8, without line feeds.
 use Rattle.std.proofs.Common.{◌≡◌, ◌≢◌, ℕ, zero, suc, ◌+◌, ◌-◌, ◌%◌, ◌<◌, ◌≤◌, ◌^◌, ◌&&◌, Bool, true, false, cond, List}
-use Rattle.std.proofs.Common.{[], ◌∷◌, ◌++◌}
-use Rattle.std.proofs.Common.{length, get_or, inl, inr, refl, sym, ap, ap₂, ◌∙◌, subst, arith, append-nil, ltb-true}
-use Rattle.std.proofs.Common.{nat_lt}
-use Rattle.std.proofs.lemmas.Bool.{and_parts, cases_eq, cases_lt, eqb-false}
+use Rattle.std.proofs.Common.{[], ◌∷◌, ◌++◌, length, get_or, inl, inr, refl, sym, ap, ap₂, ◌∙◌, subst, arith}
+use Rattle.std.proofs.{Common.{append-nil, ltb-true, nat_lt}, lemmas.Bool.{and_parts, cases_eq, cases_lt, eqb-false}}
 use Rattle.std.proofs.lemmas.Fmt.{decimal_by_steps}
 use Rattle.std.proofs.lemmas.Str.{IsUtf8-append, IsUtf8-encode, IsUtf8-nil, encode_ascii, inside_one}
-use Rattle.std.specs.Fmt.{decimal, signed_decimal}
-use Rattle.std.specs.List.{list_all}
+use Rattle.std.specs.{Fmt.{decimal, signed_decimal}, List.list_all, Str.IsUtf8}
 use Rattle.std.specs.Prelude.{None, Option, Some, codes, negsuc, pos, ℤ, ◌==◌}
-use Rattle.std.specs.Str.{IsUtf8}
 use lib.Utf8.{scalar, scalars, encode, encodes, low_scalar}
-use Rattle.argus_contents.specs.Answer.{PlainAnswer}
+use Rattle.argus_contents.specs.{Answer.PlainAnswer, Change.PlainChange, Content.PlainContent, Shape.PlainShape}
+use Rattle.argus_contents.specs.{Name.{is_name, is_name_byte}, Ty.{PlainFields, PlainTy}, declared.query.Query.Query}
+use Rattle.argus_contents.specs.{Value.{PlainValue, PlainValues, listed}, declared.signal.Signal.Signal}
 use Rattle.argus_contents.specs.Answer as answer
-use Rattle.argus_contents.specs.Change.{PlainChange}
 use Rattle.argus_contents.specs.Change as change
-use Rattle.argus_contents.specs.Content.{PlainContent}
 use Rattle.argus_contents.specs.Content as content
-use Rattle.argus_contents.specs.Name.{is_name, is_name_byte}
-use Rattle.argus_contents.specs.Shape.{PlainShape}
 use Rattle.argus_contents.specs.Shape as shape
-use Rattle.argus_contents.specs.Ty.{PlainFields, PlainTy}
 use Rattle.argus_contents.specs.Ty as ty
-use Rattle.argus_contents.specs.Value.{PlainValue, PlainValues, listed}
 use Rattle.argus_contents.specs.Value as value
-use Rattle.argus_contents.specs.declared.query.Query.{Query}
 use Rattle.argus_contents.specs.declared.query.Query.TheVariants as query
-use Rattle.argus_contents.specs.declared.signal.Signal.{Signal}
 use Rattle.argus_contents.specs.declared.signal.Signal.TheVariants as signal
-use Rattle.argus_entries.specs.Call.{PlainCall}
-use Rattle.argus_entries.specs.Call as call
-use Rattle.argus_entries.specs.Entry.{PlainEntry}
+use Rattle.argus_entries.specs.{Call.PlainCall, Entry.PlainEntry, OperationSpelling.{change_spelling, query_spelling}}
 use Rattle.argus_entries.specs.EntrySpelling.{answer_spelling, call_spelling, entry_spelling, place_spelling}
-use Rattle.argus_entries.specs.EntrySpelling.{refusal_name, reply_spelling, signal_spelling}
+use Rattle.argus_entries.specs.{EntrySpelling.{refusal_name, reply_spelling, signal_spelling}, Reply.PlainReply}
 use Rattle.argus_entries.specs.Laws.{AnswerWithin, CallWithin, ChangeWithin, QueryWithin, ReplyWithin}
-use Rattle.argus_entries.specs.OperationSpelling.{change_spelling, query_spelling}
-use Rattle.argus_entries.specs.Reply.{PlainReply}
-use Rattle.argus_entries.specs.Reply as reply
 use Rattle.argus_entries.specs.declared.refusal.Refusal.{Refusal}
+use Rattle.argus_entries.specs.Call as call
+use Rattle.argus_entries.specs.Reply as reply
 use Rattle.argus_entries.specs.declared.refusal.Refusal.TheVariants as refusal
 use Rattle.argus_reading.specs.OpeningLanguages.{FoldedLines, IsReadableContent, ObjectLines, content_text}
 use Rattle.argus_reading.specs.Line.{IsReadable}
-use Rattle.argus_texts.specs.ContentSpelling.{PartsWithin, content_spelling}
+use Rattle.argus_texts.specs.{ContentSpelling.{PartsWithin, content_spelling}, ShapeSpelling.ty_spelling}
 use Rattle.argus_texts.specs.ShapeSpelling.{AreNamed, HasNames, IsNamed, names_behind, names_inside, shape_spelling}
-use Rattle.argus_texts.specs.ShapeSpelling.{ty_spelling}
 use Rattle.argus_texts.specs.Spelling.{AllWithin, IsI64, Within, behind, escape, escaped, inside, spelling}
 use Rattle.argus_texts.proofs.Quotes.{escaped-append}
 use Rattle.argus_resume.specs.Taking.{HasNoFeed}

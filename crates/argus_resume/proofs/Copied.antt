@@ -1,13 +1,9 @@
 -- Objects of an opening that are copied one after another.
 use Rattle.std.proofs.Common.{◌≡◌, ℕ, ◌+◌, ◌≤◌, List, [], ◌∷◌, ◌++◌, length, map, None, Option, Some, take, sym, ap}
-use Rattle.std.proofs.Common.{◌∙◌, arith}
-use Rattle.std.proofs.Common.{inl, inr}
-use Rattle.std.proofs.lemmas.List.{map-append, take_all, take_more}
+use Rattle.std.proofs.{Common.{◌∙◌, arith, inl, inr}, lemmas.List.{map-append, take_all, take_more}}
 use Rattle.std.proofs.lemmas.Option.{get_or_from_slice_get, none-some, slice_get_cases, slice_get_within}
 use Rattle.std.specs.Prelude.{slice_get}
-use Rattle.argus_contents.specs.Content.{PlainContent}
-use Rattle.argus_contents.specs.Shape.{PlainShape}
-use Rattle.argus_contents.specs.declared.content.Content.{Content}
+use Rattle.argus_contents.specs.{Content.PlainContent, Shape.PlainShape, declared.content.Content.Content}
 use Rattle.argus_contents.specs.declared.shape.Shape.{Shape}
 use Rattle.argus_journal.specs.Opening.{Opening, opening_at, opening_with, plain_object}
 

@@ -1,27 +1,20 @@
 -- What a change leaves and returns, and what a query returns, is no deeper than what was there and what was passed in.
 use Rattle.std.proofs.Common.{Bool, List, None, Option, Some, [], arith, drop, false, length, nat_lt, pos, negsuc, suc}
-use Rattle.std.proofs.Common.{take, true, zero, ℕ, ℤ, ◌++◌, ◌-◌, ◌-ℤ◌, ◌<◌, ◌^◌, ◌∷◌, ◌≤ℤ◌}
-use Rattle.std.proofs.lemmas.Int.{ints}
-use Rattle.std.specs.Ordering.{int_eq}
-use Rattle.std.specs.Option.{option_and_then}
+use Rattle.std.proofs.{Common.{take, true, zero, ℕ, ℤ, ◌++◌, ◌-◌, ◌-ℤ◌, ◌<◌, ◌^◌, ◌∷◌, ◌≤ℤ◌}, lemmas.Int.ints}
+use Rattle.std.specs.{Ordering.int_eq, Option.option_and_then}
 use Rattle.std.specs.Prelude.{if◌then◌else◌, slice_get, slice_set, unsigned_abs, ◌==◌}
-use Rattle.argus_contents.specs.Answer.{signal, val, value_or}
+use Rattle.argus_contents.specs.{Answer.{signal, val, value_or}, Change.{trim_refusal, trimmed, variant_outcome}}
 use Rattle.argus_contents.specs.Change.{Outcome, PlainChange, addh, addl, array_outcome, absent_outcome, change_tag}
 use Rattle.argus_contents.specs.Change.{create, is_full_high, is_full_low, is_out_of_limits, outcome, record_outcome}
 use Rattle.argus_contents.specs.Change.{remh, reml, removed_low, set_field, set_low, store, stored_at, trim}
-use Rattle.argus_contents.specs.Change.{trim_refusal, trimmed, variant_outcome}
 use Rattle.argus_contents.specs.Content.{KeepsBounds, KeepsLimits, PlainContent, arr, rec, var}
-use Rattle.argus_contents.specs.Place.{high_of, place_of}
-use Rattle.argus_contents.specs.Query.{array_reply, record_reply, reply, variant_reply}
-use Rattle.argus_contents.specs.Value.{PlainValue, listed}
+use Rattle.argus_contents.specs.{Place.{high_of, place_of}, Query.{array_reply, record_reply, reply, variant_reply}}
+use Rattle.argus_contents.specs.{Value.{PlainValue, listed}, declared.query.Query.Query, declared.signal.Signal.Signal}
 use Rattle.argus_contents.specs.declared.limits.TheConstants.{MAX_BOUND, MAX_VALUE_DEPTH, MIN_BOUND}
-use Rattle.argus_contents.specs.declared.query.Query.{Query}
-use Rattle.argus_contents.specs.declared.query.Query.TheVariants as query
-use Rattle.argus_contents.specs.declared.signal.Signal.{Signal}
 use Rattle.argus_contents.specs.declared.signal.Signal.TheVariants.{Absent, Bounds, WrongTag}
+use Rattle.argus_contents.specs.declared.query.Query.TheVariants as query
 use Rattle.argus_reading.specs.OpeningLanguages.{IsReadableContent}
-use Rattle.argus_texts.specs.ContentSpelling.{PartsWithin}
-use Rattle.argus_texts.specs.Spelling.{AllWithin, IsI64, Within}
+use Rattle.argus_texts.specs.{ContentSpelling.PartsWithin, Spelling.{AllWithin, IsI64, Within}}
 use Rattle.argus_entries.specs.Laws.{AnswerWithin, ChangeWithin}
 
 -- what holds of each arm holds of the choice

@@ -1,23 +1,17 @@
 -- Where the lines of an opening end, in bytes.
 use Rattle.std.proofs.Common.{◌≡◌, ℕ, suc, zero, ◌+◌, ◌-◌, ◌<◌, ◌≤◌, List, [], ◌∷◌, ◌++◌, length, take, drop, get_or}
-use Rattle.std.proofs.Common.{sym}
-use Rattle.std.proofs.Common.{ap, ◌∙◌, subst, arith, append-nil, append_assoc, length-append}
+use Rattle.std.proofs.Common.{sym, ap, ◌∙◌, subst, arith, append-nil, append_assoc, length-append}
 use Rattle.std.proofs.lemmas.Option.{get_or_from_slice_get, slice_get_within}
+use Rattle.std.proofs.{Math.Seq.{take-append_seam, take-length}, lemmas.List.{length-map, take-append-drop, take-take}}
 use Rattle.std.specs.Prelude.{Option, Some, slice_get}
-use Rattle.argus_contents.specs.Content.{PlainContent}
-use Rattle.argus_contents.specs.Shape.{PlainShape}
+use Rattle.argus_contents.specs.{Content.PlainContent, Shape.PlainShape}
 use Rattle.argus_listings.specs.Listing.{each_from, folded_line, opened_line}
-use Rattle.argus_journal.specs.Opening.{Opening, opening_at}
-use Rattle.argus_resume.specs.SoundFront.{opening_front}
-use Rattle.std.proofs.Math.Seq.{take-append_seam, take-length}
-use Rattle.argus_journal.specs.JournalView.{JournalView}
-use Rattle.argus_resume.specs.JournalText.{journal_text}
-use Rattle.argus_resume.proofs.Texts.{each_from-append, opened_text}
-use Rattle.std.proofs.lemmas.List.{length-map, take-append-drop, take-take}
+use Rattle.argus_journal.specs.{Opening.{Opening, opening_at}, JournalView.JournalView}
+use Rattle.argus_resume.specs.{SoundFront.opening_front, JournalText.journal_text, Stage.opening_read}
 use Rattle.argus_resume.specs.Stage.{AreEnds, IsCounted, lines_of, object_read, objects_read, opened_alone}
-use Rattle.argus_resume.specs.Stage.{opening_read}
 use Rattle.argus_resume.specs.declared.opening_lines.OpeningLines.{OpeningLines}
 use Rattle.argus_resume.specs.declared.opened_object.OpenedObject.{OpenedObject}
+use Rattle.argus_resume.proofs.Texts.{each_from-append, opened_text}
 
 -- how many bytes the lines of these objects have, where the first has this number
 abbrev bytes_of : ℕ → List OpenedObject → ℕ

@@ -1,13 +1,10 @@
 -- Line feeds of a text: where its first line ends, and how many lines end in it.
 use Rattle.std.proofs.Common.{◌≡◌, ◌≢◌, ℕ, suc, ◌+◌, ◌<◌, ◌≤◌, Bool, true, false, cond, List, [], ◌∷◌, ◌++◌, length}
 use Rattle.std.proofs.Common.{None, Option, Some, take, drop, get_or, refl, sym, ap, ◌∙◌, arith, append_assoc}
-use Rattle.std.proofs.Common.{drop-cons, length-take, take-add, eqb-true}
-use Rattle.std.proofs.lemmas.Bool.{eqb-false}
-use Rattle.std.proofs.lemmas.List.{get_or-take, take-append-drop}
-use Rattle.std.proofs.lemmas.List.Quantifiers.{position-Some}
+use Rattle.std.proofs.{Common.{drop-cons, length-take, take-add, eqb-true}, lemmas.Bool.eqb-false}
+use Rattle.std.proofs.{lemmas.List.{get_or-take, take-append-drop}, lemmas.List.Quantifiers.position-Some}
 use Rattle.std.proofs.lemmas.List.Sums.{fails_before_first, sum_by-append}
-use Rattle.std.specs.List.{position, position_or_len}
-use Rattle.std.specs.Prelude.{is_some, nat_lt, ◌==◌}
+use Rattle.std.specs.{List.{position, position_or_len}, Prelude.{is_some, nat_lt, ◌==◌}}
 use Rattle.argus_resume.specs.Taking.{HasNoFeed, IsFirstLine, line_count}
 
 abbrev is_feed : ℕ → Bool

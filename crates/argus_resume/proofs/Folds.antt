@@ -1,29 +1,21 @@
 -- A checkpoint of a journal whose lines can be read is an opening whose lines can be read.
-use Rattle.std.proofs.Common.{List, Option, Some, [], arith, inl, inr, refl, suc, sym, true, zero, ℕ, ◌<◌, ◌∷◌}
-use Rattle.std.proofs.Common.{subst, ◌≡◌, ◌≤◌}
+use Rattle.std.proofs.Common.{List, Option, Some, [], arith, inl, inr, refl, suc, sym, true, zero, ℕ, ◌<◌, ◌∷◌, subst}
+use Rattle.std.proofs.Common.{◌≡◌, ◌≤◌}
 use Rattle.std.specs.Prelude.{slice_get}
-use Rattle.argus_contents.specs.Content.{PlainContent}
-use Rattle.argus_contents.specs.Shape.{PlainShape}
+use Rattle.argus_contents.specs.{Content.PlainContent, Shape.PlainShape}
 use Rattle.argus_contents.specs.declared.limits.TheConstants.{MAX_OBJECTS, MAX_VALUE_DEPTH}
 use Rattle.argus_entries.specs.Entry.{PlainEntry}
 use Rattle.argus_model.specs.Owner.{is_base, owner}
-use Rattle.argus_journal.specs.Events.{history}
-use Rattle.argus_journal.specs.Folding.{fold, next_entry_number, with_contents}
-use Rattle.argus_journal.specs.JournalFacts.{base_of}
-use Rattle.argus_journal.specs.Legal.{Legal}
-use Rattle.argus_journal.specs.Objects.{declared, shape_of, shapes}
+use Rattle.argus_journal.specs.{Events.history, Folding.{fold, next_entry_number, with_contents}, JournalFacts.base_of}
+use Rattle.argus_journal.specs.{Legal.Legal, Objects.{declared, shape_of, shapes}}
 use Rattle.argus_journal.specs.Opening.{Opening, content_in, empty, fits_shape, is_sound}
 use Rattle.argus_journal.specs.declared.limits.TheConstants.{MAX_FIRST_ENTRY}
-use Rattle.argus_journal.proofs.Contents.{content_fits}
-use Rattle.argus_journal.proofs.Fitting.{fits_keeps, fits_more}
-use Rattle.argus_journal.proofs.Folded.{fold_numbers}
+use Rattle.argus_journal.proofs.{Contents.content_fits, Fitting.{fits_keeps, fits_more}, Folded.fold_numbers}
 use Rattle.argus_journal.proofs.Within.{objects_within}
 use Rattle.argus_resume.specs.ReadableCalls.{HaveReadableCalls}
 use Rattle.argus_resume.specs.JournalText.{AreReadableObjects, IsEmptyOrReadable, IsReadableOpening}
-use Rattle.argus_resume.proofs.Depths.{ValuesWithin, content_readable}
-use Rattle.argus_resume.proofs.Granted.{AreMakeable, shapes_makeable}
-use Rattle.argus_resume.proofs.Readable.{calls_within}
-use Rattle.argus_resume.proofs.Replies.{begins_numbers, begins_objects}
+use Rattle.argus_resume.proofs.{Depths.{ValuesWithin, content_readable}, Granted.{AreMakeable, shapes_makeable}}
+use Rattle.argus_resume.proofs.{Readable.calls_within, Replies.{begins_numbers, begins_objects}}
 use Rattle.argus_resume.proofs.Seen.{opened_within, seen_within}
 
 objects_readable : (content : ℕ → Option PlainContent) (xs : List PlainShape) (n : ℕ) → n ≤ MAX_OBJECTS

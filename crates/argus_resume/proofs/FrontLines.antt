@@ -1,18 +1,13 @@
 -- A line at the front of a text: how many bytes it has, and what a fault says of it.
-use Rattle.std.proofs.Common.{List, [], ap, append_assoc, arith, length, length-append, refl, take}
-use Rattle.std.proofs.Common.{ℕ, ◌+◌, ◌++◌, ◌-◌, ◌<◌, ◌^◌, ◌∙◌, ◌∷◌, ◌≡◌}
-use Rattle.std.proofs.Math.Seq.{take-append_seam}
-use Rattle.argus_entries.specs.Entry.{PlainEntry}
-use Rattle.argus_entries.specs.EntrySpelling.{entry_line, entry_spelling}
+use Rattle.std.proofs.Common.{List, [], ap, append_assoc, arith, length, length-append, refl, take, ℕ, ◌+◌, ◌++◌, ◌-◌}
+use Rattle.std.proofs.{Common.{◌<◌, ◌^◌, ◌∙◌, ◌∷◌, ◌≡◌}, Math.Seq.take-append_seam}
+use Rattle.argus_entries.specs.{Entry.PlainEntry, EntrySpelling.{entry_line, entry_spelling}}
 use Rattle.argus_journal.specs.JournalView.{JournalView, next_entry}
-use Rattle.argus_resume.specs.FrontLine.{HasFrontLine, IsFrontError, end_of_error}
-use Rattle.argus_resume.specs.Lines.{IsLineError}
-use Rattle.argus_resume.specs.Stage.{SaysOf}
+use Rattle.argus_resume.specs.{FrontLine.{HasFrontLine, IsFrontError, end_of_error}, Lines.IsLineError, Stage.SaysOf}
 use Rattle.argus_resume.specs.Taking.{EndsTaking, HasNoFeed, IsFirstLine, line_count}
 use Rattle.argus_resume.specs.declared.line_error.LineError.{LineError}
 use Rattle.argus_resume.specs.declared.line_error.LineError.TheVariants as error
-use Rattle.argus_resume.proofs.Clean.{entry_clean}
-use Rattle.argus_resume.proofs.Feeds.{count-append, count_none}
+use Rattle.argus_resume.proofs.{Clean.entry_clean, Feeds.{count-append, count_none}}
 
 -- the line is what is in front of the rest
 pub line_taken : (number : ℕ) (entry : PlainEntry) (text rest : List ℕ) → HasFrontLine number entry text rest

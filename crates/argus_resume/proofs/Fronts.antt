@@ -1,13 +1,8 @@
 -- A journal whose listing begins with that of another: what it has more.
-use Rattle.std.proofs.Common.{◌≡◌, ℕ, ◌+◌, ◌<◌, ◌≤◌, ◌^◌, ◌⊎◌, List, [], ◌∷◌, ◌++◌, length, refl}
-use Rattle.std.proofs.Common.{sym, ap}
-use Rattle.std.proofs.Common.{◌∙◌, inl, inr, arith, append_assoc, length-append}
-use Rattle.std.proofs.lemmas.List.{append_cancel_left}
-use Rattle.std.specs.Fmt.{decimal}
-use Rattle.std.specs.Prelude.{Option, codes}
-use Rattle.argus_contents.specs.Content.{PlainContent}
-use Rattle.argus_contents.specs.Shape.{PlainShape}
-use Rattle.argus_contents.specs.declared.limits.TheConstants.{MAX_OBJECTS}
+use Rattle.std.proofs.Common.{◌≡◌, ℕ, ◌+◌, ◌<◌, ◌≤◌, ◌^◌, ◌⊎◌, List, [], ◌∷◌, ◌++◌, length, refl, sym, ap, ◌∙◌, inl}
+use Rattle.std.proofs.{Common.{inr, arith, append_assoc, length-append}, lemmas.List.append_cancel_left}
+use Rattle.std.specs.{Fmt.decimal, Prelude.{Option, codes}}
+use Rattle.argus_contents.specs.{Content.PlainContent, Shape.PlainShape, declared.limits.TheConstants.MAX_OBJECTS}
 use Rattle.argus_entries.specs.Entry.{PlainEntry}
 use Rattle.argus_entries.specs.EntrySpelling.{call_spelling, entry_line, entry_spelling, reply_spelling}
 use Rattle.argus_entries.proofs.Lines.{one_line}
@@ -15,13 +10,10 @@ use Rattle.argus_journal.specs.Opening.{Opening}
 use Rattle.argus_listings.specs.Listing.{each_from, opened_line}
 use Rattle.argus_reading.specs.OpeningLanguages.{FoldedLines, IsForm, ObjectLines}
 use Rattle.argus_reading.proofs.Told.{object_told}
-use Rattle.argus_texts.proofs.Digits.{first_digit}
-use Rattle.argus_texts.proofs.Lists.{head_of, tail_of}
-use Rattle.argus_resume.specs.JournalText.{AreReadable, AreReadableObjects, IsReadableObject}
-use Rattle.argus_resume.specs.JournalText.{IsReadableOpening}
+use Rattle.argus_texts.proofs.{Digits.first_digit, Lists.{head_of, tail_of}}
+use Rattle.argus_resume.specs.JournalText.{AreReadable, AreReadableObjects, IsReadableObject, IsReadableOpening}
 use Rattle.argus_resume.specs.Taking.{HasNoFeed}
-use Rattle.argus_resume.proofs.Clean.{entry_clean, object_clean}
-use Rattle.argus_resume.proofs.Openings.{object_line_form}
+use Rattle.argus_resume.proofs.{Clean.{entry_clean, object_clean}, Openings.object_line_form}
 
 -- LINES
 

@@ -1,31 +1,22 @@
 -- A call that was not refused has values of depth at most 16, if a program can hold it.
-use Rattle.std.proofs.Common.{Bool, List, None, Option, Some, [], false, length, refl, suc, true, zero, ℕ}
-use Rattle.std.proofs.Common.{◌++◌, ◌+◌, ◌∙◌, ◌∷◌, ◌≡◌}
-use Rattle.std.proofs.lemmas.Bool.{false≢true}
+use Rattle.std.proofs.Common.{Bool, List, None, Option, Some, [], false, length, refl, suc, true, zero, ℕ, ◌++◌, ◌+◌}
+use Rattle.std.proofs.{Common.{◌∙◌, ◌∷◌, ◌≡◌}, lemmas.Bool.false≢true}
 use Rattle.std.specs.Prelude.{if◌then◌else◌, map, slice_get}
-use Rattle.argus_contents.specs.Change.{PlainChange}
-use Rattle.argus_contents.specs.Content.{PlainContent}
-use Rattle.argus_contents.specs.Fitting.{change_suits}
-use Rattle.argus_contents.specs.Shape.{IsMakeable, PlainShape}
-use Rattle.argus_contents.specs.declared.limits.TheConstants.{MAX_VALUE_DEPTH}
+use Rattle.argus_contents.specs.{Change.PlainChange, Content.PlainContent, Fitting.change_suits}
+use Rattle.argus_contents.specs.{Shape.{IsMakeable, PlainShape}, declared.limits.TheConstants.MAX_VALUE_DEPTH}
 use Rattle.argus_entries.specs.Call.{PlainCall, abort, abort_others, alter, ask, begin_nested, begin_sub, begin_top}
-use Rattle.argus_entries.specs.Call.{commit, declare, test_read, test_write}
-use Rattle.argus_entries.specs.Entry.{PlainEntry}
-use Rattle.argus_entries.specs.Laws.{CallWithin, ChangeWithin}
-use Rattle.argus_entries.specs.Reply.{PlainReply, refused}
+use Rattle.argus_entries.specs.{Call.{commit, declare, test_read, test_write}, Entry.PlainEntry}
+use Rattle.argus_entries.specs.{Laws.{CallWithin, ChangeWithin}, Reply.{PlainReply, refused}}
 use Rattle.argus_entries.specs.declared.refusal.Refusal.{Refusal}
 use Rattle.argus_entries.specs.declared.refusal.Refusal.TheVariants.{Conflict, IllTyped}
 use Rattle.argus_entries.proofs.Suiting.{suiting_depth}
 use Rattle.argus_model.specs.Holders.{may_write}
 use Rattle.argus_journal.specs.Answers.{answer, granted, if_declared, or_refused, refusal, suits, suits_change, unless}
-use Rattle.argus_journal.specs.Entries.{entries}
-use Rattle.argus_journal.specs.Events.{history}
-use Rattle.argus_journal.specs.Objects.{declared_by, names_object, shapes}
+use Rattle.argus_journal.specs.{Entries.entries, Events.history, Objects.{declared_by, names_object, shapes}}
 use Rattle.argus_journal.specs.Opening.{Opening}
 use Rattle.argus_journal.proofs.Legal.{access_none, free_none}
 use Rattle.argus_reading.specs.Calls.{DeclaresShape}
-use Rattle.argus_resume.specs.ReadableCalls.{HasReadableCall, HaveReadableCalls}
-use Rattle.argus_resume.specs.JournalText.{AreReadableObjects}
+use Rattle.argus_resume.specs.{ReadableCalls.{HasReadableCall, HaveReadableCalls}, JournalText.AreReadableObjects}
 
 -- SHAPES
 

@@ -1,23 +1,17 @@
 -- The guardian of what was taken, and one of objects that a program holds, have listings that can be taken.
-use Rattle.std.proofs.Common.{List, None, Option, Some, [], ap, arith, get_or, inl, inr, length, length-take, map, refl, subst}
-use Rattle.std.proofs.Common.{suc, sym, take, true, zero, ℕ, ◌+◌, ◌<◌, ◌∙◌, ◌∷◌, ◌≡◌, ◌≤◌}
-use Rattle.std.proofs.lemmas.Bool.{and_parts}
-use Rattle.std.proofs.lemmas.List.{take_all}
+use Rattle.std.proofs.Common.{List, None, Option, Some, [], ap, arith, get_or, inl, inr, length, length-take, map, refl}
+use Rattle.std.proofs.Common.{subst, suc, sym, take, true, zero, ℕ, ◌+◌, ◌<◌, ◌∙◌, ◌∷◌, ◌≡◌, ◌≤◌}
+use Rattle.std.proofs.{lemmas.Bool.and_parts, lemmas.List.take_all}
 use Rattle.std.specs.List.{list_all}
-use Rattle.argus_contents.specs.Change.{create}
-use Rattle.argus_contents.specs.Content.{PlainContent}
-use Rattle.argus_contents.specs.Shape.{IsMakeable, PlainShape}
-use Rattle.argus_contents.specs.declared.content.Content.{Content}
-use Rattle.argus_contents.specs.declared.limits.TheConstants.{MAX_OBJECTS}
+use Rattle.argus_contents.specs.{Change.create, Content.PlainContent, Shape.{IsMakeable, PlainShape}}
+use Rattle.argus_contents.specs.{declared.content.Content.Content, declared.limits.TheConstants.MAX_OBJECTS}
 use Rattle.argus_contents.specs.declared.shape.Shape.{Shape}
 use Rattle.argus_entries.proofs.Suiting.{suiting_depth}
 use Rattle.argus_journal.proofs.Fitting.{fits_more}
-use Rattle.argus_journal.specs.JournalView.{JournalView}
-use Rattle.argus_journal.specs.Opening.{Opening, empty, fits_shape, plain_object}
+use Rattle.argus_journal.specs.{JournalView.JournalView, Opening.{Opening, empty, fits_shape, plain_object}}
 use Rattle.argus_reading.specs.OpeningLanguages.{IsReadableContent}
 use Rattle.argus_resume.specs.JournalText.{AreReadableObjects, IsEmptyOrReadable, IsReadableJournal, IsReadableObject}
-use Rattle.argus_resume.specs.Laws.{OpeningsAreReadable}
-use Rattle.argus_resume.specs.ReadableCalls.{HaveReadableCalls}
+use Rattle.argus_resume.specs.{Laws.OpeningsAreReadable, ReadableCalls.HaveReadableCalls}
 use Rattle.argus_resume.specs.SoundFront.{opening_front, sound_count, sound_front}
 use Rattle.argus_resume.specs.WellFormed.{AreWellFormedObjects, IsWellFormedObject, IsWellFormedOption}
 use Rattle.argus_resume.proofs.Readable.{calls_of_readable}

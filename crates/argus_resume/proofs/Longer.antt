@@ -1,30 +1,20 @@
 -- A journal whose listing begins with that of another: what comes after that.
-use Rattle.std.proofs.Common.{◌≡◌, ℕ, ◌+◌, ◌<◌, ◌≤◌, ◌^◌, ◌==◌, List, [], ◌∷◌, ◌++◌, length, refl}
-use Rattle.std.proofs.Common.{sym, ap}
-use Rattle.std.proofs.Common.{◌∙◌, subst, inl, inr, arith, append_assoc, append-nil, length-append, cond, false}
-use Rattle.std.proofs.Common.{reverse}
+use Rattle.std.proofs.Common.{◌≡◌, ℕ, ◌+◌, ◌<◌, ◌≤◌, ◌^◌, ◌==◌, List, [], ◌∷◌, ◌++◌, length, refl, sym, ap, ◌∙◌, subst}
+use Rattle.std.proofs.Common.{inl, inr, arith, append_assoc, append-nil, length-append, cond, false, reverse}
 use Rattle.std.proofs.lemmas.List.{append_cancel_left, length-reverse, reverse-append}
-use Rattle.std.specs.Fmt.{decimal}
-use Rattle.std.specs.Prelude.{Option, codes}
-use Rattle.argus_contents.specs.Content.{PlainContent}
-use Rattle.argus_contents.specs.Shape.{PlainShape}
-use Rattle.argus_contents.specs.declared.limits.TheConstants.{MAX_OBJECTS}
-use Rattle.argus_entries.specs.Entry.{PlainEntry}
-use Rattle.argus_entries.specs.EntrySpelling.{entry_line, entry_spelling}
-use Rattle.argus_journal.specs.JournalView.{JournalView, next_entry}
-use Rattle.argus_journal.specs.Legal.{Legal}
+use Rattle.std.specs.{Fmt.decimal, Prelude.{Option, codes}}
+use Rattle.argus_contents.specs.{Content.PlainContent, Shape.PlainShape, declared.limits.TheConstants.MAX_OBJECTS}
+use Rattle.argus_entries.specs.{Entry.PlainEntry, EntrySpelling.{entry_line, entry_spelling}}
+use Rattle.argus_journal.specs.{JournalView.{JournalView, next_entry}, Legal.Legal}
 use Rattle.argus_journal.specs.Opening.{Opening, empty, opening_at}
 use Rattle.argus_listings.specs.Listing.{each_from, entries_text, folded_line, opened_line, opening_text}
 use Rattle.argus_reading.specs.OpeningLanguages.{FoldedLines, ObjectLines}
 use Rattle.argus_reading.proofs.OpeningParts.{after_clear, before_clear}
 use Rattle.argus_resume.specs.JournalText.{AreReadable, AreReadableObjects, IsReadableJournal, IsReadableObject}
-use Rattle.argus_resume.specs.JournalText.{IsReadableOpening, journal_text}
-use Rattle.argus_resume.specs.Stage.{lines_of}
-use Rattle.argus_resume.proofs.Clean.{folded_clean}
-use Rattle.argus_resume.proofs.Fronts.{entries_front, folded_form, lines_told, no_opening_line}
-use Rattle.argus_resume.proofs.Fronts.{objects_front}
+use Rattle.argus_resume.specs.{JournalText.{IsReadableOpening, journal_text}, Stage.lines_of}
+use Rattle.argus_resume.proofs.{Clean.folded_clean, Openings.{folded_line_form, object_line_form}}
+use Rattle.argus_resume.proofs.Fronts.{entries_front, folded_form, lines_told, no_opening_line, objects_front}
 use Rattle.argus_texts.proofs.Lists.{tail_of}
-use Rattle.argus_resume.proofs.Openings.{folded_line_form, object_line_form}
 
 -- LISTS FROM THE NEWEST ON
 

@@ -1,36 +1,23 @@
 -- No listing with which a reader's text begins is longer than that of the guardian that was made from it.
 use Rattle.std.proofs.Common.{◌≡◌, ◌≢◌, ℕ, ◌+◌, ◌<◌, ◌≤◌, ◌⊎◌, Bool, List, [], ◌∷◌, ◌++◌, length, refl, sym, ap, ◌∙◌}
 use Rattle.std.proofs.Common.{subst, inl, inr, arith, append_assoc, append-nil, length-append, true, drop, take}
-use Rattle.std.proofs.Math.Seq.{take-append_seam}
-use Rattle.std.proofs.lemmas.List.{take-append-drop}
-use Rattle.std.specs.Io.KnownBytes.{IsAtEnd}
-use Rattle.std.specs.Prelude.{Option, Some, codes}
-use Rattle.argus_contents.specs.Content.{PlainContent}
-use Rattle.argus_contents.specs.Shape.{PlainShape}
-use Rattle.argus_entries.specs.Entry.{PlainEntry}
-use Rattle.argus_entries.specs.EntrySpelling.{entry_line, entry_spelling}
-use Rattle.argus_journal.specs.JournalView.{JournalView, next_entry}
-use Rattle.argus_journal.specs.Opening.{Opening, empty, is_sound}
+use Rattle.std.proofs.{Math.Seq.take-append_seam, lemmas.List.take-append-drop}
+use Rattle.std.specs.{Io.KnownBytes.IsAtEnd, Prelude.{Option, Some, codes}}
+use Rattle.argus_contents.specs.{Content.PlainContent, Shape.PlainShape}
+use Rattle.argus_entries.specs.{Entry.PlainEntry, EntrySpelling.{entry_line, entry_spelling}}
+use Rattle.argus_journal.specs.{JournalView.{JournalView, next_entry}, Opening.{Opening, empty, is_sound}}
 use Rattle.argus_listings.specs.Listing.{each_from, entries_text, opening_text}
 use Rattle.argus_reading.specs.OpeningLanguages.{FoldedLines, ObjectLines}
-use Rattle.argus_resume.specs.JournalText.{IsReadableJournal, IsReadableOpening, journal_text}
-use Rattle.argus_resume.specs.Laws.{IsListable}
-use Rattle.argus_resume.specs.Resumed.{IsResumed}
-use Rattle.argus_resume.specs.SoundFront.{opening_front, sound_count, sound_front}
-use Rattle.argus_resume.specs.Stage.{lines_of}
-use Rattle.argus_resume.specs.Taking.{EndsReading, HasNoFeed}
-use Rattle.argus_resume.specs.declared.read_end.ReadEnd.{ReadEnd}
-use Rattle.argus_resume.specs.declared.read_end.ReadEnd.TheVariants as read
+use Rattle.argus_resume.specs.{JournalText.{IsReadableJournal, IsReadableOpening, journal_text}, Laws.IsListable}
+use Rattle.argus_resume.specs.{Resumed.IsResumed, SoundFront.{opening_front, sound_count, sound_front}, Stage.lines_of}
+use Rattle.argus_resume.specs.{Taking.{EndsReading, HasNoFeed}, declared.read_end.ReadEnd.ReadEnd}
 use Rattle.argus_resume.specs.declared.resumed.Resumed.{Resumed}
-use Rattle.argus_resume.proofs.Ends.{fronts_shorter}
+use Rattle.argus_resume.specs.declared.read_end.ReadEnd.TheVariants as read
+use Rattle.argus_resume.proofs.{Ends.fronts_shorter, Longer.{same_parts, with_entries, with_objects, with_opening}}
 use Rattle.argus_resume.proofs.Longer.{Behind, Beyond, beyond, more_objects, numbers, other_opened, same_opening}
-use Rattle.argus_resume.proofs.Longer.{same_parts, with_entries, with_objects, with_opening}
-use Rattle.argus_resume.proofs.NextLines.{behind_none, consumed_front, feed_in, front_line, left_behind}
-use Rattle.argus_resume.proofs.NextLines.{no_fault}
-use Rattle.argus_resume.proofs.Openings.{folded_line_form, object_line_form}
-use Rattle.argus_resume.proofs.Sound.{count_most}
+use Rattle.argus_resume.proofs.NextLines.{behind_none, consumed_front, feed_in, front_line, left_behind, no_fault}
+use Rattle.argus_resume.proofs.{Openings.{folded_line_form, object_line_form}, Sound.count_most, Texts.opened_text}
 use Rattle.argus_resume.proofs.Stages.{front_same, nothing_text}
-use Rattle.argus_resume.proofs.Texts.{opened_text}
 use Rattle.argus_texts.proofs.Lists.{head_of, tail_of}
 
 -- TWO FRONTS OF A TEXT

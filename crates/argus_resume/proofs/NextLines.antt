@@ -1,45 +1,30 @@
 -- No listing is longer than what was taken if the next line is at fault, and a listing is taken whole.
-use Rattle.std.proofs.Common.{◌≡◌, ◌≢◌, ℕ, ◌+◌, ◌<◌, ◌^◌, List, [], ◌∷◌, ◌++◌, length, refl}
-use Rattle.std.proofs.Common.{sym, ap}
-use Rattle.std.proofs.Common.{◌∙◌, subst, inl, inr, arith, append_assoc, append-nil, length-append, true}
-use Rattle.std.proofs.Common.{reverse}
-use Rattle.std.proofs.lemmas.Bool.{false≢true}
-use Rattle.std.proofs.lemmas.List.{reverse-append, take-append-drop}
-use Rattle.std.proofs.Common.{Bool, drop, take}
-use Rattle.std.specs.Io.KnownBytes.{Consumes, IsAtEnd}
-use Rattle.std.specs.Prelude.{None, Option, Some, codes}
-use Rattle.std.specs.Str.{IsUtf8}
-use Rattle.argus_entries.specs.Entry.{PlainEntry}
-use Rattle.argus_entries.specs.EntrySpelling.{entry_line, entry_spelling}
+use Rattle.std.proofs.Common.{◌≡◌, ◌≢◌, ℕ, ◌+◌, ◌<◌, ◌^◌, List, [], ◌∷◌, ◌++◌, length, refl, sym, ap, ◌∙◌, subst, inl}
+use Rattle.std.proofs.Common.{inr, arith, append_assoc, append-nil, length-append, true, reverse, Bool, drop, take}
+use Rattle.std.proofs.{lemmas.Bool.false≢true, lemmas.List.{reverse-append, take-append-drop}}
+use Rattle.std.specs.{Io.KnownBytes.{Consumes, IsAtEnd}, Prelude.{None, Option, Some, codes}, Str.IsUtf8}
+use Rattle.argus_entries.specs.{Entry.PlainEntry, EntrySpelling.{entry_line, entry_spelling}}
 use Rattle.argus_entries.proofs.Lines.{one_line}
-use Rattle.argus_journal.specs.JournalView.{JournalView, next_entry, reply_to}
-use Rattle.argus_journal.specs.Legal.{Legal}
+use Rattle.argus_journal.specs.{JournalView.{JournalView, next_entry, reply_to}, Legal.Legal}
 use Rattle.argus_journal.specs.Opening.{Opening, is_sound}
 use Rattle.argus_listings.specs.Listing.{each_from}
-use Rattle.argus_reading.specs.OpeningLanguages.{FoldedLines, ObjectLines}
-use Rattle.argus_reading.specs.Line.{IsEntryLine, IsReadable}
-use Rattle.argus_resume.specs.JournalText.{AreReadable, IsReadableJournal}
-use Rattle.argus_resume.specs.JournalText.{journal_text}
-use Rattle.argus_resume.specs.Laws.{EndsInFeed, IsListable}
+use Rattle.argus_reading.specs.{OpeningLanguages.{FoldedLines, ObjectLines}, Line.{IsEntryLine, IsReadable}}
+use Rattle.argus_resume.specs.{JournalText.{AreReadable, IsReadableJournal, journal_text}, Resumed.IsResumed}
+use Rattle.argus_resume.specs.{Laws.{EndsInFeed, IsListable}, declared.read_end.ReadEnd.ReadEnd}
 use Rattle.argus_resume.specs.Lines.{IsLineFault, IsLineOf, IsNextOfOpening, IsOfOpening}
-use Rattle.argus_resume.specs.Resumed.{IsResumed}
 use Rattle.argus_resume.specs.Taking.{EndsReading, EndsTaking, HasNoFeed, IsFaulty, IsTorn}
-use Rattle.argus_resume.specs.declared.read_end.ReadEnd.{ReadEnd}
-use Rattle.argus_resume.specs.declared.read_end.ReadEnd.TheVariants as read
-use Rattle.argus_resume.specs.declared.resumed.Resumed.{Resumed}
-use Rattle.argus_resume.proofs.Readable.{readable_by_calls}
-use Rattle.argus_resume.proofs.Stages.{front_same}
-use Rattle.argus_resume.specs.declared.line_fault.LineFault.{LineFault}
-use Rattle.argus_resume.specs.declared.line_fault.LineFault.TheVariants as fault
+use Rattle.argus_resume.specs.{declared.resumed.Resumed.Resumed, declared.line_fault.LineFault.LineFault}
 use Rattle.argus_resume.specs.declared.taken_end.TakenEnd.{TakenEnd}
-use Rattle.argus_resume.specs.declared.taken_end.TakenEnd.TheVariants as end
+use Rattle.argus_resume.specs.declared.read_end.ReadEnd.TheVariants as read
+use Rattle.argus_resume.proofs.{Readable.readable_by_calls, Stages.front_same}
 use Rattle.argus_resume.proofs.Clean.{IsClean, entry_clean, folded_clean, object_clean}
-use Rattle.argus_resume.proofs.Fronts.{feed_told, folded_form, no_line, no_opening_line}
-use Rattle.argus_resume.proofs.Fronts.{object_form}
-use Rattle.argus_texts.proofs.Lists.{head_of, tail_of}
+use Rattle.argus_resume.proofs.Fronts.{feed_told, folded_form, no_line, no_opening_line, object_form}
 use Rattle.argus_resume.proofs.Openings.{folded_line_form, object_line_form, of_opening}
 use Rattle.argus_resume.proofs.Longer.{Behind, compared, folded_begins, no_opening_left, object_begins, older_legal}
 use Rattle.argus_resume.proofs.Longer.{older_readable, with_entries, with_objects, with_opening}
+use Rattle.argus_resume.specs.declared.line_fault.LineFault.TheVariants as fault
+use Rattle.argus_resume.specs.declared.taken_end.TakenEnd.TheVariants as end
+use Rattle.argus_texts.proofs.Lists.{head_of, tail_of}
 
 -- what can be listed can be read: of its replies nothing is asked
 pub listed_readable : (journal : JournalView) → IsListable journal → IsReadableJournal journal

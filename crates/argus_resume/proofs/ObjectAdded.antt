@@ -1,19 +1,15 @@
 -- An opening with one more object, from the line that spells it.
 use Rattle.std.proofs.Common.{◌≡◌, ℕ, ◌+◌, ◌<◌, List, [], ◌∷◌, ◌++◌, length, sym, ap, ◌∙◌, subst, arith, true}
-use Rattle.std.proofs.Common.{length-append}
-use Rattle.std.proofs.lemmas.List.{length-map, map-append}
+use Rattle.std.proofs.{Common.length-append, lemmas.List.{length-map, map-append}}
 use Rattle.std.specs.Prelude.{Option, Some, codes}
-use Rattle.argus_contents.specs.Content.{PlainContent}
-use Rattle.argus_contents.specs.Shape.{PlainShape}
-use Rattle.argus_contents.specs.declared.limits.TheConstants.{MAX_OBJECTS}
+use Rattle.argus_contents.specs.{Content.PlainContent, Shape.PlainShape, declared.limits.TheConstants.MAX_OBJECTS}
 use Rattle.argus_journal.specs.Opening.{fits_shape, opening_at}
 use Rattle.argus_listings.specs.Listing.{each_from, folded_line, opened_line}
 use Rattle.argus_reading.specs.OpeningLanguages.{IsForm, ObjectLines}
 use Rattle.argus_resume.specs.JournalText.{AreReadableObjects, IsReadableObject, IsReadableOpening}
 use Rattle.argus_resume.specs.Stage.{AreEnds, lines_of, object_read, objects_read, opening_line}
 use Rattle.argus_resume.specs.declared.opened_object.OpenedObject.{OpenedObject}
-use Rattle.argus_resume.proofs.Ends.{ends_push, lines_bytes}
-use Rattle.argus_resume.proofs.Openings.{object_line_form, readable_push}
+use Rattle.argus_resume.proofs.{Ends.{ends_push, lines_bytes}, Openings.{object_line_form, readable_push}}
 use Rattle.argus_resume.proofs.Texts.{object_text}
 
 abbrev Fits : PlainShape × Option PlainContent → Type 0

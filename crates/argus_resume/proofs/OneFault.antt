@@ -1,22 +1,17 @@
 -- A line has at most one fault: what each says excludes the others.
 use Rattle.std.proofs.Common.{◌≡◌, ◌≢◌, ℕ, ◌<◌, ◌^◌, List, refl, sym, ap, ◌∙◌, subst, inl, inr, ◌⊎◌}
-use Rattle.std.proofs.lemmas.Bool.{false≢true}
-use Rattle.std.proofs.lemmas.Str.{utf8_valid_len-IsValidUpTo}
+use Rattle.std.proofs.{lemmas.Bool.false≢true, lemmas.Str.utf8_valid_len-IsValidUpTo}
 use Rattle.std.specs.Str.{IsUtf8, IsValidUpTo}
-use Rattle.argus_entries.specs.Entry.{PlainEntry}
-use Rattle.argus_entries.specs.Reply.{PlainReply, plain_reply}
+use Rattle.argus_entries.specs.{Entry.PlainEntry, Reply.{PlainReply, plain_reply}}
 use Rattle.argus_entries.proofs.Lines.{one_line}
 use Rattle.argus_journal.specs.JournalView.{JournalView, next_entry, reply_to}
-use Rattle.argus_reading.specs.Laws.{TextsHaveOneError}
-use Rattle.argus_reading.specs.Line.{IsEntryLine, IsNoLine, LacksShape, Tells}
+use Rattle.argus_reading.specs.{Laws.TextsHaveOneError, Line.{IsEntryLine, IsNoLine, LacksShape, Tells}}
 use Rattle.argus_reading.specs.declared.read_entry_error.ReadEntryError.{ReadEntryError}
 use Rattle.argus_reading.specs.declared.read_entry_error.ReadEntryError.TheVariants as error
-use Rattle.argus_resume.specs.Laws.{IsSameFault}
+use Rattle.argus_resume.specs.{Laws.IsSameFault, declared.line_fault.LineFault.LineFault}
 use Rattle.argus_resume.specs.Lines.{HasOtherNumber, HasOtherReply, IsBehindUnsound, IsLineFault, IsLineOf, IsOfOpening}
-use Rattle.argus_resume.specs.declared.line_fault.LineFault.{LineFault}
 use Rattle.argus_resume.specs.declared.line_fault.LineFault.TheVariants as fault
-use Rattle.argus_resume.proofs.Clean.{entry_clean}
-use Rattle.argus_resume.proofs.NextLines.{no_entry_of_opening}
+use Rattle.argus_resume.proofs.{Clean.entry_clean, NextLines.no_entry_of_opening}
 
 -- THE LINE OF AN ENTRY
 

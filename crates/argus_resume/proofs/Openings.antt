@@ -1,24 +1,16 @@
 -- The lines of openings: what each says, and what can't be the next one.
-use Rattle.std.proofs.Common.{◌≡◌, ℕ, ◌<◌, List, [], ◌∷◌, ◌++◌, length, refl, sym, ◌∙◌, subst, inl, inr}
-use Rattle.std.proofs.Common.{append_assoc, arith, true}
-use Rattle.std.proofs.lemmas.List.{append_cancel_left, append_cancel_right}
-use Rattle.std.specs.Fmt.{decimal}
+use Rattle.std.proofs.Common.{◌≡◌, ℕ, ◌<◌, List, [], ◌∷◌, ◌++◌, length, refl, sym, ◌∙◌, subst, inl, inr, append_assoc}
+use Rattle.std.proofs.{Common.{arith, true}, lemmas.List.{append_cancel_left, append_cancel_right}}
 use Rattle.std.proofs.lemmas.Str.{IsUtf8-append}
-use Rattle.std.specs.Prelude.{Option, Some, codes}
-use Rattle.std.specs.Str.{IsUtf8}
-use Rattle.argus_contents.specs.Content.{PlainContent}
-use Rattle.argus_contents.specs.Shape.{PlainShape}
-use Rattle.argus_contents.specs.declared.limits.TheConstants.{MAX_OBJECTS}
-use Rattle.argus_journal.specs.JournalView.{JournalView, next_entry}
-use Rattle.argus_journal.specs.Opening.{Opening, fits_shape}
+use Rattle.std.specs.{Fmt.decimal, Prelude.{Option, Some, codes}, Str.IsUtf8}
+use Rattle.argus_contents.specs.{Content.PlainContent, Shape.PlainShape, declared.limits.TheConstants.MAX_OBJECTS}
+use Rattle.argus_journal.specs.{JournalView.{JournalView, next_entry}, Opening.{Opening, fits_shape}}
 use Rattle.argus_listings.specs.Listing.{folded_line, opened_line}
 use Rattle.argus_reading.specs.OpeningLanguages.{FoldedLines, IsForm, ObjectLines, content_text}
 use Rattle.argus_reading.proofs.Told.{object_told}
-use Rattle.argus_texts.specs.Language.{FormOf}
-use Rattle.argus_texts.specs.ShapeSpelling.{shape_spelling}
-use Rattle.argus_resume.specs.JournalText.{AreReadableObjects, IsReadableObject}
+use Rattle.argus_texts.specs.{Language.FormOf, ShapeSpelling.shape_spelling}
+use Rattle.argus_resume.specs.{JournalText.{AreReadableObjects, IsReadableObject}, Stage.{opened_alone, opening_line}}
 use Rattle.argus_resume.specs.Lines.{AddsObject, BeginsOpening, IsLineFault, IsNextOfOpening, IsOfOpening}
-use Rattle.argus_resume.specs.Stage.{opened_alone, opening_line}
 use Rattle.argus_resume.specs.declared.line_fault.LineFault.TheVariants as fault
 use Rattle.argus_resume.proofs.Clean.{word_clean}
 

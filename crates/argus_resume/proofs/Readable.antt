@@ -1,15 +1,12 @@
 -- The lines of a legal journal can be read exactly if its calls can.
 use Rattle.std.proofs.Common.{List, [], subst, sym, true, ◌∷◌, ◌≡◌}
 use Rattle.argus_contents.specs.declared.limits.TheConstants.{MAX_VALUE_DEPTH}
-use Rattle.argus_entries.specs.Entry.{PlainEntry}
-use Rattle.argus_entries.specs.Laws.{ReplyWithin}
-use Rattle.argus_journal.specs.Legal.{Legal}
-use Rattle.argus_journal.specs.Opening.{Opening, is_sound}
+use Rattle.argus_entries.specs.{Entry.PlainEntry, Laws.ReplyWithin}
+use Rattle.argus_journal.specs.{Legal.Legal, Opening.{Opening, is_sound}}
 use Rattle.argus_reading.specs.Line.{IsReadable}
 use Rattle.argus_resume.specs.ReadableCalls.{HasReadableCall, HaveReadableCalls}
 use Rattle.argus_resume.specs.JournalText.{AreReadable, IsEmptyOrReadable}
-use Rattle.argus_resume.proofs.Granted.{call_shallow, shapes_makeable}
-use Rattle.argus_resume.proofs.Replies.{answer_readable, begins_objects}
+use Rattle.argus_resume.proofs.{Granted.{call_shallow, shapes_makeable}, Replies.{answer_readable, begins_objects}}
 use Rattle.argus_resume.proofs.Seen.{CallsWithin}
 
 module _ (s : Opening) (begins : IsEmptyOrReadable s) (sound : is_sound s ≡ true) where

@@ -1,21 +1,15 @@
 -- How much of what a reader had was taken, read by read.
 use Rattle.std.proofs.Common.{◌≡◌, ℕ, ◌+◌, ◌≤◌, Bool, false, List, [], ◌∷◌, ◌++◌, length, None, Option, Some, take}
-use Rattle.std.proofs.Common.{drop}
-use Rattle.std.proofs.Common.{refl, sym, ap, ◌∙◌, subst, arith, append_assoc, append-nil, length-append, length-drop}
-use Rattle.std.proofs.Common.{take-add, ◌-◌}
+use Rattle.std.proofs.Common.{drop, refl, sym, ap, ◌∙◌, subst, arith, append_assoc, append-nil, length-append}
+use Rattle.std.proofs.{Common.{length-drop, take-add, ◌-◌}, lemmas.Option.none-some}
 use Rattle.std.proofs.lemmas.List.{drop-append-le, drop-drop, length-take-le, take-append-le, take-take}
-use Rattle.std.proofs.lemmas.Option.{none-some}
-use Rattle.std.specs.Option.{unwrap_or}
-use Rattle.std.specs.Io.KnownBytes.{Consumes, IsAtEnd, Keeps}
+use Rattle.std.specs.{Option.unwrap_or, Io.KnownBytes.{Consumes, IsAtEnd, Keeps}}
 use Rattle.argus_journal.specs.JournalView.{JournalView}
-use Rattle.argus_resume.specs.JournalText.{IsReadableJournal, journal_text, no_journal}
-use Rattle.argus_resume.specs.Resumed.{IsResumed, taken_in}
-use Rattle.argus_resume.specs.SoundFront.{sound_front}
-use Rattle.argus_resume.specs.declared.resumed.Resumed.{Resumed}
+use Rattle.argus_resume.specs.{JournalText.{IsReadableJournal, journal_text, no_journal}, Resumed.{IsResumed, taken_in}}
+use Rattle.argus_resume.specs.{SoundFront.sound_front, declared.resumed.Resumed.Resumed}
 use Rattle.argus_resume.specs.Taking.{EndsChunk, EndsReading, HasNoFeed, TakesFrom, early_end, end_behind, line_count}
-use Rattle.argus_resume.specs.declared.read_end.ReadEnd.{ReadEnd}
+use Rattle.argus_resume.specs.{declared.read_end.ReadEnd.ReadEnd, declared.taken_end.TakenEnd.TakenEnd}
 use Rattle.argus_resume.specs.declared.read_end.ReadEnd.TheVariants as end_of
-use Rattle.argus_resume.specs.declared.taken_end.TakenEnd.{TakenEnd}
 use Rattle.argus_resume.specs.declared.taken_end.TakenEnd.TheVariants as taken
 use Rattle.argus_resume.proofs.Feeds.{count-append}
 

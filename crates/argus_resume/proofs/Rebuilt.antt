@@ -1,16 +1,12 @@
 -- A journal that is rebuilt entry by entry, the oldest first.
 use Rattle.std.proofs.Common.{◌≡◌, ℕ, suc, zero, ◌+◌, ◌-◌, ◌<◌, ◌≤◌, List, [], ◌∷◌, length, drop, get_or, sym, ap, ◌∙◌}
 use Rattle.std.proofs.Common.{None, Option, Some, subst, arith, cond, false, nat_lt, reverse, drop-cons, inl, inr, refl}
-use Rattle.std.proofs.Common.{◌≢◌}
-use Rattle.std.proofs.lemmas.List.{get_or-reverse, length-reverse}
+use Rattle.std.proofs.{Common.{◌≢◌}, lemmas.List.{get_or-reverse, length-reverse}}
 use Rattle.std.proofs.lemmas.Option.{get_or_from_slice_get, none-some, slice_get_cases, slice_get_within}
 use Rattle.std.specs.Prelude.{slice_get}
 use Rattle.argus_entries.specs.Entry.{PlainEntry}
-use Rattle.argus_journal.specs.Answers.{answer}
-use Rattle.argus_journal.specs.Journal.{entry_at}
+use Rattle.argus_journal.specs.{Answers.answer, Journal.entry_at, Legal.Legal, Opening.Opening}
 use Rattle.argus_journal.specs.JournalView.{JournalView, after, entry_with, reply_to}
-use Rattle.argus_journal.specs.Legal.{Legal}
-use Rattle.argus_journal.specs.Opening.{Opening}
 use Rattle.argus_resume.specs.Without.{without_newest}
 
 -- the older entries of a legal journal are legal

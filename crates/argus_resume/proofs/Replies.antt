@@ -1,23 +1,14 @@
 -- The replies of a legal journal can be read if its opening and its calls can.
-use Rattle.std.proofs.Common.{Bool, List, None, Option, Some, arith, inl, inr, subst, sym, true, ℕ, ◌+◌}
-use Rattle.std.proofs.Common.{◌<◌, ◌^◌, ◌≡◌}
-use Rattle.argus_contents.specs.Content.{KeepsLimits, PlainContent}
-use Rattle.argus_contents.specs.declared.limits.TheConstants.{MAX_VALUE_DEPTH}
+use Rattle.std.proofs.Common.{Bool, List, None, Option, Some, arith, inl, inr, subst, sym, true, ℕ, ◌+◌, ◌<◌, ◌^◌, ◌≡◌}
+use Rattle.argus_contents.specs.{Content.{KeepsLimits, PlainContent}, declared.limits.TheConstants.MAX_VALUE_DEPTH}
 use Rattle.argus_entries.specs.Call.{PlainCall, abort, abort_others, alter, ask, begin_nested, begin_sub, begin_top}
-use Rattle.argus_entries.specs.Call.{commit, declare, test_read, test_write}
-use Rattle.argus_entries.specs.Entry.{PlainEntry}
-use Rattle.argus_entries.specs.Laws.{CallWithin, ReplyWithin}
-use Rattle.argus_entries.specs.declared.refusal.Refusal.{Refusal}
-use Rattle.argus_journal.specs.Answers.{answer, granted, or_refused, refusal, visible_in_history}
-use Rattle.argus_journal.specs.Events.{history}
-use Rattle.argus_journal.specs.JournalFacts.{next_action_number}
-use Rattle.argus_journal.specs.Legal.{Legal}
-use Rattle.argus_journal.specs.Objects.{declared, shape_of, shapes}
+use Rattle.argus_entries.specs.{Call.{commit, declare, test_read, test_write}, Entry.PlainEntry}
+use Rattle.argus_entries.specs.{Laws.{CallWithin, ReplyWithin}, declared.refusal.Refusal.Refusal}
+use Rattle.argus_journal.specs.{Answers.{answer, granted, or_refused, refusal, visible_in_history}, Events.history}
+use Rattle.argus_journal.specs.{JournalFacts.next_action_number, Legal.Legal, Objects.{declared, shape_of, shapes}}
 use Rattle.argus_journal.specs.Opening.{KeepsNumbers, Opening, content_in, is_sound}
 use Rattle.argus_model.specs.Owner.{counts_for, owner}
-use Rattle.argus_journal.proofs.Contents.{content_fits}
-use Rattle.argus_journal.proofs.Fitting.{fits_keeps}
-use Rattle.argus_journal.proofs.Within.{actions_within, objects_within}
+use Rattle.argus_journal.proofs.{Contents.content_fits, Fitting.fits_keeps, Within.{actions_within, objects_within}}
 use Rattle.argus_resume.specs.JournalText.{AreReadableObjects, IsEmptyOrReadable}
 use Rattle.argus_resume.proofs.Depths.{answer_within, change_within, ValuesWithin}
 use Rattle.argus_resume.proofs.Seen.{CallsWithin, opened_within, seen_within}

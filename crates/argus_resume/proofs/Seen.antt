@@ -1,22 +1,15 @@
 -- What is in an object is no deeper than what the opening had and what calls passed in.
 use Rattle.std.proofs.Common.{Bool, List, None, Option, Some, [], false, suc, true, zero, ℕ, ◌+◌, ◌∷◌}
 use Rattle.std.specs.Prelude.{◌&&◌, ◌==◌}
-use Rattle.argus_contents.specs.Change.{touch}
-use Rattle.argus_contents.specs.Content.{PlainContent}
-use Rattle.argus_contents.specs.Shape.{PlainShape}
+use Rattle.argus_contents.specs.{Change.touch, Content.PlainContent, Shape.PlainShape}
 use Rattle.argus_contents.specs.declared.limits.TheConstants.{MAX_VALUE_DEPTH}
 use Rattle.argus_entries.specs.Call.{PlainCall, abort, abort_others, alter, ask, begin_nested, begin_sub, begin_top}
-use Rattle.argus_entries.specs.Call.{commit, declare, test_read, test_write}
-use Rattle.argus_entries.specs.Entry.{PlainEntry}
-use Rattle.argus_entries.specs.Laws.{CallWithin}
+use Rattle.argus_entries.specs.{Call.{commit, declare, test_read, test_write}, Entry.PlainEntry, Laws.CallWithin}
 use Rattle.argus_entries.specs.Reply.{PlainReply}
-use Rattle.argus_model.specs.Contents.{replay}
-use Rattle.argus_model.specs.Event.{Accessed, Began, Committed, Aborted, Event, Nested, Sub, Top}
-use Rattle.argus_model.specs.History.{History, ◌▹◌}
-use Rattle.argus_model.specs.Status.{live_siblings}
-use Rattle.argus_journal.specs.Entries.{content_after_call, entries, is_write}
+use Rattle.argus_model.specs.{Contents.replay, Event.{Accessed, Began, Committed, Aborted, Event, Nested, Sub, Top}}
+use Rattle.argus_model.specs.{History.{History, ◌▹◌}, Status.live_siblings}
+use Rattle.argus_journal.specs.{Entries.{content_after_call, entries, is_write}, Opening.{Opening, content_in}}
 use Rattle.argus_journal.specs.Events.{event_if, event_of, history, is_answered, is_begun_reply, says_yes, with_event}
-use Rattle.argus_journal.specs.Opening.{Opening, content_in}
 use Rattle.argus_reading.specs.OpeningLanguages.{IsReadableContent}
 use Rattle.argus_resume.specs.JournalText.{AreReadableObjects}
 use Rattle.argus_resume.proofs.Depths.{ValuesWithin, by_if, change_within, parts_within}

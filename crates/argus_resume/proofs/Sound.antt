@@ -1,17 +1,13 @@
 -- The longest prefix of an opening that is sound.
-use Rattle.std.proofs.Common.{◌≡◌, ℕ, suc, zero, ◌<◌, ◌≤◌, ◌&&◌, Bool, true, false, cond, List, [], ◌∷◌, length}
-use Rattle.std.proofs.Common.{Option, Some, take, get_or, refl, sym, ap, ◌∙◌, subst, arith, inl, inr, length-take}
-use Rattle.std.proofs.lemmas.Bool.{cases_lt}
-use Rattle.std.proofs.Math.Seq.{take-length}
-use Rattle.std.proofs.lemmas.List.{get_or-map, get_or-take, length-map}
+use Rattle.std.proofs.Common.{◌≡◌, ℕ, suc, zero, ◌<◌, ◌≤◌, ◌&&◌, Bool, true, false, cond, List, [], ◌∷◌, length, Option}
+use Rattle.std.proofs.Common.{Some, take, get_or, refl, sym, ap, ◌∙◌, subst, arith, inl, inr, length-take}
+use Rattle.std.proofs.{lemmas.Bool.cases_lt, Math.Seq.take-length, lemmas.List.{get_or-map, get_or-take, length-map}}
 use Rattle.std.proofs.lemmas.List.Folds.{list_all_at}
 use Rattle.std.specs.List.{list_all}
-use Rattle.argus_contents.specs.Content.{PlainContent}
-use Rattle.argus_contents.specs.Shape.{PlainShape}
+use Rattle.argus_contents.specs.{Content.PlainContent, Shape.PlainShape}
 use Rattle.argus_journal.specs.Opening.{Opening, fits_shape, is_sound, opening_at}
 use Rattle.argus_journal.proofs.Fitting.{fits_more}
-use Rattle.argus_resume.specs.Stage.{object_read, objects_read}
-use Rattle.argus_resume.specs.declared.opened_object.OpenedObject.{OpenedObject}
+use Rattle.argus_resume.specs.{Stage.{object_read, objects_read}, declared.opened_object.OpenedObject.OpenedObject}
 use Rattle.argus_resume.specs.SoundFront.{opening_front, sound_count}
 
 -- the object fits with so many objects

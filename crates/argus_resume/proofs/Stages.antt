@@ -1,21 +1,16 @@
 -- How a stage advances by a line.
-use Rattle.std.proofs.Common.{◌≡◌, ℕ, ◌<◌, ◌==◌, List, [], ◌∷◌, ◌++◌, length, refl, sym, ap, ◌∙◌, subst}
-use Rattle.std.proofs.Common.{inl, inr, arith, true, false, cond}
+use Rattle.std.proofs.Common.{◌≡◌, ℕ, ◌<◌, ◌==◌, List, [], ◌∷◌, ◌++◌, length, refl, sym, ap, ◌∙◌, subst, inl, inr}
+use Rattle.std.proofs.Common.{arith, true, false, cond}
 use Rattle.std.specs.Prelude.{Err, Ok, OnOk, Result, codes}
 use Rattle.argus_entries.specs.Entry.{PlainEntry}
-use Rattle.argus_journal.specs.JournalView.{JournalView, next_entry, with_entry}
-use Rattle.argus_journal.specs.Opening.{Opening, is_sound}
+use Rattle.argus_journal.specs.{JournalView.{JournalView, next_entry, with_entry}, Opening.{Opening, is_sound}}
 use Rattle.argus_listings.specs.Listing.{entries_text, opening_text}
 use Rattle.argus_reading.specs.Line.{IsReadable}
-use Rattle.argus_resume.specs.JournalText.{IsReadableJournal, journal_text}
-use Rattle.argus_resume.specs.Lines.{IsNextOfOpening, IsOfOpening}
-use Rattle.argus_resume.specs.SoundFront.{sound_front}
+use Rattle.argus_resume.specs.{JournalText.{IsReadableJournal, journal_text}, Lines.{IsNextOfOpening, IsOfOpening}}
+use Rattle.argus_resume.specs.{SoundFront.sound_front, declared.entry_lines.EntryLines.EntryLines}
 use Rattle.argus_resume.specs.Stage.{HasEntries, lines_of, opened_alone, opening_line, taken_by}
-use Rattle.argus_resume.specs.declared.entry_lines.EntryLines.{EntryLines}
 use Rattle.argus_resume.specs.Without.{without_newest}
-use Rattle.argus_resume.proofs.Openings.{of_opening}
-use Rattle.argus_resume.proofs.Sound.{sound_whole}
-use Rattle.argus_resume.proofs.Texts.{opened_text}
+use Rattle.argus_resume.proofs.{Openings.of_opening, Sound.sound_whole, Texts.opened_text}
 
 -- behind an entry, or behind what isn't an opening alone, there is no line of an opening
 pub behind_entries : (journal : JournalView) (rest : List ℕ) → HasEntries journal → 0 < next_entry journal

@@ -1,17 +1,12 @@
 -- How a listing grows by a line.
-use Rattle.std.proofs.Common.{◌≡◌, ℕ, ◌+◌, ◌<◌, ◌==◌, List, [], ◌∷◌, ◌++◌, length, sym, ap, ◌∙◌}
-use Rattle.std.proofs.Common.{append-nil, append_assoc, arith, cond, false, reverse}
-use Rattle.std.proofs.lemmas.List.{length-reverse, reverse-append}
+use Rattle.std.proofs.Common.{◌≡◌, ℕ, ◌+◌, ◌<◌, ◌==◌, List, [], ◌∷◌, ◌++◌, length, sym, ap, ◌∙◌, append-nil}
+use Rattle.std.proofs.{Common.{append_assoc, arith, cond, false, reverse}, lemmas.List.{length-reverse, reverse-append}}
 use Rattle.std.specs.Prelude.{Option}
-use Rattle.argus_contents.specs.Content.{PlainContent}
-use Rattle.argus_contents.specs.Shape.{PlainShape}
-use Rattle.argus_entries.specs.Entry.{PlainEntry}
-use Rattle.argus_entries.specs.EntrySpelling.{entry_line, entry_spelling}
-use Rattle.argus_journal.specs.JournalView.{JournalView, next_entry, with_entry}
-use Rattle.argus_journal.specs.Opening.{Opening, opening_at}
+use Rattle.argus_contents.specs.{Content.PlainContent, Shape.PlainShape}
+use Rattle.argus_entries.specs.{Entry.PlainEntry, EntrySpelling.{entry_line, entry_spelling}}
+use Rattle.argus_journal.specs.{JournalView.{JournalView, next_entry, with_entry}, Opening.{Opening, opening_at}}
 use Rattle.argus_listings.specs.Listing.{each_from, entries_text, folded_line, opened_line, opening_text}
-use Rattle.argus_resume.specs.JournalText.{journal_text}
-use Rattle.argus_resume.specs.Stage.{lines_of, opened_alone}
+use Rattle.argus_resume.specs.{JournalText.journal_text, Stage.{lines_of, opened_alone}}
 
 pub each_from-append : {A : Type 0} (f : ℕ → A → List ℕ) (n : ℕ) (xs ys : List A)
     → each_from f n (xs ++ ys) ≡ each_from f n xs ++ each_from f (n + length xs) ys

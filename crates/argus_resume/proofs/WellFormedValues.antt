@@ -1,13 +1,12 @@
 -- A value of some depth has any greater one, too.
-use Rattle.std.proofs.Common.{Bool, Box, Global, List, String, Vec, [], arith, max, string_bytes, subst, sym, ℕ, ℤ, ◌++◌}
-use Rattle.std.proofs.Common.{◌-◌, ◌<◌, ◌^◌, ◌∷◌, ◌≡◌, ◌≤◌, ◌+◌, get_or, length, rules, take}
+use Rattle.std.proofs.Common.{Bool, Box, Global, List, String, Vec, [], arith, max, string_bytes, subst, sym, ℕ, ℤ}
+use Rattle.std.proofs.Common.{◌++◌, ◌-◌, ◌<◌, ◌^◌, ◌∷◌, ◌≡◌, ◌≤◌, ◌+◌, get_or, length, rules, take}
 use Rattle.std.proofs.lemmas.List.{map-append, take_all, take_more}
 use Rattle.std.specs.Str.{IsUtf8}
 use Rattle.argus_contents.specs.Value.{PlainValue, PlainValues, listed, plain_list, plain_value}
+use Rattle.argus_contents.specs.{declared.obj_id.ObjId.ObjId, declared.value.Value.Value}
 use Rattle.argus_contents.specs.Value as value
 use Rattle.argus_contents.proofs.Levels.{plain_value-Choice, plain_value-Fields}
-use Rattle.argus_contents.specs.declared.obj_id.ObjId.{ObjId}
-use Rattle.argus_contents.specs.declared.value.Value.{Value}
 use Rattle.argus_contents.specs.declared.value.Value as V
 use Rattle.argus_memory.specs.declared.limited.Limited.{Limited}
 use Rattle.argus_texts.specs.Spelling.{AllWithin, IsI64, Within}

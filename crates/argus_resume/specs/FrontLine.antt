@@ -1,15 +1,11 @@
 -- A line at the front of a text, with its end.
 use Rattle.std.specs.Prelude.{List, ℕ, ◌++◌, ◌≡◌}
-use Rattle.argus_entries.specs.Call.{PlainCall}
-use Rattle.argus_entries.specs.Entry.{PlainEntry}
-use Rattle.argus_entries.specs.EntrySpelling.{entry_line}
-use Rattle.argus_entries.specs.Reply.{PlainReply}
+use Rattle.argus_entries.specs.{Call.PlainCall, Entry.PlainEntry, EntrySpelling.entry_line, Reply.PlainReply}
 use Rattle.argus_journal.specs.JournalView.{JournalView}
 use Rattle.argus_reading.specs.Line.{IsReadable}
-use Rattle.argus_resume.specs.Taking.{IsFaulty}
-use Rattle.argus_resume.specs.declared.line_error.LineError.{LineError}
-use Rattle.argus_resume.specs.declared.line_error.LineError.TheVariants as error
+use Rattle.argus_resume.specs.{Taking.IsFaulty, declared.line_error.LineError.LineError}
 use Rattle.argus_resume.specs.declared.taken_end.TakenEnd.{TakenEnd}
+use Rattle.argus_resume.specs.declared.line_error.LineError.TheVariants as error
 use Rattle.argus_resume.specs.declared.taken_end.TakenEnd.TheVariants as taken
 
 -- the entry with this call and this reply

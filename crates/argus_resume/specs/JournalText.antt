@@ -1,14 +1,10 @@
 -- The listing of a journal, and the journals that lines can spell.
 use Rattle.std.specs.Prelude.{List, Option, Some, [], true, ℕ, ◌++◌, ◌<◌, ◌∷◌, ◌≡◌, ◌⊎◌}
-use Rattle.argus_contents.specs.Content.{PlainContent}
-use Rattle.argus_contents.specs.Shape.{PlainShape}
-use Rattle.argus_contents.specs.declared.limits.TheConstants.{MAX_OBJECTS}
+use Rattle.argus_contents.specs.{Content.PlainContent, Shape.PlainShape, declared.limits.TheConstants.MAX_OBJECTS}
 use Rattle.argus_entries.specs.Entry.{PlainEntry}
-use Rattle.argus_journal.specs.JournalView.{JournalView}
-use Rattle.argus_journal.specs.Opening.{KeepsNumbers, Opening, empty, fits_shape}
+use Rattle.argus_journal.specs.{JournalView.JournalView, Opening.{KeepsNumbers, Opening, empty, fits_shape}}
 use Rattle.argus_listings.specs.Listing.{entries_text, opening_text}
-use Rattle.argus_reading.specs.OpeningLanguages.{IsReadableContent}
-use Rattle.argus_reading.specs.Line.{IsReadable}
+use Rattle.argus_reading.specs.{OpeningLanguages.IsReadableContent, Line.IsReadable}
 use Rattle.argus_texts.specs.ShapeSpelling.{IsMakeable}
 
 -- the listing of a journal

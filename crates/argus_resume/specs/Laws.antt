@@ -1,30 +1,19 @@
 -- The laws of what is taken.
-use Rattle.std.specs.Prelude.{Bool, List, Option, Some, [], true, ℕ, ◌++◌, ◌<◌, ◌∷◌, ◌^◌, ◌≡◌, ◌≢◌}
-use Rattle.std.specs.Prelude.{length, ◌≤◌, ◌↔◌}
-use Rattle.argus_contents.specs.Content.{PlainContent}
-use Rattle.argus_contents.specs.Shape.{PlainShape}
+use Rattle.std.specs.Prelude.{Bool, List, Option, Some, [], true, ℕ, ◌++◌, ◌<◌, ◌∷◌, ◌^◌, ◌≡◌, ◌≢◌, length, ◌≤◌, ◌↔◌}
+use Rattle.argus_contents.specs.{Content.PlainContent, Shape.PlainShape}
 use Rattle.argus_core.specs.Checkpoint.{after_checkpoint}
-use Rattle.argus_entries.specs.Call.{PlainCall}
-use Rattle.argus_entries.specs.Reply.{plain_reply}
-use Rattle.argus_entries.specs.declared.reply.Reply.{Reply}
-use Rattle.argus_journal.specs.JournalView.{JournalView, after, entry_of, next_entry}
-use Rattle.argus_journal.specs.Legal.{Legal}
+use Rattle.argus_entries.specs.{Call.PlainCall, Reply.plain_reply, declared.reply.Reply.Reply}
+use Rattle.argus_journal.specs.{JournalView.{JournalView, after, entry_of, next_entry}, Legal.Legal}
 use Rattle.argus_journal.specs.Opening.{KeepsNumbers, is_sound, opening_at}
 use Rattle.argus_journal.specs.declared.limits.TheConstants.{MAX_FIRST_ENTRY}
-use Rattle.argus_resume.specs.JournalText.{AreReadable, IsEmptyOrReadable, IsReadableJournal}
-use Rattle.argus_resume.specs.JournalText.{IsReadableOpening}
-use Rattle.argus_resume.specs.JournalText.{journal_text}
-use Rattle.argus_resume.specs.Lines.{IsLineFault}
-use Rattle.argus_resume.specs.ReadableCalls.{HasReadableCall, HaveReadableCalls}
-use Rattle.argus_resume.specs.Resumed.{IsResumed}
-use Rattle.argus_resume.specs.SoundFront.{sound_front}
-use Rattle.argus_resume.specs.Taking.{EndsTaking, IsFaulty}
-use Rattle.argus_resume.specs.declared.line_fault.LineFault.{LineFault}
-use Rattle.argus_resume.specs.declared.line_fault.LineFault.TheVariants as fault
-use Rattle.argus_resume.specs.declared.read_end.ReadEnd.TheVariants as read
-use Rattle.argus_resume.specs.declared.resumed.Resumed.{Resumed}
+use Rattle.argus_resume.specs.JournalText.{AreReadable, IsEmptyOrReadable, IsReadableJournal, IsReadableOpening}
+use Rattle.argus_resume.specs.{JournalText.journal_text, Lines.IsLineFault, Resumed.IsResumed, SoundFront.sound_front}
+use Rattle.argus_resume.specs.{ReadableCalls.{HasReadableCall, HaveReadableCalls}, Taking.{EndsTaking, IsFaulty}}
+use Rattle.argus_resume.specs.{declared.line_fault.LineFault.LineFault, declared.resumed.Resumed.Resumed}
 use Rattle.argus_resume.specs.declared.taken_end.TakenEnd.{TakenEnd}
 use Rattle.argus_resume.specs.declared.taken_end.TakenEnd.TheVariants.{OutOfMemory, Whole}
+use Rattle.argus_resume.specs.declared.line_fault.LineFault.TheVariants as fault
+use Rattle.argus_resume.specs.declared.read_end.ReadEnd.TheVariants as read
 
 -- a journal that a guardian can have and lines can spell: it is legal, its opening is sound and can
 -- be read, its entries are numbered within 64 bits, and each of its calls can be read. Nothing is

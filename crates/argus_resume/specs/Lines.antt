@@ -1,25 +1,17 @@
 -- What a line may be after a journal's listing, and what a fault says of one that isn't the next.
-use Rattle.std.specs.Prelude.{List, [], codes, false, length, true, ℕ, ◌++◌, ◌<◌, ◌^◌, ◌∷◌, ◌≡◌}
-use Rattle.std.specs.Prelude.{◌≢◌, ◌≤◌, ◌⊎◌}
+use Rattle.std.specs.Prelude.{List, [], codes, false, length, true, ℕ, ◌++◌, ◌<◌, ◌^◌, ◌∷◌, ◌≡◌, ◌≢◌, ◌≤◌, ◌⊎◌, Option}
 use Rattle.std.specs.Str.{IsUtf8, IsValidUpTo}
-use Rattle.std.specs.Prelude.{Option}
-use Rattle.argus_contents.specs.Content.{PlainContent}
-use Rattle.argus_contents.specs.Shape.{PlainShape}
+use Rattle.argus_contents.specs.{Content.PlainContent, Shape.PlainShape}
 use Rattle.argus_contents.specs.declared.limits.TheConstants.{MAX_ACTIONS, MAX_OBJECTS}
-use Rattle.argus_entries.specs.Entry.{PlainEntry}
-use Rattle.argus_entries.specs.EntrySpelling.{entry_spelling}
-use Rattle.argus_entries.specs.Reply.{PlainReply, plain_reply}
-use Rattle.argus_journal.specs.JournalView.{JournalView, next_entry, reply_to}
-use Rattle.argus_journal.specs.Opening.{is_sound}
+use Rattle.argus_entries.specs.{Entry.PlainEntry, EntrySpelling.entry_spelling, Reply.{PlainReply, plain_reply}}
+use Rattle.argus_journal.specs.{JournalView.{JournalView, next_entry, reply_to}, Opening.is_sound}
 use Rattle.argus_journal.specs.declared.limits.TheConstants.{MAX_FIRST_ENTRY}
 use Rattle.argus_listings.specs.Listing.{folded_line, opened_line}
 use Rattle.argus_reading.specs.Line.{IsNoLine, IsReadable, LacksShape}
-use Rattle.argus_texts.specs.Language.{Starts}
-use Rattle.argus_texts.specs.Languages.{Word}
-use Rattle.argus_resume.specs.JournalText.{IsReadableObject}
-use Rattle.argus_resume.specs.declared.line_error.LineError.{LineError}
-use Rattle.argus_resume.specs.declared.line_error.LineError.TheVariants as error
+use Rattle.argus_texts.specs.{Language.Starts, Languages.Word}
+use Rattle.argus_resume.specs.{JournalText.IsReadableObject, declared.line_error.LineError.LineError}
 use Rattle.argus_resume.specs.declared.line_fault.LineFault.{LineFault}
+use Rattle.argus_resume.specs.declared.line_error.LineError.TheVariants as error
 use Rattle.argus_resume.specs.declared.line_fault.LineFault.TheVariants as fault
 
 -- OPENINGS

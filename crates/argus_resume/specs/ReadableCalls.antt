@@ -1,10 +1,7 @@
 -- What the calls of a journal have to be so that each of its lines can be read.
 use Rattle.std.specs.Prelude.{List, [], ℕ, ◌∷◌, ◌≡◌}
 use Rattle.argus_contents.specs.declared.limits.TheConstants.{MAX_VALUE_DEPTH}
-use Rattle.argus_entries.specs.Call.{PlainCall}
-use Rattle.argus_entries.specs.Entry.{PlainEntry}
-use Rattle.argus_entries.specs.Laws.{CallWithin}
-use Rattle.argus_entries.specs.Reply.{refused}
+use Rattle.argus_entries.specs.{Call.PlainCall, Entry.PlainEntry, Laws.CallWithin, Reply.refused}
 use Rattle.argus_entries.specs.declared.refusal.Refusal.{Refusal}
 use Rattle.argus_reading.specs.Calls.{DeclaresShape}
 

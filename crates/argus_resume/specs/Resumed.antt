@@ -1,10 +1,8 @@
 -- What a guardian is that was made from what a reader returned.
 use Rattle.std.specs.Prelude.{Bool, List, Option, length, take, ℕ, ◌+◌, ◌-◌, ◌≡◌}
 use Rattle.argus_journal.specs.JournalView.{JournalView}
-use Rattle.argus_resume.specs.JournalText.{IsReadableJournal, journal_text, no_journal}
-use Rattle.argus_resume.specs.SoundFront.{sound_front}
-use Rattle.argus_resume.specs.Taking.{TakesFrom}
-use Rattle.argus_resume.specs.declared.resumed.Resumed.{Resumed}
+use Rattle.argus_resume.specs.{JournalText.{IsReadableJournal, journal_text, no_journal}, SoundFront.sound_front}
+use Rattle.argus_resume.specs.{Taking.TakesFrom, declared.resumed.Resumed.Resumed}
 use Rattle.argus_resume.specs.declared.taken_from.TakenFrom.{TakenFrom}
 
 -- how much was taken

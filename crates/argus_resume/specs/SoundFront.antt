@@ -1,7 +1,6 @@
 -- The longest prefix of an opening that is sound.
 use Rattle.std.specs.Prelude.{if◌then◌else◌, length, take, ℕ, suc, zero}
-use Rattle.argus_journal.specs.JournalView.{JournalView}
-use Rattle.argus_journal.specs.Opening.{Opening, is_sound, opening_at}
+use Rattle.argus_journal.specs.{JournalView.JournalView, Opening.{Opening, is_sound, opening_at}}
 
 -- the opening with its first objects only
 abbrev pub opening_front : Opening → ℕ → Opening

@@ -1,20 +1,15 @@
 -- How far a guardian has come that is being made from lines.
-use Rattle.std.specs.Prelude.{List, Option, [], codes, false, if◌then◌else◌, length, map, true, ℕ}
-use Rattle.std.specs.Prelude.{◌+◌, ◌++◌, ◌<◌, ◌∷◌, ◌≡◌, ◌≢◌}
-use Rattle.argus_contents.specs.Content.{PlainContent, plain_option}
-use Rattle.argus_contents.specs.Shape.{PlainShape}
+use Rattle.std.specs.Prelude.{List, Option, [], codes, false, if◌then◌else◌, length, map, true, ℕ, ◌+◌, ◌++◌, ◌<◌, ◌∷◌}
+use Rattle.std.specs.Prelude.{◌≡◌, ◌≢◌}
+use Rattle.argus_contents.specs.{Content.{PlainContent, plain_option}, Shape.PlainShape}
 use Rattle.argus_entries.specs.Entry.{PlainEntry}
-use Rattle.argus_journal.specs.JournalView.{JournalView, next_entry}
-use Rattle.argus_journal.specs.Opening.{Opening, opening_at}
+use Rattle.argus_journal.specs.{JournalView.{JournalView, next_entry}, Opening.{Opening, opening_at}}
 use Rattle.argus_listings.specs.Listing.{each_from, folded_line, opened_line}
-use Rattle.argus_resume.specs.JournalText.{IsReadableJournal, IsReadableOpening}
-use Rattle.argus_resume.specs.Lines.{IsLineError, IsLineOf}
-use Rattle.argus_resume.specs.Without.{without_newest}
-use Rattle.argus_resume.specs.declared.entry_lines.EntryLines.{EntryLines}
-use Rattle.argus_resume.specs.declared.line_error.LineError.{LineError}
+use Rattle.argus_resume.specs.{JournalText.{IsReadableJournal, IsReadableOpening}, Lines.{IsLineError, IsLineOf}}
+use Rattle.argus_resume.specs.{Without.without_newest, declared.entry_lines.EntryLines.EntryLines}
+use Rattle.argus_resume.specs.{declared.line_error.LineError.LineError, declared.stage.Stage.Stage}
 use Rattle.argus_resume.specs.declared.opened_object.OpenedObject.{OpenedObject}
 use Rattle.argus_resume.specs.declared.opening_lines.OpeningLines.{OpeningLines}
-use Rattle.argus_resume.specs.declared.stage.Stage.{Stage}
 use Rattle.argus_resume.specs.declared.stage.Stage.TheVariants as stage
 
 -- what an object says that was read

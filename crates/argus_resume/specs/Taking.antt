@@ -1,16 +1,12 @@
 -- How much of a text is taken, and why no more.
-use Rattle.std.specs.Io.KnownBytes.{Consumes, IsAtEnd}
-use Rattle.std.specs.Prelude.{Bool, List, None, Option, Some, [], count_by, drop, false, length}
-use Rattle.std.specs.Prelude.{take, true, ℕ, ◌++◌, ◌<◌, ◌==◌, ◌∷◌, ◌≡◌, ◌≢◌, ◌≤◌}
+use Rattle.std.specs.{Io.KnownBytes.{Consumes, IsAtEnd}, Prelude.{◌<◌, ◌==◌, ◌∷◌, ◌≡◌, ◌≢◌, ◌≤◌}}
+use Rattle.std.specs.Prelude.{Bool, List, None, Option, Some, [], count_by, drop, false, length, take, true, ℕ, ◌++◌}
 use Rattle.argus_journal.specs.JournalView.{JournalView}
-use Rattle.argus_resume.specs.JournalText.{journal_text}
-use Rattle.argus_resume.specs.Lines.{IsLineFault}
-use Rattle.argus_resume.specs.declared.line_fault.LineFault.{LineFault}
-use Rattle.argus_resume.specs.declared.read_end.ReadEnd.{ReadEnd}
-use Rattle.argus_resume.specs.declared.read_end.ReadEnd.TheVariants as read
-use Rattle.argus_resume.specs.declared.taken_end.TakenEnd.{TakenEnd}
-use Rattle.argus_resume.specs.declared.taken_end.TakenEnd.TheVariants as taken
+use Rattle.argus_resume.specs.{JournalText.journal_text, Lines.IsLineFault, declared.line_fault.LineFault.LineFault}
+use Rattle.argus_resume.specs.{declared.read_end.ReadEnd.ReadEnd, declared.taken_end.TakenEnd.TakenEnd}
 use Rattle.argus_resume.specs.declared.taken_from.TakenFrom.{TakenFrom}
+use Rattle.argus_resume.specs.declared.read_end.ReadEnd.TheVariants as read
+use Rattle.argus_resume.specs.declared.taken_end.TakenEnd.TheVariants as taken
 
 -- no line feed is among the bytes
 abbrev pub HasNoFeed : List ℕ → Type 0

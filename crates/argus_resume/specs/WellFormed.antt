@@ -1,11 +1,8 @@
 -- What is true of each value that a program can hold, and of contents and changes.
 use Rattle.std.specs.Prelude.{List, None, Option, Some, [], ℕ, ◌∷◌}
-use Rattle.argus_contents.specs.Change.{PlainChange}
-use Rattle.argus_contents.specs.Content.{PlainContent}
-use Rattle.argus_contents.specs.Shape.{IsMakeable, PlainShape}
+use Rattle.argus_contents.specs.{Change.PlainChange, Content.PlainContent, Shape.{IsMakeable, PlainShape}}
 use Rattle.argus_contents.specs.Value.{PlainValue, PlainValues}
-use Rattle.argus_texts.specs.ContentSpelling.{PartsWithin}
-use Rattle.argus_texts.specs.Spelling.{AllWithin, Within}
+use Rattle.argus_texts.specs.{ContentSpelling.PartsWithin, Spelling.{AllWithin, Within}}
 use Rattle.argus_entries.specs.Laws.{ChangeWithin}
 
 -- a value of some depth: its numbers are in range, and its texts in UTF-8

@@ -1,9 +1,7 @@
 //! `EntryLines`: the lines of entries that were taken.
 
 ghost use Rattle.std.specs.Prelude.{IfOk, MatchOption, OnErr, OnOk, false, true, ⊤, ◌≡◌, ◌≢◌};
-ghost use Rattle.argus_entries.specs.Call.{plain_call};
-ghost use Rattle.argus_entries.specs.Entry.{plain_entry};
-ghost use Rattle.argus_entries.specs.Reply.{plain_reply};
+ghost use Rattle.argus_entries.specs.{Call.plain_call, Entry.plain_entry, Reply.plain_reply};
 ghost use Rattle.argus_journal.specs.JournalView.{after, next_entry, reply_to, with_entry};
 ghost use Rattle.argus_journal.specs.Opening.{is_sound};
 ghost use Rattle.argus_resume.specs.FrontLine.{entry_with};

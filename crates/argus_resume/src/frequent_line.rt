@@ -1,13 +1,10 @@
 //! `frequent_line`: the line of a frequent entry, read byte by byte.
 
-ghost use Rattle.std.specs.Fmt.{decimal, signed_decimal};
-ghost use Rattle.std.specs.Int.{IsNonNegative};
+ghost use Rattle.std.specs.{Fmt.{decimal, signed_decimal}, Int.IsNonNegative};
 ghost use Rattle.std.specs.Prelude.{IfSome, ◌+◌, ◌++◌, ◌∷◌, ◌≡◌, ◌≤◌};
 ghost use Rattle.argus_contents.specs.declared.limits.TheConstants.{MAX_VALUE_DEPTH};
-ghost use Rattle.argus_entries.specs.Call.{plain_call};
+ghost use Rattle.argus_entries.specs.{Call.plain_call, Laws.ReplyWithin, Reply.plain_reply};
 ghost use Rattle.argus_entries.specs.EntrySpelling.{call_spelling, place_spelling, reply_spelling};
-ghost use Rattle.argus_entries.specs.Laws.{ReplyWithin};
-ghost use Rattle.argus_entries.specs.Reply.{plain_reply};
 ghost use Rattle.argus_reading.specs.Calls.{IsReadableCall};
 ghost use Rattle.argus_resume.specs.FrontLine.{HasFrontLine, entry_with};
 

@@ -8,9 +8,9 @@ ghost use Rattle.argus_resume.specs.Laws.{ListingsAreResumed, ListingsHaveNoFaul
 ghost use Rattle.argus_resume.specs.Laws.{LinesHaveOneFault, ListingsAreTakenBack};
 ghost use Rattle.argus_resume.specs.Laws.{LongestListingIsResumed, NoLongerFrontIsAListing};
 ghost use Rattle.argus_resume.specs.Laws.{OpeningsAreReadable};
+ghost use Rattle.argus_resume.specs.ReadableCalls.{HaveReadableCalls, IsWellFormed};
 ghost use Rattle.argus_entries.specs.Call.{plain_call};
 ghost use Rattle.argus_journal.specs.Opening.{plain_object};
-ghost use Rattle.argus_resume.specs.ReadableCalls.{HaveReadableCalls, IsWellFormed};
 
 use crate::well_formed_calls::call_is_well_formed;
 use crate::well_formed_values::object_is_well_formed;

@@ -3,9 +3,8 @@
 ghost use Rattle.std.specs.Prelude.{IfOk, [], length, map, take, true, ◌+◌, ◌≡◌, ◌≤◌};
 ghost use Rattle.argus_journal.specs.Opening.{is_sound, opening_at, plain_object};
 ghost use Rattle.argus_listings.specs.Listing.{each_from, folded_line, opened_line};
-ghost use Rattle.argus_resume.specs.SoundFront.{opening_front, sound_count};
+ghost use Rattle.argus_resume.specs.{SoundFront.{opening_front, sound_count}, Stage.objects_read};
 ghost use Rattle.argus_contents.specs.declared.limits.TheConstants.{MAX_OBJECTS};
-ghost use Rattle.argus_resume.specs.Stage.{objects_read};
 
 use crate::opened_object::OpenedObject;
 use argus_contents::{Content, Shape};

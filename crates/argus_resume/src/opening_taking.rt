@@ -4,11 +4,9 @@ ghost use Rattle.std.specs.Prelude.{IfErr, IfOk, IfSome, IsTrue, OnErr, OnOk, So
 ghost use Rattle.std.specs.Prelude.{true, ◌+◌, ◌++◌, ◌<◌, ◌↔◌, ◌≡◌};
 ghost use Rattle.argus_contents.specs.Content.{plain_option};
 ghost use Rattle.argus_contents.specs.declared.limits.TheConstants.{MAX_OBJECTS};
-ghost use Rattle.argus_journal.specs.JournalView.{JournalView};
-ghost use Rattle.argus_journal.specs.Opening.{fits_shape};
-ghost use Rattle.argus_resume.specs.Lines.{IsLineError};
+ghost use Rattle.argus_journal.specs.{JournalView.JournalView, Opening.fits_shape};
+ghost use Rattle.argus_resume.specs.{Lines.IsLineError, Stage.opening_read};
 ghost use Rattle.argus_resume.specs.Stage.{IsCounted, lines_of, opened_alone, opening_line};
-ghost use Rattle.argus_resume.specs.Stage.{opening_read};
 
 use crate::line_error::LineError;
 use crate::line_fault::LineFault;

@@ -1,11 +1,9 @@
 //! How a guardian is made from what a reader returns.
 
 ghost use Rattle.std.specs.Prelude.{IfErr, IfOk, drop, false, length, take, ◌+◌, ◌++◌, ◌≡◌, ◌≤◌};
-ghost use Rattle.argus_resume.specs.JournalText.{journal_text};
-ghost use Rattle.argus_resume.specs.Laws.{IsListable};
-ghost use Rattle.argus_resume.specs.Resumed.{IsResumed};
-ghost use Rattle.argus_resume.specs.Taking.{EndsChunk, HasNoFeed, TakesFrom, early_end};
-ghost use Rattle.argus_resume.specs.Taking.{end_behind, line_count};
+ghost use Rattle.argus_resume.specs.{JournalText.journal_text, Laws.IsListable, Resumed.IsResumed};
+ghost use Rattle.argus_resume.specs.Taking.{EndsChunk, HasNoFeed, TakesFrom, early_end, end_behind};
+ghost use Rattle.argus_resume.specs.Taking.{line_count};
 ghost use Rattle.argus_streams.specs.FailStop.{has_failed, inner_of};
 
 use crate::opened::Opened;

@@ -1,13 +1,10 @@
 //! `Resuming`: a guardian that is being made from the lines of its journal.
 
 ghost use Rattle.std.specs.Prelude.{IfErr, IfOk, OnErr, OnOk, [], drop, length, position, take};
-ghost use Rattle.std.specs.Prelude.{◌+◌};
-ghost use Rattle.std.specs.Prelude.{◌++◌, ◌-◌, ◌==◌, ◌∷◌, ◌≡◌, ◌≢◌, ◌≤◌};
+ghost use Rattle.std.specs.Prelude.{◌+◌, ◌++◌, ◌-◌, ◌==◌, ◌∷◌, ◌≡◌, ◌≢◌, ◌≤◌};
 ghost use Rattle.argus_journal.specs.JournalView.{next_entry};
-ghost use Rattle.argus_resume.specs.FrontLine.{end_of_error};
+ghost use Rattle.argus_resume.specs.{FrontLine.end_of_error, Laws.IsListable, Lines.IsLineError};
 ghost use Rattle.argus_resume.specs.JournalText.{IsReadableJournal, journal_text, no_journal};
-ghost use Rattle.argus_resume.specs.Laws.{IsListable};
-ghost use Rattle.argus_resume.specs.Lines.{IsLineError};
 ghost use Rattle.argus_resume.specs.SoundFront.{sound_front};
 ghost use Rattle.argus_resume.specs.Stage.{IsCounted, lines_of, opened_alone, opening_read};
 ghost use Rattle.argus_resume.specs.Taking.{EndsTaking, IsFirstLine, line_count};

@@ -2,18 +2,15 @@
 
 ghost use Rattle.std.specs.Prelude.{IfErr, IfOk, MatchOption, OnErr, OnOk, [], codes, false, take};
 ghost use Rattle.std.specs.Prelude.{⊤, ◌++◌, ◌∷◌, ◌≡◌};
-ghost use Rattle.argus_entries.specs.Call.{plain_call};
-ghost use Rattle.argus_entries.specs.Entry.{PlainEntry, plain_entry};
+ghost use Rattle.argus_entries.specs.{Call.plain_call, Entry.{PlainEntry, plain_entry}};
 ghost use Rattle.argus_entries.specs.Reply.{plain_reply};
 ghost use Rattle.argus_journal.specs.JournalView.{next_entry, with_entry};
 ghost use Rattle.argus_reading.specs.Line.{IsReadable};
-ghost use Rattle.argus_resume.specs.FrontLine.{IsFrontError, entry_with};
-ghost use Rattle.argus_resume.specs.JournalText.{journal_text};
+ghost use Rattle.argus_resume.specs.{FrontLine.{IsFrontError, entry_with}, Stage.taken_by};
+ghost use Rattle.argus_resume.specs.{JournalText.journal_text, Taking.IsFirstLine};
 ghost use Rattle.argus_resume.specs.Lines.{IsLineError, IsLineOf, IsOfOpening};
-ghost use Rattle.argus_resume.specs.Stage.{AreEntries, IsCounted, IsLevel, StageInvariant};
-ghost use Rattle.argus_resume.specs.Stage.{SaysOf, journal_taken, opened_alone, opening_line};
-ghost use Rattle.argus_resume.specs.Stage.{opening_read, taken_by};
-ghost use Rattle.argus_resume.specs.Taking.{IsFirstLine};
+ghost use Rattle.argus_resume.specs.Stage.{AreEntries, IsCounted, IsLevel, StageInvariant, SaysOf};
+ghost use Rattle.argus_resume.specs.Stage.{journal_taken, opened_alone, opening_line, opening_read};
 
 use crate::entry_lines::{EntryLines, make, make_call};
 use crate::entry_reading::entry_numbered;

@@ -1,10 +1,8 @@
 //! `call_is_well_formed`: the parts of a call, read for the proof alone.
 
 ghost use Rattle.argus_contents.specs.Change.{plain_change};
-ghost use Rattle.argus_entries.specs.Call.{plain_call};
-ghost use Rattle.argus_entries.specs.Laws.{QueryWithin};
-ghost use Rattle.argus_resume.specs.ReadableCalls.{IsWellFormed};
-ghost use Rattle.argus_resume.specs.WellFormed.{IsWellFormedChange};
+ghost use Rattle.argus_entries.specs.{Call.plain_call, Laws.QueryWithin};
+ghost use Rattle.argus_resume.specs.{ReadableCalls.IsWellFormed, WellFormed.IsWellFormedChange};
 
 use crate::well_formed_values::{
     byte, content_is_well_formed, integer, number, value_is_well_formed,

@@ -6,8 +6,8 @@ ghost use Rattle.argus_contents.specs.Content.{plain_content};
 ghost use Rattle.argus_contents.specs.Value.{listed, plain_list, plain_value};
 ghost use Rattle.argus_texts.specs.Spelling.{IsI64};
 ghost use Rattle.argus_journal.specs.Opening.{plain_object};
-ghost use Rattle.argus_resume.specs.WellFormed.{AreWellFormedValues, IsWellFormedValue, IsWellFormedContent};
-ghost use Rattle.argus_resume.specs.WellFormed.{IsWellFormedObject};
+ghost use Rattle.argus_resume.specs.WellFormed.{AreWellFormedValues, IsWellFormedValue};
+ghost use Rattle.argus_resume.specs.WellFormed.{IsWellFormedContent, IsWellFormedObject};
 
 use argus_contents::{Content, Shape, Value};
 use argus_memory::Room;

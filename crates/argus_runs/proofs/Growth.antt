@@ -2,16 +2,12 @@
 use Rattle.std.proofs.Common.{◌≡◌, Bool, true, false, List, ◌∷◌, Option, Some, None}
 use Rattle.argus_actions.specs.declared.action_id.ActionId.{ActionId}
 use Rattle.argus_language.specs.PlainStep.{PlainSteps}
-use Rattle.argus_contents.specs.Shape.{PlainShape}
-use Rattle.argus_contents.specs.declared.obj_id.ObjId.{ObjId}
-use Rattle.argus_entries.specs.Call.{PlainCall}
-use Rattle.argus_entries.specs.Reply.{PlainReply}
+use Rattle.argus_contents.specs.{Shape.PlainShape, declared.obj_id.ObjId.ObjId}
+use Rattle.argus_entries.specs.{Call.PlainCall, Reply.PlainReply}
 use Rattle.argus_journal.specs.Events.{says_yes}
-use Rattle.argus_runs.specs.RunOutcome.{RunOutcome, finished, mismatched, ◌>>=◌}
-use Rattle.argus_runs.specs.Replies.{flow_after, goes_on}
+use Rattle.argus_runs.specs.{RunOutcome.{RunOutcome, finished, mismatched, ◌>>=◌}, Replies.{flow_after, goes_on}}
 use Rattle.argus_runs.specs.Running.{begin_all, finish, run_arms, run_arms_by_runner, run_steps, run_tops}
-use Rattle.argus_runs.specs.RunPrefix.{IsRunPrefix}
-use Rattle.argus_runs.specs.declared.flow.Flow.{Flow}
+use Rattle.argus_runs.specs.{RunPrefix.IsRunPrefix, declared.flow.Flow.Flow}
 use Rattle.argus_runs.specs.declared.flow.Flow.TheVariants as flow
 use Rattle.argus_runs.proofs.Simulation.{ArmRunner, Handed, Simulates, arms_related, begin_all_related, finish_related}
 use Rattle.argus_runs.proofs.Simulation.{handed_related, parts_related, tops_related}

@@ -1,15 +1,11 @@
 -- The line of the entry that was just made, and what was written of a run that came to a stop.
-use Rattle.std.proofs.Common.{Bool, List, None, Option, Some, [], ap, arith, false, get_or, inl, inr, length}
-use Rattle.std.proofs.Common.{nat_lt, slice_get, subst, sym, take, true, ℕ, ◌+◌, ◌-◌, ◌<◌, ◌∙◌, ◌∷◌, ◌≡◌}
-use Rattle.std.proofs.lemmas.List.{append-nil, get_or-reverse, length-reverse}
-use Rattle.std.proofs.lemmas.Option.{slice_get-get_or}
-use Rattle.std.specs.Io.KnownBytes.{Appends}
-use Rattle.std.specs.Prelude.{if◌then◌else◌, reverse}
-use Rattle.argus_entries.specs.Call.{PlainCall}
-use Rattle.argus_entries.specs.Entry.{PlainEntry}
+use Rattle.std.proofs.Common.{Bool, List, None, Option, Some, [], ap, arith, false, get_or, inl, inr, length, nat_lt}
+use Rattle.std.proofs.Common.{slice_get, subst, sym, take, true, ℕ, ◌+◌, ◌-◌, ◌<◌, ◌∙◌, ◌∷◌, ◌≡◌}
+use Rattle.std.proofs.{lemmas.List.{append-nil, get_or-reverse, length-reverse}, lemmas.Option.slice_get-get_or}
+use Rattle.std.specs.{Io.KnownBytes.Appends, Prelude.{if◌then◌else◌, reverse}}
+use Rattle.argus_entries.specs.{Call.PlainCall, Entry.PlainEntry, EntrySpelling.entry_line}
 use Rattle.argus_journal.specs.JournalView.{JournalView, after, entry_of, next_entry}
 use Rattle.argus_runs.specs.Lines.{KeepsText, Lacking, Written, WrittenAlmost, line_at, line_if}
-use Rattle.argus_entries.specs.EntrySpelling.{entry_line}
 
 newest : (e : PlainEntry) (older : List PlainEntry) → slice_get (reverse (e ∷ older)) (length older) ≡ Some e
 newest e older =

@@ -1,19 +1,14 @@
 -- The journal that a run leaves is the journal before it and the entries of the run.
-use Rattle.std.proofs.Common.{◌≡◌, List, [], ◌∷◌, ◌++◌, None, sym, ◌∙◌, ap}
-use Rattle.std.proofs.Common.{append_assoc, cond, refl}
+use Rattle.std.proofs.Common.{◌≡◌, List, [], ◌∷◌, ◌++◌, None, sym, ◌∙◌, ap, append_assoc, cond, refl}
 use Rattle.std.proofs.lemmas.List.{append-nil}
-use Rattle.argus_entries.specs.Decided.{call_decided}
-use Rattle.argus_entries.specs.Entry.{PlainEntry}
+use Rattle.argus_entries.specs.{Decided.call_decided, Entry.PlainEntry}
 use Rattle.argus_journal.specs.JournalView.{JournalView, entry_of}
 use Rattle.argus_language.specs.Script.{PlainScript}
-use Rattle.argus_runs.specs.Adding.{asked_grows, prefix_trans, prefix_refl, extended_more}
-use Rattle.argus_runs.specs.RunOutcome.{RunOutcome, finished, mismatched, ◌>>=◌}
-use Rattle.argus_runs.specs.Laws.{PlaysTell, RunsEnd}
+use Rattle.argus_runs.specs.{Adding.{asked_grows, prefix_trans, prefix_refl, extended_more}, Laws.{PlaysTell, RunsEnd}}
+use Rattle.argus_runs.specs.{RunOutcome.{RunOutcome, finished, mismatched, ◌>>=◌}, Running.run_tops}
 use Rattle.argus_runs.specs.Played.{reply_from_journal, play, reply_from_entries}
-use Rattle.argus_runs.specs.Running.{run_tops}
 use Rattle.argus_runs.specs.RunPrefix.{IsJournalPrefix, IsRunPrefix, extended}
-use Rattle.argus_runs.proofs.Growth.{ExtendingCalls, tops_grow}
-use Rattle.argus_runs.proofs.Simulation.{Simulates, tops_related}
+use Rattle.argus_runs.proofs.{Growth.{ExtendingCalls, tops_grow}, Simulation.{Simulates, tops_related}}
 
 -- entries that are told
 abbrev Es : Type 0

@@ -4,19 +4,15 @@ use Rattle.argus_actions.specs.declared.action_id.ActionId.{ActionId}
 use Rattle.argus_language.specs.PlainStep.{SimpleStep, PlainStep, PlainSteps, block, simple, more, none}
 use Rattle.argus_language.specs.PlainStep as part
 use Rattle.argus_language.specs.declared.block_kind.BlockKind.TheVariants as opening
-use Rattle.argus_contents.specs.Shape.{PlainShape}
-use Rattle.argus_contents.specs.declared.obj_id.ObjId.{ObjId}
+use Rattle.argus_contents.specs.{Shape.PlainShape, declared.obj_id.ObjId.ObjId}
 use Rattle.argus_entries.specs.Call.{PlainCall, abort, abort_others, alter, ask, commit, declare}
-use Rattle.argus_entries.specs.Reply.{PlainReply, answered, begun, object, refused}
-use Rattle.argus_entries.specs.declared.refusal.Refusal.{Refusal}
+use Rattle.argus_entries.specs.{Reply.{PlainReply, answered, begun, object, refused}, declared.refusal.Refusal.Refusal}
 use Rattle.argus_journal.specs.Events.{says_yes}
-use Rattle.argus_runs.specs.RunOutcome.{RunOutcome, finished, ◌>>=◌}
+use Rattle.argus_runs.specs.{RunOutcome.{RunOutcome, finished, ◌>>=◌}, Replies.test_call, declared.flow.Flow.Flow}
 use Rattle.argus_runs.specs.Replies.{begin_call, begun_by, flow_after, goes_on, is_over, object_number_at, object_of}
-use Rattle.argus_runs.specs.Replies.{test_call}
 use Rattle.argus_runs.specs.Running.{after_commit, after_others, begin_all, begin_arm, begin_one, commit_block}
 use Rattle.argus_runs.specs.Running.{declare_next, finish, give_up, is_declaration, run_arms, run_arms_by_runner}
 use Rattle.argus_runs.specs.Running.{run_deed, run_step, run_steps, run_top, run_tops, then_on}
-use Rattle.argus_runs.specs.declared.flow.Flow.{Flow}
 use Rattle.argus_runs.specs.declared.flow.Flow.TheVariants as flow
 
 abbrev pub Reply : Type 0 → Type 0

@@ -1,27 +1,21 @@
 -- If a run stops before its end, its state is a prefix of what the run comes to.
-use Rattle.std.proofs.Common.{◌≡◌, ℕ, suc, Bool, false, true, ◌<◌, List, ◌∷◌, ◌++◌, length, get_or, drop, Option, None, Result}
-use Rattle.std.proofs.Common.{Some, Vec, rules}
+use Rattle.std.proofs.Common.{◌≡◌, ℕ, suc, Bool, false, true, ◌<◌, List, ◌∷◌, ◌++◌, length, get_or, drop, Option, None}
+use Rattle.std.proofs.Common.{Result, Some, Vec, rules, Ok, Err, OnErr, refl, subst, sym, ◌∙◌, ap, drop-cons}
 use Rattle.std.specs.declared.alloc.Global.{Global}
 use Rattle.argus_memory.specs.declared.limited.Limited.{Limited}
-use Rattle.std.proofs.Common.{Ok, Err, OnErr, refl, subst, sym, ◌∙◌, ap, drop-cons}
 use Rattle.argus_actions.specs.declared.action_id.ActionId.{ActionId}
 use Rattle.argus_language.specs.PlainStep.{PlainStep, PlainSteps, block, more, plain_step, plain_steps}
-use Rattle.argus_language.specs.declared.action_kind.ActionKind.{ActionKind}
-use Rattle.argus_language.specs.declared.block_kind.BlockKind.TheVariants as opening
-use Rattle.argus_language.specs.declared.block_kind.BlockKind.{BlockKind}
+use Rattle.argus_language.specs.{declared.action_kind.ActionKind.ActionKind, declared.block_kind.BlockKind.BlockKind}
 use Rattle.argus_language.specs.declared.step.Step.{Step}
+use Rattle.argus_language.specs.declared.block_kind.BlockKind.TheVariants as opening
 use Rattle.argus_language.specs.declared.step.Step as S
-use Rattle.argus_contents.specs.Shape.{PlainShape}
-use Rattle.argus_contents.specs.declared.obj_id.ObjId.{ObjId}
-use Rattle.argus_entries.specs.Call.{PlainCall}
-use Rattle.argus_entries.specs.Reply.{PlainReply}
-use Rattle.argus_runs.specs.RunOutcome.{RunOutcome, finished, ◌>>=◌}
-use Rattle.argus_runs.specs.Running.{begin_all, begin_arm, begin_one, declare_next, finish, is_declaration}
-use Rattle.argus_runs.specs.Running.{run_arm, run_arms, run_step, run_steps, run_top, run_tops, with_front}
-use Rattle.argus_runs.specs.RunPrefix.{IsRunPrefix}
+use Rattle.argus_contents.specs.{Shape.PlainShape, declared.obj_id.ObjId.ObjId}
+use Rattle.argus_entries.specs.{Call.PlainCall, Reply.PlainReply}
+use Rattle.argus_runs.specs.{RunOutcome.{RunOutcome, finished, ◌>>=◌}, RunPrefix.IsRunPrefix}
+use Rattle.argus_runs.specs.Running.{begin_all, begin_arm, begin_one, declare_next, finish, is_declaration, run_arm}
+use Rattle.argus_runs.specs.Running.{run_arms, run_step, run_steps, run_top, run_tops, with_front}
 use Rattle.argus_runs.proofs.Growth.{ExtendingCalls, arms_grow, begin_on, begin_on_grows, finish_grows, go_on}
-use Rattle.argus_runs.proofs.Growth.{go_on_grows, parts_grow, tops_grow, within_then}
-use Rattle.argus_runs.proofs.Simulation.{ArmRunner}
+use Rattle.argus_runs.proofs.{Growth.{go_on_grows, parts_grow, tops_grow, within_then}, Simulation.ArmRunner}
 
 pub on_err : {S X A E : Type 0} (r : Result A E) (k a : Bool) (is_prefix : S → S → Type 0) (s : S) (m : RunOutcome S X)
     → (k ≡ true → a ≡ true → IsRunPrefix is_prefix s m) → OnErr r (k ≡ true → a ≡ true → IsRunPrefix is_prefix s m)

@@ -1,10 +1,8 @@
 -- A journal to which entries are added.
 use Rattle.std.proofs.Common.{List, [], ap, refl, sym, ◌++◌, ◌∙◌, ◌∷◌, ◌≡◌}
-use Rattle.argus_entries.specs.Call.{PlainCall}
-use Rattle.argus_entries.specs.Entry.{PlainEntry}
+use Rattle.argus_entries.specs.{Call.PlainCall, Entry.PlainEntry}
 use Rattle.argus_journal.specs.JournalView.{JournalView, entry_of, with_entry}
-use Rattle.argus_runs.specs.Played.{reply_from_journal}
-use Rattle.argus_runs.specs.RunPrefix.{IsJournalPrefix, IsRunPrefix, extended}
+use Rattle.argus_runs.specs.{Played.reply_from_journal, RunPrefix.{IsJournalPrefix, IsRunPrefix, extended}}
 
 -- entries may be added in two parts
 pub extended_more : (j : JournalView) (first more : List PlainEntry)

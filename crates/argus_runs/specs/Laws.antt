@@ -3,8 +3,7 @@ use Rattle.std.specs.Prelude.{List, ◌≡◌}
 use Rattle.argus_language.specs.Script.{PlainScript}
 use Rattle.argus_entries.specs.Entry.{PlainEntry}
 use Rattle.argus_journal.specs.JournalView.{JournalView}
-use Rattle.argus_runs.specs.Played.{IsPlay, Tells}
-use Rattle.argus_runs.specs.RunPrefix.{extended}
+use Rattle.argus_runs.specs.{Played.{IsPlay, Tells}, RunPrefix.extended}
 
 -- each script comes to an end after each journal
 abbrev pub RunsEnd : Type 0

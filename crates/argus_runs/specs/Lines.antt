@@ -1,12 +1,8 @@
 -- The lines of entries, and what a run writes.
-use Rattle.std.specs.Prelude.{Bool, List, None, Option, Some, false, length, take, true, ℕ, ◌+◌}
-use Rattle.std.specs.Prelude.{◌≡◌}
-use Rattle.std.specs.Prelude.{[], ◌++◌, ◌∷◌, ◌⊎◌}
-use Rattle.std.specs.Io.KnownBytes.{Appends}
-use Rattle.argus_entries.specs.Entry.{PlainEntry}
-use Rattle.argus_entries.specs.EntrySpelling.{entry_line}
-use Rattle.argus_journal.specs.JournalView.{JournalView, next_entry}
-use Rattle.argus_journal.specs.Journal.{entry_at}
+use Rattle.std.specs.Prelude.{Bool, List, None, Option, Some, false, length, take, true, ℕ, ◌+◌, ◌≡◌, [], ◌++◌, ◌∷◌}
+use Rattle.std.specs.{Prelude.{◌⊎◌}, Io.KnownBytes.Appends}
+use Rattle.argus_entries.specs.{Entry.PlainEntry, EntrySpelling.entry_line}
+use Rattle.argus_journal.specs.{JournalView.{JournalView, next_entry}, Journal.entry_at}
 use Rattle.argus_runs.specs.RunPrefix.{extended}
 
 -- the lines of entries from this number on

@@ -2,13 +2,9 @@
 use Rattle.std.specs.Prelude.{List, None, cond, ◌≡◌, [], ◌∷◌}
 use Rattle.argus_language.specs.Script.{PlainScript}
 use Rattle.argus_contents.specs.declared.obj_id.ObjId.{ObjId}
-use Rattle.argus_entries.specs.Call.{PlainCall}
-use Rattle.argus_entries.specs.Entry.{PlainEntry}
-use Rattle.argus_entries.specs.Reply.{PlainReply}
-use Rattle.argus_entries.specs.Same.{same_call}
+use Rattle.argus_entries.specs.{Call.PlainCall, Entry.PlainEntry, Reply.PlainReply, Same.same_call}
 use Rattle.argus_journal.specs.JournalView.{JournalView, after, reply_to}
-use Rattle.argus_runs.specs.RunOutcome.{RunOutcome, finished, mismatched}
-use Rattle.argus_runs.specs.Running.{run_script}
+use Rattle.argus_runs.specs.{RunOutcome.{RunOutcome, finished, mismatched}, Running.run_script}
 
 -- the next entry has to be the call, and gives its reply
 abbrev pub reply_from_entries : PlainCall → List PlainEntry → RunOutcome

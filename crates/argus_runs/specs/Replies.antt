@@ -1,16 +1,12 @@
 -- What follows from a reply.
 use Rattle.std.specs.Prelude.{Bool, List, None, Option, Some, false, get_or, true, ℕ}
 use Rattle.argus_actions.specs.declared.action_id.ActionId.{ActionId}
-use Rattle.argus_language.specs.declared.action_kind.ActionKind.{ActionKind}
+use Rattle.argus_language.specs.{declared.action_kind.ActionKind.ActionKind, declared.lock.Lock.Lock}
 use Rattle.argus_language.specs.declared.action_kind.ActionKind.TheVariants as kind
-use Rattle.argus_language.specs.declared.lock.Lock.{Lock}
 use Rattle.argus_language.specs.declared.lock.Lock.TheVariants as lock
-use Rattle.argus_contents.specs.declared.limits.TheConstants.{MAX_OBJECTS}
-use Rattle.argus_contents.specs.declared.obj_id.ObjId.{ObjId}
-use Rattle.argus_entries.specs.Call.{PlainCall, begin_nested, begin_sub, begin_top, test_read}
-use Rattle.argus_entries.specs.Call.{test_write}
-use Rattle.argus_entries.specs.Reply.{PlainReply, answered, begun, object, refused}
-use Rattle.argus_entries.specs.declared.refusal.Refusal.{Refusal}
+use Rattle.argus_contents.specs.{declared.limits.TheConstants.MAX_OBJECTS, declared.obj_id.ObjId.ObjId}
+use Rattle.argus_entries.specs.Call.{PlainCall, begin_nested, begin_sub, begin_top, test_read, test_write}
+use Rattle.argus_entries.specs.{Reply.{PlainReply, answered, begun, object, refused}, declared.refusal.Refusal.Refusal}
 use Rattle.argus_entries.specs.declared.refusal.Refusal.TheVariants as why
 use Rattle.argus_runs.specs.declared.flow.Flow.{Flow}
 use Rattle.argus_runs.specs.declared.flow.Flow.TheVariants as flow

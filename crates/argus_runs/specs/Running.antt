@@ -1,24 +1,16 @@
 -- The run of a script: which call comes next, after the replies so far.
-use Rattle.std.specs.Prelude.{Bool, List, None, Option, Some, false, length, slice_get, true}
-use Rattle.std.specs.Prelude.{[], ◌++◌, ◌∷◌}
+use Rattle.std.specs.Prelude.{Bool, List, None, Option, Some, false, length, slice_get, true, [], ◌++◌, ◌∷◌}
 use Rattle.argus_actions.specs.declared.action_id.ActionId.{ActionId}
-use Rattle.argus_language.specs.PlainStep.{SimpleStep, PlainStep, PlainSteps, block, simple, more}
-use Rattle.argus_language.specs.PlainStep.{none}
+use Rattle.argus_language.specs.PlainStep.{SimpleStep, PlainStep, PlainSteps, block, simple, more, none}
+use Rattle.argus_language.specs.{Script.PlainScript, declared.action_kind.ActionKind.ActionKind}
 use Rattle.argus_language.specs.PlainStep as part
-use Rattle.argus_language.specs.Script.{PlainScript}
-use Rattle.argus_language.specs.declared.action_kind.ActionKind.{ActionKind}
 use Rattle.argus_language.specs.declared.block_kind.BlockKind.TheVariants as opening
-use Rattle.argus_contents.specs.Shape.{PlainShape}
-use Rattle.argus_contents.specs.declared.obj_id.ObjId.{ObjId}
+use Rattle.argus_contents.specs.{Shape.PlainShape, declared.obj_id.ObjId.ObjId}
 use Rattle.argus_entries.specs.Call.{PlainCall, abort, abort_others, alter, ask, commit, declare}
-use Rattle.argus_entries.specs.Reply.{PlainReply, answered, begun, object, refused}
-use Rattle.argus_entries.specs.declared.refusal.Refusal.{Refusal}
+use Rattle.argus_entries.specs.{Reply.{PlainReply, answered, begun, object, refused}, declared.refusal.Refusal.Refusal}
 use Rattle.argus_journal.specs.Events.{says_yes}
-use Rattle.argus_runs.specs.RunOutcome.{RunOutcome, finished, ◌>>=◌}
-use Rattle.argus_runs.specs.Replies.{begin_call, begun_by, flow_after, goes_on, is_over}
-use Rattle.argus_runs.specs.Replies.{object_number_at}
-use Rattle.argus_runs.specs.Replies.{object_of, test_call}
-use Rattle.argus_runs.specs.declared.flow.Flow.{Flow}
+use Rattle.argus_runs.specs.{RunOutcome.{RunOutcome, finished, ◌>>=◌}, Replies.test_call, declared.flow.Flow.Flow}
+use Rattle.argus_runs.specs.Replies.{begin_call, begun_by, flow_after, goes_on, is_over, object_number_at, object_of}
 use Rattle.argus_runs.specs.declared.flow.Flow.TheVariants as flow
 
 -- whether the step declares an object

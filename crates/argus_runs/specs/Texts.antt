@@ -1,15 +1,10 @@
 -- What a run writes, in two parts.
-use Rattle.std.proofs.Common.{Bool, List, None, Option, Some, [], ap, append_assoc, arith, false}
-use Rattle.std.proofs.Common.{length, length-append, refl, subst, sym, take, true, ℕ, ◌++◌, ◌+◌}
-use Rattle.std.proofs.Common.{◌∙◌, ◌∷◌, ◌≡◌}
-use Rattle.std.proofs.lemmas.List.{append-nil}
+use Rattle.std.proofs.Common.{Bool, List, None, Option, Some, [], ap, append_assoc, arith, false, length, length-append}
+use Rattle.std.proofs.{Common.{refl, subst, sym, take, true, ℕ, ◌++◌, ◌+◌, ◌∙◌, ◌∷◌, ◌≡◌}, lemmas.List.append-nil}
 use Rattle.std.specs.Io.KnownBytes.{Appends}
-use Rattle.argus_entries.specs.Entry.{PlainEntry}
+use Rattle.argus_entries.specs.{Entry.PlainEntry, EntrySpelling.entry_line}
 use Rattle.argus_journal.specs.JournalView.{JournalView, next_entry, with_entry}
-use Rattle.argus_runs.specs.Adding.{extended_more}
-use Rattle.argus_runs.specs.Lines.{KeepsText, Lacking, Written, lines}
-use Rattle.argus_entries.specs.EntrySpelling.{entry_line}
-use Rattle.argus_runs.specs.RunPrefix.{extended}
+use Rattle.argus_runs.specs.{Adding.extended_more, Lines.{KeepsText, Lacking, Written, lines}, RunPrefix.extended}
 
 -- a text that stays has nothing appended
 appends_nothing : (a : Option (List ℕ)) → Appends a a []

@@ -1,8 +1,7 @@
 //! Tests, and how a block goes on after the replies to accesses and tests.
 
 ghost use Rattle.std.specs.Prelude.{◌≡◌};
-ghost use Rattle.argus_entries.specs.Call.{plain_call};
-ghost use Rattle.argus_entries.specs.Reply.{plain_reply};
+ghost use Rattle.argus_entries.specs.{Call.plain_call, Reply.plain_reply};
 ghost use Rattle.argus_journal.specs.Events.{says_yes};
 ghost use Rattle.argus_runs.specs.Replies.{flow_after, test_call};
 

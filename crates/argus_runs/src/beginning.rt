@@ -3,10 +3,8 @@
 ghost use Rattle.std.specs.Prelude.{IfOk, length, ◌≡◌};
 ghost use Rattle.argus_language.specs.PlainStep.{plain_step, plain_steps};
 ghost use Rattle.argus_entries.specs.Call.{plain_call};
-ghost use Rattle.argus_runs.specs.RunOutcome.{Finishes};
-ghost use Rattle.argus_runs.specs.Replies.{begin_call};
+ghost use Rattle.argus_runs.specs.{RunOutcome.Finishes, Replies.begin_call, RunPrefix.StopsEarly};
 ghost use Rattle.argus_runs.specs.Running.{begin_all, begin_arm, begin_one};
-ghost use Rattle.argus_runs.specs.RunPrefix.{StopsEarly};
 
 use crate::caller::Caller;
 use crate::stopped::Stopped;

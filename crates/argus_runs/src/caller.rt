@@ -4,14 +4,12 @@ ghost use Rattle.std.specs.Prelude.{Bool, IfOk, List, None, OnErr, Option, cond,
 ghost use Rattle.std.specs.Prelude.{◌≡◌};
 ghost use Rattle.argus_actions.specs.declared.action_id.ActionId.{ActionId};
 ghost use Rattle.argus_language.specs.PlainStep.{PlainSteps, plain_steps};
-ghost use Rattle.argus_contents.specs.Change.{plain_change};
-ghost use Rattle.argus_contents.specs.declared.obj_id.ObjId.{ObjId};
+ghost use Rattle.argus_contents.specs.{Change.plain_change, declared.obj_id.ObjId.ObjId};
 ghost use Rattle.argus_entries.specs.Call.{PlainCall, alter, plain_call};
 ghost use Rattle.argus_entries.specs.Reply.{PlainReply, plain_reply};
 ghost use Rattle.argus_runs.specs.RunOutcome.{Finishes, RunOutcome, finished};
 ghost use Rattle.argus_runs.specs.Running.{access, run_arms, run_arms_by_runner};
-ghost use Rattle.argus_runs.specs.RunPrefix.{IsRunPrefix, StopsEarly};
-ghost use Rattle.argus_runs.specs.declared.flow.Flow.{Flow};
+ghost use Rattle.argus_runs.specs.{RunPrefix.{IsRunPrefix, StopsEarly}, declared.flow.Flow.Flow};
 ghost use Rattle.argus_runs.specs.declared.flow.Flow.TheVariants.{On};
 
 use crate::accessing::flow_of;

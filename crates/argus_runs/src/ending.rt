@@ -2,10 +2,8 @@
 
 ghost use Rattle.std.specs.Prelude.{true, ◌≡◌};
 ghost use Rattle.argus_entries.specs.Call.{abort};
-ghost use Rattle.argus_runs.specs.RunOutcome.{Finishes};
-ghost use Rattle.argus_runs.specs.Replies.{is_over};
+ghost use Rattle.argus_runs.specs.{RunOutcome.Finishes, Replies.is_over, RunPrefix.StopsEarly};
 ghost use Rattle.argus_runs.specs.Running.{commit_block, finish, give_up, then_on};
-ghost use Rattle.argus_runs.specs.RunPrefix.{StopsEarly};
 ghost use Rattle.argus_runs.specs.declared.flow.Flow.TheVariants.{LeaveAll};
 
 use crate::caller::Caller;

@@ -1,11 +1,9 @@
 //! The run of a whole script.
 
 ghost use Rattle.std.specs.Prelude.{◌≡◌};
-ghost use Rattle.argus_language.specs.PlainStep.{plain_step};
-ghost use Rattle.argus_language.specs.Script.{plain_script};
-ghost use Rattle.argus_runs.specs.RunOutcome.{Finishes};
+ghost use Rattle.argus_language.specs.{PlainStep.plain_step, Script.plain_script};
+ghost use Rattle.argus_runs.specs.{RunOutcome.Finishes, RunPrefix.StopsEarly};
 ghost use Rattle.argus_runs.specs.Running.{declare_next, is_declaration, run_script};
-ghost use Rattle.argus_runs.specs.RunPrefix.{StopsEarly};
 
 use crate::caller::Caller;
 use crate::numbers::object_of;

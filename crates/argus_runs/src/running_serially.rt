@@ -2,8 +2,7 @@
 
 ghost use Rattle.std.specs.Prelude.{IfErr, OnErr, OnOk, false, true, ◌↔◌, ◌≡◌};
 ghost use Rattle.argus_language.specs.Script.{plain_script};
-ghost use Rattle.argus_runs.specs.Lines.{Written, WrittenAlmost};
-ghost use Rattle.argus_runs.specs.Played.{IsPlay, play};
+ghost use Rattle.argus_runs.specs.{Lines.{Written, WrittenAlmost}, Played.{IsPlay, play}};
 ghost use Rattle.argus_runs.specs.RunPrefix.{IsJournalPrefix, IsRunPrefix};
 ghost use Rattle.argus_runs.specs.declared.run_fault.RunFault.TheVariants.{Write};
 ghost use Rattle.argus_streams.specs.FailStop.{has_failed, inner_of};

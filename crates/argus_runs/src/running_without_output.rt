@@ -2,8 +2,7 @@
 
 ghost use Rattle.std.specs.Prelude.{OnErr, OnOk};
 ghost use Rattle.argus_language.specs.Script.{plain_script};
-ghost use Rattle.argus_runs.specs.Played.{IsPlay, play};
-ghost use Rattle.argus_runs.specs.RunPrefix.{IsJournalPrefix, IsRunPrefix};
+ghost use Rattle.argus_runs.specs.{Played.{IsPlay, play}, RunPrefix.{IsJournalPrefix, IsRunPrefix}};
 
 use crate::accessing::flow_of;
 use crate::caller::Caller;

@@ -7,9 +7,7 @@
 ghost use Rattle.std.specs.Prelude.{List, OnOk, true, ◌≡◌};
 ghost use Rattle.argus_language.specs.Script.{PlainScript, plain_script};
 ghost use Rattle.argus_contents.specs.declared.obj_id.ObjId.{ObjId};
-ghost use Rattle.argus_runs.specs.RunOutcome.{finished};
-ghost use Rattle.argus_runs.specs.Running.{run_script};
-ghost use Rattle.argus_runs.specs.RunPrefix.{StopsEarly};
+ghost use Rattle.argus_runs.specs.{RunOutcome.finished, Running.run_script, RunPrefix.StopsEarly};
 
 use crate::caller::Caller;
 use crate::running::run_script;

@@ -3,9 +3,8 @@
 ghost use Rattle.std.specs.Prelude.{Some, length, ◌≡◌};
 ghost use Rattle.argus_language.specs.PlainStep.{block, plain_step, plain_steps};
 ghost use Rattle.argus_language.specs.declared.block_kind.BlockKind.TheVariants as opening;
-ghost use Rattle.argus_runs.specs.RunOutcome.{Finishes};
+ghost use Rattle.argus_runs.specs.{RunOutcome.Finishes, RunPrefix.StopsEarly};
 ghost use Rattle.argus_runs.specs.Running.{run_arm, run_arms, run_step, run_steps};
-ghost use Rattle.argus_runs.specs.RunPrefix.{StopsEarly};
 
 use crate::accessing::{call_to_test, flow_of, is_yes};
 use crate::beginning::{begin, begin_arms};

@@ -3,8 +3,8 @@
 ghost use Rattle.std.specs.Prelude.{OnErr, OnOk, false, string_bytes, take, ℕ, ◌++◌, ◌≡◌};
 ghost use Rattle.std.specs.Io.KnownBytes.{Appends};
 ghost use Rattle.argus_journal.specs.Journal.{entries_of, entry_at, opening_of};
-ghost use Rattle.argus_runs.specs.Lines.{line_at, line_if};
 ghost use Rattle.argus_journal.specs.JournalView.{next_entry};
+ghost use Rattle.argus_runs.specs.Lines.{line_at, line_if};
 ghost use Rattle.argus_streams.specs.FailStop.{has_failed, inner_of};
 
 use crate::caller::Caller;

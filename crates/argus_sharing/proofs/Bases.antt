@@ -1,29 +1,19 @@
 -- The bases of the objects, as a list.
-use Rattle.std.proofs.Common.{List, None, Option, Some, [], ap, arith, inl, inr, length, map, refl}
-use Rattle.std.proofs.Common.{sym, true, ℕ, ◌++◌, ◌+◌, ◌∙◌, ◌∷◌, ◌≡◌, ◌≤◌}
-use Rattle.std.specs.List.{range_with_len}
-use Rattle.std.proofs.lemmas.Bool.{cases_lt}
-use Rattle.std.proofs.lemmas.List.{get_or_past, map-append}
-use Rattle.std.proofs.lemmas.List.FromFn.{get_or-map-range_with_len, length-map-range_with_len}
-use Rattle.std.proofs.lemmas.List.FromFn.{map-range_with_len_more}
+use Rattle.std.proofs.Common.{List, None, Option, Some, [], ap, arith, inl, inr, length, map, refl, sym, true, ℕ, ◌++◌}
+use Rattle.std.proofs.{Common.{◌+◌, ◌∙◌, ◌∷◌, ◌≡◌, ◌≤◌}, lemmas.Bool.cases_lt, lemmas.List.{get_or_past, map-append}}
+use Rattle.std.proofs.lemmas.List.FromFn.{get_or-map-range_with_len, length-map-range_with_len, map-range_with_len_more}
 use Rattle.std.proofs.lemmas.Option.{slice_get_past}
+use Rattle.std.specs.List.{range_with_len}
 use Rattle.argus_board.specs.Effects.{IsTableOf, content_of_object, plain_contents}
-use Rattle.argus_contents.specs.Effect.{Effect}
-use Rattle.argus_contents.specs.Content.{PlainContent, plain_option}
-use Rattle.argus_contents.specs.Shape.{PlainShape}
+use Rattle.argus_contents.specs.{Effect.Effect, Content.{PlainContent, plain_option}, Shape.PlainShape}
 use Rattle.argus_contents.specs.declared.content.Content.{Content}
-use Rattle.argus_journal.proofs.Fitting.{nothing}
-use Rattle.argus_journal.proofs.Legal.{lawful}
-use Rattle.argus_journal.specs.Entries.{entries}
-use Rattle.argus_journal.specs.Events.{history}
-use Rattle.argus_journal.specs.Legal.{Legal}
-use Rattle.argus_journal.specs.Objects.{declared, shape_of, shapes}
-use Rattle.argus_journal.specs.Opening.{content_in, fits_shape, model_opening}
-use Rattle.argus_journal.specs.JournalFacts.{base_of}
+use Rattle.argus_journal.proofs.{Fitting.nothing, Legal.lawful}
+use Rattle.argus_journal.specs.{Entries.entries, Events.history, Legal.Legal, Objects.{declared, shape_of, shapes}}
+use Rattle.argus_journal.specs.{Opening.{content_in, fits_shape, model_opening}, JournalFacts.base_of}
+use Rattle.argus_journal.specs.JournalView.{JournalView}
 use Rattle.argus_model.proofs.Theorems.{table_is_base}
 use Rattle.argus_model.specs.Effects.{table}
 use Rattle.argus_sharing.specs.Following.{journal_bases, journal_effects}
-use Rattle.argus_journal.specs.JournalView.{JournalView}
 
 -- no content fits where there is no shape
 unfit : (shape : Option PlainShape) (n : ℕ) (content : Option PlainContent) → shape ≡ None

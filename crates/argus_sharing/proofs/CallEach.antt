@@ -1,15 +1,13 @@
 -- Several calls: what one more call adds.
-use Rattle.std.proofs.Common.{List, [], ap, append_assoc, arith, drop, false, get_or, length, sym, true, ℕ, suc, ◌++◌, ◌+◌, ◌∙◌, ◌∷◌, ◌<◌, ◌≡◌}
-use Rattle.std.proofs.Math.Seq.{drop-cons}
+use Rattle.std.proofs.Common.{List, [], ap, append_assoc, arith, drop, false, get_or, length, sym, true, ℕ, suc, ◌++◌}
+use Rattle.std.proofs.{Common.{◌+◌, ◌∙◌, ◌∷◌, ◌<◌, ◌≡◌}, Math.Seq.drop-cons}
 use Rattle.std.specs.Prelude.{if◌then◌else◌}
 use Rattle.argus_board.specs.BoardView.{BoardView}
 use Rattle.argus_core.specs.ReadyCommit.{added_by_call}
-use Rattle.argus_entries.specs.Call.{plain_call}
-use Rattle.argus_entries.specs.Reply.{PlainReply}
+use Rattle.argus_entries.specs.{Call.plain_call, Reply.PlainReply}
 use Rattle.argus_journal.specs.JournalView.{JournalView, after, reply_to}
 use Rattle.argus_sharing.proofs.Follow.{goes_on_further}
-use Rattle.argus_sharing.specs.CallEach.{added_by_calls, end_of, is_met, replies_of}
-use Rattle.argus_sharing.specs.Following.{GoesOn}
+use Rattle.argus_sharing.specs.{CallEach.{added_by_calls, end_of, is_met, replies_of}, Following.GoesOn}
 use Rattle.argus_sharing.specs.declared.calls_end.CallsEnd.TheVariants.{Unmet}
 use Rattle.argus_sharing.specs.declared.demanded_call.DemandedCall.{DemandedCall}
 

@@ -1,33 +1,23 @@
 -- The board's effects follow the journal, from one call to the next.
-use Rattle.std.proofs.Common.{Bool, List, Option, Some, [], ap, append_assoc, arith, false, refl}
-use Rattle.std.proofs.Common.{subst, sym, true, ℕ, ◌++◌, ◌∙◌, ◌∷◌, ◌≡◌, ◌≢◌}
+use Rattle.std.proofs.Common.{Bool, List, Option, Some, [], ap, append_assoc, arith, false, refl, subst, sym, true, ℕ}
+use Rattle.std.proofs.{Common.{◌++◌, ◌∙◌, ◌∷◌, ◌≡◌, ◌≢◌}, lemmas.List.append-nil}
 use Rattle.std.specs.Prelude.{Err, Ok, OnErr, OnOk, Result}
-use Rattle.std.proofs.lemmas.List.{append-nil}
 use mathlib.Core.List.{IsPrefix}
 use Rattle.argus_board.proofs.Prefixes.{begins_itself, begins_later}
 use Rattle.argus_board.specs.BoardView.{BoardView}
-use Rattle.argus_contents.specs.Effect.{Effect}
-use Rattle.argus_contents.specs.Content.{PlainContent}
-use Rattle.argus_entries.specs.Call.{PlainCall, abort, abort_others, alter, ask, begin_nested}
-use Rattle.argus_entries.specs.Call.{begin_sub, begin_top, commit, declare, test_read, test_write}
-use Rattle.argus_entries.specs.Entry.{PlainEntry}
-use Rattle.argus_core.specs.Checkpoint.{after_checkpoint}
-use Rattle.argus_core.specs.ReadyCommit.{added_by_call}
-use Rattle.argus_journal.proofs.Folded.{effects_after, entry_stays}
-use Rattle.argus_journal.proofs.Serial.{effects_added}
-use Rattle.argus_journal.specs.Effects.{added_by}
-use Rattle.argus_journal.specs.Events.{event_if, history, is_answered, is_begun_reply, says_yes}
-use Rattle.argus_journal.specs.Legal.{Legal}
-use Rattle.argus_journal.specs.Numbering.{in_history}
-use Rattle.argus_journal.specs.Opening.{Opening, content_in, is_sound}
+use Rattle.argus_contents.specs.{Effect.Effect, Content.PlainContent}
+use Rattle.argus_entries.specs.Call.{PlainCall, abort, abort_others, alter, ask, begin_nested, begin_sub, begin_top}
+use Rattle.argus_entries.specs.{Call.{commit, declare, test_read, test_write}, Entry.PlainEntry}
+use Rattle.argus_core.specs.{Checkpoint.after_checkpoint, ReadyCommit.added_by_call}
+use Rattle.argus_journal.proofs.{Folded.{effects_after, entry_stays}, Serial.effects_added}
+use Rattle.argus_journal.specs.{Effects.added_by, Events.{event_if, history, is_answered, is_begun_reply, says_yes}}
+use Rattle.argus_journal.specs.{Legal.Legal, Numbering.in_history, Opening.{Opening, content_in, is_sound}}
 use Rattle.argus_journal.specs.JournalFacts.{effects_of}
-use Rattle.argus_model.proofs.Effects.{table-append, table_same}
-use Rattle.argus_model.specs.Effects.{table}
-use Rattle.argus_model.specs.Event.{Aborted, Accessed, Began, Event, Nested, Sub, Top}
-use Rattle.argus_model.specs.Status.{live_siblings}
 use Rattle.argus_journal.specs.JournalView.{JournalView, after, entry_of, next_entry, reply_to}
-use Rattle.argus_sharing.specs.Following.{FollowsJournal, GoesOn, IsNoCommit, IsSharedJournal}
-use Rattle.argus_sharing.specs.Following.{journal_effects}
+use Rattle.argus_model.proofs.Effects.{table-append, table_same}
+use Rattle.argus_model.specs.{Effects.table, Event.{Aborted, Accessed, Began, Event, Nested, Sub, Top}}
+use Rattle.argus_model.specs.Status.{live_siblings}
+use Rattle.argus_sharing.specs.Following.{FollowsJournal, GoesOn, IsNoCommit, IsSharedJournal, journal_effects}
 
 -- what adds nothing where it happens adds nothing where it may
 may_add : (b : Bool) (s : Opening) (event : Event PlainEntry) (j : List PlainEntry) → added_by s (Some event) j ≡ []

@@ -1,18 +1,13 @@
 -- Receipts without a fault are in the journal, each at a number of its own.
-use Rattle.std.specs.List.{AllByRecursion, IsDistinct, list_any}
-use Rattle.std.specs.Option.{option_or}
+use Rattle.std.specs.{List.{AllByRecursion, IsDistinct, list_any}, Option.option_or}
 use Rattle.std.proofs.Common.{All, Bool, List, None, Option, Some, [], ap, false, drop, drop-cons, get_or}
-use Rattle.std.proofs.Common.{if◌then◌else◌, length, map, nat_lt, not}
-use Rattle.std.proofs.Common.{refl, suc, sym, true, ℕ, ◌++◌, ◌<◌, ◌==◌, ◌∙◌, ◌∷◌, ◌≡◌, ◌||◌}
-use Rattle.std.proofs.lemmas.List.Elements.{All-cons, All-nil}
+use Rattle.std.proofs.Common.{if◌then◌else◌, length, map, nat_lt, not, refl, suc, sym, true, ℕ, ◌++◌, ◌<◌, ◌==◌, ◌∙◌}
+use Rattle.std.proofs.{Common.{◌∷◌, ◌≡◌, ◌||◌}, lemmas.List.Elements.{All-cons, All-nil}}
 use Rattle.std.proofs.lemmas.List.Folds.{list_any-append}
-use Rattle.argus_entries.specs.Decided.{entry_decided}
-use Rattle.argus_entries.specs.Entry.{PlainEntry}
-use Rattle.argus_journal.specs.Journal.{entry_at}
-use Rattle.argus_journal.specs.Opening.{Opening}
+use Rattle.argus_entries.specs.{Decided.entry_decided, Entry.PlainEntry}
+use Rattle.argus_journal.specs.{Journal.entry_at, Opening.Opening}
 use Rattle.argus_sharing.specs.Checking.{AreApart, IsSettleAnswer, Stands, first_fault, is_entry, receipt_fault}
-use Rattle.argus_sharing.specs.Receipt.{PlainReceipt, plain_receipt}
-use Rattle.argus_sharing.specs.declared.receipt.Receipt.{Receipt}
+use Rattle.argus_sharing.specs.{Receipt.{PlainReceipt, plain_receipt}, declared.receipt.Receipt.Receipt}
 use Rattle.argus_sharing.specs.declared.settle_fault.SettleFault.{SettleFault}
 use Rattle.argus_sharing.specs.declared.settle_fault.SettleFault.TheVariants as fault
 

@@ -1,17 +1,14 @@
 -- Several calls, one after another, up to the first whose reply isn't as demanded.
 use Rattle.std.specs.Prelude.{Bool, List, [], false, if◌then◌else◌, suc, true, zero, ℕ, ◌++◌, ◌∷◌}
-use Rattle.argus_contents.specs.Answer.{PlainAnswer, body, done, flag, num, signal, val}
-use Rattle.argus_contents.specs.Effect.{Effect}
+use Rattle.argus_contents.specs.{Answer.{PlainAnswer, body, done, flag, num, signal, val}, Effect.Effect}
 use Rattle.argus_core.specs.ReadyCommit.{added_by_call}
-use Rattle.argus_entries.specs.Call.{plain_call}
-use Rattle.argus_entries.specs.Reply.{PlainReply, answered, begun, object, plain_reply, refused}
+use Rattle.argus_entries.specs.{Call.plain_call, Reply.{PlainReply, answered, begun, object, plain_reply, refused}}
 use Rattle.argus_entries.specs.Same.{same_reply}
 use Rattle.argus_journal.specs.JournalView.{JournalView, after, reply_to}
-use Rattle.argus_sharing.specs.declared.calls_end.CallsEnd.{CallsEnd}
+use Rattle.argus_sharing.specs.{declared.calls_end.CallsEnd.CallsEnd, declared.demand.Demand.Demand}
 use Rattle.argus_sharing.specs.declared.calls_end.CallsEnd.TheVariants.{Unmet, Whole}
-use Rattle.argus_sharing.specs.declared.demand.Demand.{Demand}
-use Rattle.argus_sharing.specs.declared.demand.Demand.TheVariants as demand
 use Rattle.argus_sharing.specs.declared.demanded_call.DemandedCall.{DemandedCall}
+use Rattle.argus_sharing.specs.declared.demand.Demand.TheVariants as demand
 
 -- the reply isn't a refusal
 abbrev pub is_no_refusal : PlainReply → Bool

@@ -1,15 +1,9 @@
 -- Whether receipts and seats agree with a journal, and why not.
-use Rattle.std.specs.List.{IsDistinct, list_any}
-use Rattle.std.specs.Option.{option_or}
-use Rattle.std.specs.Prelude.{Bool, List, None, Option, Some, false, if◌then◌else◌, map}
-use Rattle.std.specs.Prelude.{nat_lt, not, ℕ, [], ◌++◌, ◌-◌, ◌==◌, ◌∷◌, ◌≡◌}
-use Rattle.argus_entries.specs.Entry.{PlainEntry}
-use Rattle.argus_entries.specs.Same.{same_entry}
-use Rattle.argus_journal.specs.Folding.{next_entry_number}
-use Rattle.argus_journal.specs.Journal.{entry_at}
-use Rattle.argus_journal.specs.Opening.{Opening}
-use Rattle.argus_sharing.specs.Receipt.{PlainReceipt}
-use Rattle.argus_sharing.specs.declared.settle_fault.SettleFault.{SettleFault}
+use Rattle.std.specs.{List.{IsDistinct, list_any}, Option.option_or, Prelude.{◌==◌, ◌∷◌, ◌≡◌}}
+use Rattle.std.specs.Prelude.{Bool, List, None, Option, Some, false, if◌then◌else◌, map, nat_lt, not, ℕ, [], ◌++◌, ◌-◌}
+use Rattle.argus_entries.specs.{Entry.PlainEntry, Same.same_entry}
+use Rattle.argus_journal.specs.{Folding.next_entry_number, Journal.entry_at, Opening.Opening}
+use Rattle.argus_sharing.specs.{Receipt.PlainReceipt, declared.settle_fault.SettleFault.SettleFault}
 use Rattle.argus_sharing.specs.declared.settle_fault.SettleFault.TheVariants as fault
 
 -- the journal's entry of that number is the receipt's

@@ -1,20 +1,14 @@
 -- How the effects on a board follow a journal.
-use Rattle.std.specs.List.{range_with_len}
-use Rattle.std.specs.Prelude.{List, Option, map, true, ℕ, ◌++◌, ◌≡◌, ◌≤◌}
+use Rattle.std.specs.{List.range_with_len, Prelude.{List, Option, map, true, ℕ, ◌++◌, ◌≡◌, ◌≤◌}}
 use mathlib.Core.List.{IsPrefix}
 use Rattle.argus_board.specs.BoardView.{BoardView}
-use Rattle.argus_contents.specs.Effect.{Effect}
-use Rattle.argus_contents.specs.Content.{PlainContent}
-use Rattle.argus_entries.specs.Call.{PlainCall, abort, abort_others, alter, ask, begin_nested}
-use Rattle.argus_entries.specs.Reply.{PlainReply}
-use Rattle.argus_entries.specs.Call.{begin_sub, begin_top, commit, declare, test_read, test_write}
-use Rattle.argus_journal.specs.Legal.{Legal}
-use Rattle.argus_journal.specs.Objects.{declared}
-use Rattle.argus_journal.specs.Opening.{KeepsNumbers, content_in, is_sound}
-use Rattle.argus_journal.specs.JournalFacts.{base_of, effects_of}
+use Rattle.argus_contents.specs.{Effect.Effect, Content.PlainContent}
+use Rattle.argus_entries.specs.Call.{PlainCall, abort, abort_others, alter, ask, begin_nested, begin_sub, begin_top}
+use Rattle.argus_entries.specs.{Call.{commit, declare, test_read, test_write}, Reply.PlainReply}
+use Rattle.argus_journal.specs.{Legal.Legal, Objects.declared, Opening.{KeepsNumbers, content_in, is_sound}}
+use Rattle.argus_journal.specs.{JournalFacts.{base_of, effects_of}, JournalView.{JournalView, next_entry, reply_to}}
 use Rattle.argus_model.specs.Effects.{table}
 use Rattle.argus_sharing.specs.Locked.{LockedState}
-use Rattle.argus_journal.specs.JournalView.{JournalView, next_entry, reply_to}
 
 -- the effects of the journal's entries
 abbrev pub journal_effects : JournalView → List Effect

@@ -1,6 +1,5 @@
 -- The value behind the mutex, as contracts see it.
-use Rattle.std.specs.Coded.{Coded, code_by, coded×}
-use Rattle.std.specs.Prelude.{refl}
+use Rattle.std.specs.{Coded.{Coded, code_by, coded×}, Prelude.refl}
 use Rattle.argus_board.specs.BoardView.{BoardView, board_view_coded}
 use Rattle.argus_journal.specs.JournalView.{JournalView, journal_view_coded}
 

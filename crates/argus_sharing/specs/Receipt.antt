@@ -1,8 +1,6 @@
 -- What a receipt says.
 use Rattle.std.specs.Prelude.{ℕ}
-use Rattle.argus_entries.specs.Call.{plain_call}
-use Rattle.argus_entries.specs.Entry.{PlainEntry}
-use Rattle.argus_entries.specs.Reply.{plain_reply}
+use Rattle.argus_entries.specs.{Call.plain_call, Entry.PlainEntry, Reply.plain_reply}
 use Rattle.argus_sharing.specs.declared.receipt.Receipt.{Receipt}
 
 -- a number, and what the entry with this number should be

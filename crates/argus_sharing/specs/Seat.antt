@@ -1,6 +1,5 @@
 -- A seat, as contracts see it.
-use Rattle.std.specs.Coded.{Coded, code_by, coded_ℕ}
-use Rattle.std.specs.Prelude.{refl, ℕ}
+use Rattle.std.specs.{Coded.{Coded, code_by, coded_ℕ}, Prelude.{refl, ℕ}}
 
 -- how many calls of the seat were journalled
 pub record SeatView : Type 0 where

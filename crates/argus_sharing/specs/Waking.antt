@@ -1,6 +1,6 @@
 -- Which calls end actions, so that waiting threads try again.
-use Rattle.argus_entries.specs.Call.{PlainCall, abort, abort_others, alter, ask, begin_nested}
-use Rattle.argus_entries.specs.Call.{begin_sub, begin_top, commit, declare, test_read, test_write}
+use Rattle.argus_entries.specs.Call.{PlainCall, abort, abort_others, alter, ask, begin_nested, begin_sub, begin_top}
+use Rattle.argus_entries.specs.Call.{commit, declare, test_read, test_write}
 use Rattle.std.specs.Prelude.{Bool, false, true}
 
 -- a commit, an abort or an abort of all others ends actions, unless it is refused

@@ -1,8 +1,7 @@
 //! Calls under the mutex.
 
 ghost use Rattle.std.specs.Prelude.{IfOk, OnErr, OnOk, ◌++◌, ◌+◌, ◌≡◌};
-ghost use Rattle.argus_entries.specs.Call.{plain_call};
-ghost use Rattle.argus_entries.specs.Reply.{plain_reply};
+ghost use Rattle.argus_entries.specs.{Call.plain_call, Reply.plain_reply};
 ghost use Rattle.argus_core.specs.ReadyCommit.{added_by_call};
 ghost use Rattle.argus_sharing.specs.Following.{FollowsJournal, GoesOn, IsSharedJournal};
 ghost use Rattle.argus_journal.specs.JournalView.{after, next_entry, reply_to};

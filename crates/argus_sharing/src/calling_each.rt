@@ -1,11 +1,10 @@
 //! Several calls under one lock of the mutex.
 
-ghost use Rattle.std.specs.Prelude.{[], IfOk, OnErr, OnOk, length, map, ◌++◌, ◌+◌, ◌<◌};
-ghost use Rattle.std.specs.Prelude.{◌∷◌, ◌≡◌, ◌≢◌};
+ghost use Rattle.std.specs.Prelude.{[], IfOk, OnErr, OnOk, length, map, ◌++◌, ◌+◌, ◌<◌, ◌∷◌, ◌≡◌};
+ghost use Rattle.std.specs.Prelude.{◌≢◌};
 ghost use mathlib.Core.List.{IsPrefix};
 ghost use Rattle.argus_core.specs.ReadyCommit.{added_by_call};
-ghost use Rattle.argus_entries.specs.Call.{plain_call};
-ghost use Rattle.argus_entries.specs.Reply.{plain_reply};
+ghost use Rattle.argus_entries.specs.{Call.plain_call, Reply.plain_reply};
 ghost use Rattle.argus_journal.specs.JournalView.{after, next_entry, reply_to};
 ghost use Rattle.argus_sharing.specs.CallEach.{added_by_calls, after_calls, end_of, is_met};
 ghost use Rattle.argus_sharing.specs.CallEach.{replies_of};

@@ -1,16 +1,13 @@
 //! `check`: whether receipts and seats agree with a journal.
 
-ghost use Rattle.std.specs.Prelude.{◌+◌, ◌≡◌, ◌≤◌, ◌++◌, ◌∷◌, [], All, None, Some, map};
-ghost use Rattle.std.specs.Prelude.{IfErr, IfOk, OnOk};
-ghost use Rattle.argus_entries.specs.Call.{plain_call};
-ghost use Rattle.argus_entries.specs.Entry.{plain_entry};
-ghost use Rattle.argus_entries.specs.Reply.{plain_reply};
+ghost use Rattle.std.specs.Prelude.{◌+◌, ◌≡◌, ◌≤◌, ◌++◌, ◌∷◌, [], All, None, Some, map, IfErr};
+ghost use Rattle.std.specs.Prelude.{IfOk, OnOk};
+ghost use Rattle.argus_entries.specs.{Call.plain_call, Entry.plain_entry, Reply.plain_reply};
 ghost use Rattle.argus_entries.specs.Same.{same_call, same_entry, same_reply};
 ghost use Rattle.argus_journal.specs.Folding.{next_entry_number};
 ghost use Rattle.argus_journal.specs.Journal.{entries_of, entry_at, opening_of};
-ghost use Rattle.argus_sharing.specs.Checking.{AreApart, IsSettleAnswer, Stands};
-ghost use Rattle.argus_sharing.specs.Checking.{first_fault, is_entry, receipt_fault};
-ghost use Rattle.argus_sharing.specs.Checking.{settle_fault};
+ghost use Rattle.argus_sharing.specs.Checking.{AreApart, IsSettleAnswer, Stands, first_fault};
+ghost use Rattle.argus_sharing.specs.Checking.{is_entry, receipt_fault, settle_fault};
 ghost use Rattle.argus_sharing.specs.Receipt.{plain_receipt};
 
 use crate::receipt::Receipt;

@@ -2,8 +2,8 @@
 
 ghost use Rattle.std.specs.Prelude.{◌++◌, ◌≡◌};
 ghost use Rattle.argus_journal.specs.LegalJournal.{entries_in, opening_in};
-ghost use Rattle.argus_sharing.specs.Following.{FollowsJournal, IsSharedJournal};
 ghost use Rattle.argus_journal.specs.JournalView.{next_entry};
+ghost use Rattle.argus_sharing.specs.Following.{FollowsJournal, IsSharedJournal};
 
 use crate::publishing_guardian::PublishingGuardian;
 use crate::sharing::Sharing;

@@ -1,20 +1,17 @@
 //! What lookers get under the mutex.
 
 ghost use Rattle.std.specs.Prelude.{OnErr, OnOk, Some, [], false, true, ℕ, ◌++◌, ◌<◌, ◌↔◌, ◌≡◌};
-ghost use Rattle.std.specs.Prelude.{◌≢◌};
+ghost use Rattle.std.specs.{Prelude.{◌≢◌}, Result.result_err};
 ghost use mathlib.Core.List.{IsPrefix};
-ghost use Rattle.std.specs.Result.{result_err};
 ghost use Rattle.argus_core.specs.Checkpoint.{after_checkpoint, is_quiet};
 ghost use Rattle.argus_core.specs.Objects.{refusal_of_access};
-ghost use Rattle.argus_entries.specs.Call.{plain_call};
-ghost use Rattle.argus_entries.specs.declared.refusal.Refusal.TheVariants.{Conflict};
 ghost use Rattle.argus_core.specs.declared.checkpoint_error.CheckpointError.TheVariants.{Busy};
 ghost use Rattle.argus_core.specs.declared.checkpoint_error.CheckpointError.TheVariants.{Full};
-ghost use Rattle.argus_journal.specs.Objects.{shapes};
-ghost use Rattle.argus_journal.specs.JournalFacts.{base_of};
+ghost use Rattle.argus_entries.specs.Call.{plain_call};
+ghost use Rattle.argus_entries.specs.declared.refusal.Refusal.TheVariants.{Conflict};
+ghost use Rattle.argus_journal.specs.{Objects.shapes, JournalFacts.base_of, JournalView.next_entry};
 ghost use Rattle.argus_journal.specs.declared.limits.TheConstants.{MAX_FIRST_ENTRY};
 ghost use Rattle.argus_sharing.specs.Following.{FollowsJournal, IsSharedJournal};
-ghost use Rattle.argus_journal.specs.JournalView.{next_entry};
 
 use crate::locked::Locked;
 use crate::sharing::Sharing;

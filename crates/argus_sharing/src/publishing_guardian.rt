@@ -1,8 +1,7 @@
 //! `PublishingGuardian`: a guardian with the board that shows what its commits leave.
 
 ghost use Rattle.std.specs.Prelude.{◌++◌, ◌≡◌, IfOk, OnErr, OnOk};
-ghost use Rattle.argus_entries.specs.Call.{commit, plain_call};
-ghost use Rattle.argus_entries.specs.Reply.{plain_reply};
+ghost use Rattle.argus_entries.specs.{Call.{commit, plain_call}, Reply.plain_reply};
 ghost use Rattle.argus_core.specs.ReadyCommit.{added_by_call};
 ghost use Rattle.argus_journal.specs.JournalView.{after, reply_to};
 ghost use Rattle.argus_sharing.specs.Following.{GoesOn, IsNoCommit};

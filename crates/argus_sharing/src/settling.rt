@@ -2,9 +2,8 @@
 
 ghost use Rattle.std.specs.Prelude.{◌+◌, ◌<◌, ◌^◌, ◌≡◌, All, IfErr, OnOk, length, map, sum_by};
 ghost use Rattle.argus_sharing.specs.Checking.{AreApart, IsSettleAnswer, Stands, settle_fault};
-ghost use Rattle.argus_sharing.specs.Following.{IsSharedJournal};
+ghost use Rattle.argus_sharing.specs.{Following.IsSharedJournal, Receipt.plain_receipt};
 ghost use Rattle.argus_journal.specs.JournalView.{next_entry};
-ghost use Rattle.argus_sharing.specs.Receipt.{plain_receipt};
 
 use crate::checking::check;
 use crate::locked::Locked;

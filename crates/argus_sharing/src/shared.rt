@@ -1,23 +1,16 @@
 //! `Shared`: a guardian that threads share.
 
-ghost use Rattle.std.specs.Prelude.{All, IfErr, IfOk, OnErr, OnOk, [], false, length, map};
-ghost use Rattle.std.specs.Prelude.{sum_by};
-ghost use Rattle.std.specs.Prelude.{true, ◌++◌, ◌+◌, ◌<◌, ◌≡◌, ◌≢◌};
-ghost use Rattle.std.specs.Result.{result_err};
+ghost use Rattle.std.specs.Prelude.{All, IfErr, IfOk, OnErr, OnOk, [], false, length, map, sum_by};
+ghost use Rattle.std.specs.{Prelude.{true, ◌++◌, ◌+◌, ◌<◌, ◌≡◌, ◌≢◌}, Result.result_err};
 ghost use mathlib.Core.List.{IsPrefix};
 ghost use Rattle.argus_board.specs.Keeper.{StartsHistory};
-ghost use Rattle.argus_entries.specs.Call.{plain_call};
-ghost use Rattle.argus_entries.specs.Reply.{plain_reply};
-ghost use Rattle.argus_journal.specs.Opening.{content_in};
+ghost use Rattle.argus_entries.specs.{Call.plain_call, Reply.plain_reply};
+ghost use Rattle.argus_journal.specs.{Opening.content_in, JournalView.{JournalView, next_entry}};
 ghost use Rattle.argus_sharing.specs.Checking.{AreApart, IsSettleAnswer, Stands, settle_fault};
-ghost use Rattle.argus_sharing.specs.Receipt.{plain_receipt};
-ghost use Rattle.argus_sharing.specs.CallEach.{end_of, replies_of};
-ghost use Rattle.argus_sharing.specs.Checkpoint.{IsCheckpointAnswer};
+ghost use Rattle.argus_sharing.specs.{Receipt.plain_receipt, CallEach.{end_of, replies_of}};
+ghost use Rattle.argus_sharing.specs.{Checkpoint.IsCheckpointAnswer, Locked.LockedState};
 ghost use Rattle.argus_sharing.specs.Following.{FollowsJournal, IsFollowed, IsNextEntry};
-ghost use Rattle.argus_sharing.specs.Following.{IsSharedJournal};
-ghost use Rattle.argus_sharing.specs.Following.{journal_bases, journal_effects};
-ghost use Rattle.argus_sharing.specs.Locked.{LockedState};
-ghost use Rattle.argus_journal.specs.JournalView.{JournalView, next_entry};
+ghost use Rattle.argus_sharing.specs.Following.{IsSharedJournal, journal_bases, journal_effects};
 ghost use Rattle.argus_sharing.specs.declared.calls_end.CallsEnd.TheVariants as calls_end;
 
 use crate::answered::Answered;

@@ -1,12 +1,9 @@
 //! What a sharing begins with: seats, lookers, and the contents of its board.
 
 ghost use Rattle.std.specs.Prelude.{◌<◌, ◌≡◌, [], All, IfOk, length};
-ghost use Rattle.argus_board.specs.Effects.{plain_contents};
-ghost use Rattle.argus_board.specs.Keeper.{StartsHistory};
+ghost use Rattle.argus_board.specs.{Effects.plain_contents, Keeper.StartsHistory};
 ghost use Rattle.argus_contents.specs.Content.{plain_option};
-ghost use Rattle.argus_journal.specs.Objects.{declared};
-ghost use Rattle.argus_journal.specs.Opening.{content_in};
-ghost use Rattle.argus_journal.specs.JournalFacts.{base_of};
+ghost use Rattle.argus_journal.specs.{Objects.declared, Opening.content_in, JournalFacts.base_of};
 ghost use Rattle.argus_sharing.specs.Following.{journal_bases, journal_effects};
 
 use crate::seat::Seat;

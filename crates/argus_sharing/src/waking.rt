@@ -1,8 +1,7 @@
 //! Which calls wake those that wait: the ones that ended actions.
 
 ghost use Rattle.std.specs.Prelude.{◌≡◌};
-ghost use Rattle.argus_entries.specs.Call.{plain_call};
-ghost use Rattle.argus_entries.specs.Reply.{plain_reply};
+ghost use Rattle.argus_entries.specs.{Call.plain_call, Reply.plain_reply};
 ghost use Rattle.argus_journal.specs.Events.{is_answered};
 ghost use Rattle.argus_sharing.specs.Waking.{may_end};
 

@@ -1,35 +1,21 @@
 -- What a statement that changed rows of a log has done.
-use Rattle.std.proofs.Common.{◌≡◌, ◌⊎◌, inl, inr, ℕ, ℤ, pos, List, [], ◌∷◌, ◌++◌, arith, map, length, Bool, true, false, ◌&&◌, cond, Some, None, Ok, Err, Result, refl, sym, ap, subst, ◌∙◌, Ordering, Less, Equal, Greater, is_eq, int_cmp, true≢false, unwrap_or, IsPermutation}
-use Rattle.std.proofs.lemmas.List.Sorted.{length_permutation}
-use Rattle.std.proofs.lemmas.Cmp.{int_ranked, tied_itself, int_cmp_total}
-use Rattle.sqlite.specs.declared.types.Value.{Value}
-use Rattle.sqlite.specs.declared.types.Value.TheVariants.{Null, Int, Text}
-use Rattle.sqlite.specs.Collation.TheVariants.{Binary}
-use Rattle.sqlite_sql.specs.declared.ops.BinaryOp.TheVariants.{Compare}
-use Rattle.sqlite_sql.specs.declared.ops.CompareOp.TheVariants.{Eq}
-use Rattle.sqlite.specs.Order.{Row}
-use Rattle.sqlite.specs.Ops.{unary, binary, is_true, from_truth}
-use Rattle.sqlite.specs.Kind.TheVariants.{Integer}
-use Rattle.sqlite.specs.Source.TheVariants.{Values}
-use Rattle.sqlite.specs.Command.TheVariants.{Insert, Update}
-use Rattle.sqlite.specs.Query.{inner, end, IsAnswer, output, Output, matches_as, page}
-use Rattle.sqlite.specs.Program.{overlay}
-use Rattle.sqlite.specs.Edit.{edit_of, edited, Applies}
-use Rattle.sqlite.specs.Cast.{cast}
-use Rattle.sqlite.specs.Rowids.TheVariants.{Chosen, Given}
+use Rattle.std.proofs.Common.{◌≡◌, ◌⊎◌, inl, inr, ℕ, ℤ, pos, List, [], ◌∷◌, ◌++◌, arith, map, length, Bool, true, false}
+use Rattle.std.proofs.Common.{◌&&◌, cond, Some, None, Ok, Err, Result, refl, sym, ap, subst, ◌∙◌, Ordering, Less, Equal}
+use Rattle.std.proofs.Common.{Greater, is_eq, int_cmp, true≢false, unwrap_or, IsPermutation}
+use Rattle.std.proofs.{lemmas.List.Sorted.length_permutation, lemmas.Cmp.{int_ranked, tied_itself, int_cmp_total}}
+use Rattle.sqlite.specs.{declared.types.Value.Value, declared.types.Value.TheVariants.{Null, Int, Text}, Order.Row}
+use Rattle.sqlite.specs.{Collation.TheVariants.Binary, Ops.{unary, binary, is_true, from_truth}, Program.overlay}
+use Rattle.sqlite.specs.{Kind.TheVariants.Integer, Source.TheVariants.Values, Command.TheVariants.{Insert, Update}}
+use Rattle.sqlite.specs.{Query.{inner, end, IsAnswer, output, Output, matches_as, page}, Cast.cast, Does.{Tally, Does}}
+use Rattle.sqlite.specs.{Edit.{edit_of, edited, Applies}, Rowids.TheVariants.{Chosen, Given}, Rows.Written}
+use Rattle.sqlite.specs.{Tree.{Trees, put_row}, Effect.Database, State.{State, mode_of, Executes}, Listing.understood}
+use Rattle.sqlite_sql.specs.{declared.ops.BinaryOp.TheVariants.Compare, declared.ops.CompareOp.TheVariants.Eq}
 use Rattle.sqlite_schema.specs.declared.schema.Keys.TheVariants.{Enforced}
 use Rattle.sqlite_rules.specs.Calls.{ids_of}
-use Rattle.sqlite.specs.Does.{Tally, Does}
-use Rattle.sqlite.specs.Rows.{Written}
-use Rattle.sqlite.specs.Tree.{Trees, put_row}
-use Rattle.sqlite.specs.Effect.{Database}
-use Rattle.sqlite.specs.State.{State, mode_of, Executes}
-use Rattle.sqlite.specs.Listing.{understood}
 use Rattle.sqlite.proofs.Callers.{statement_of, runs_as, one_step, one_permutation}
 use Rattle.sqlite_value.proofs.OrderLemmas.{value_cmp-Int}
-use Rattle.argus_store.specs.Tables.{log_table, batch_table, log_schema}
+use Rattle.argus_store.specs.{Tables.{log_table, batch_table, log_schema}, Appending.{move_text, put_text, move_row}}
 use Rattle.argus_store.specs.Journal.{Batch, Journal, ending_at, batch_row, shown_batch, log_row, HoldsRows, AreBelow}
-use Rattle.argus_store.specs.Appending.{move_text, put_text, move_row}
 use Rattle.argus_store.proofs.Statements.{move_query, move_program, move_is, move_plain, put_terms, put_is, put_plain}
 
 either : (b : Bool) (x : Value) → cond b x x ≡ x

@@ -1,18 +1,13 @@
 -- From one log to the next: what holds of a store after an append, whether it returned or a crash came first.
-use Rattle.std.proofs.Common.{◌≡◌, inl, inr, ℤ, List, [], ◌∷◌, ◌++◌, arith, IsTrue, Bool, true, false, Ok, Err, Result, IfOk, OnErr, ◌≢◌, int_le, refl, sym, ap, subst, ◌∙◌, Less, int_cmp}
-use Rattle.std.specs.List.{AllByRecursion}
+use Rattle.std.proofs.Common.{◌≡◌, inl, inr, ℤ, List, [], ◌∷◌, ◌++◌, arith, IsTrue, Bool, true, false, Ok, Err, Result}
+use Rattle.std.proofs.{Common.{IfOk, OnErr, ◌≢◌, int_le, refl, sym, ap, subst, ◌∙◌, Less, int_cmp}, lemmas.Int.ints}
 use Rattle.std.proofs.lemmas.Cmp.{int_cmp_total}
-use Rattle.std.proofs.lemmas.Int.{ints}
-use Rattle.sqlite.specs.declared.error.Error.{Error}
-use Rattle.sqlite.specs.Tree.{Trees}
-use Rattle.sqlite.specs.Store.{Ghosts}
-use Rattle.sqlite.specs.Effect.{Database}
+use Rattle.std.specs.List.{AllByRecursion}
+use Rattle.sqlite.specs.{declared.error.Error.Error, Tree.Trees, Store.Ghosts, Effect.Database, Held.{Held, state}}
 use Rattle.sqlite.specs.State.{State, HasCleanDisk, Survives}
-use Rattle.sqlite.specs.Held.{Held, state}
 use Rattle.sqlite_keyed.proofs.ListLemmas.{all_weaker}
-use Rattle.argus_store.specs.Tables.{log_schema}
+use Rattle.argus_store.specs.{Tables.log_schema, Store.{HasLog, Leaves, LeavesEither}}
 use Rattle.argus_store.specs.Journal.{Batch, Journal, ending_at, with_batch, HoldsRows, HoldsLog, AreBelow, AreRising}
-use Rattle.argus_store.specs.Store.{HasLog, Leaves, LeavesEither}
 use Rattle.argus_store.specs.Appending.{Appends, IsElsewhere, IsSettled, IsAsBefore}
 use Rattle.argus_store.proofs.Changes.{moves, puts, counts}
 

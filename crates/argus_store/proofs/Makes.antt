@@ -1,28 +1,16 @@
 -- What the statements that make a log have done.
-use Rattle.std.proofs.Common.{◌≡◌, ℕ, ℤ, pos, List, [], ◌∷◌, ◌++◌, codes, IsTrue, false, None, Ok, refl, sym, ap, subst, ◌∙◌, arith}
-use Rattle.sqlite.specs.declared.types.Value.TheVariants.{Null, Int}
-use Rattle.sqlite.specs.Order.{Row}
-use Rattle.sqlite.specs.Table.{Table}
-use Rattle.sqlite.specs.Schema.{Schema}
-use Rattle.sqlite.specs.Term.{Term, lit, col}
-use Rattle.sqlite.specs.Source.TheVariants.{Values}
-use Rattle.sqlite.specs.Command.TheVariants.{CreateTable, Insert}
-use Rattle.sqlite.specs.Compile.{table_defined_by}
-use Rattle.sqlite.specs.Change.{created, next_tree, KeepsRows}
-use Rattle.sqlite.specs.Edit.{edit_of, edited, Applies}
-use Rattle.sqlite.specs.Rowids.TheVariants.{Chosen}
+use Rattle.std.proofs.Common.{◌≡◌, ℕ, ℤ, pos, List, [], ◌∷◌, ◌++◌, codes, IsTrue, false, None, Ok, refl, sym, ap, subst}
+use Rattle.std.proofs.Common.{◌∙◌, arith}
+use Rattle.sqlite.specs.{declared.types.Value.TheVariants.{Null, Int}, Order.Row, Table.Table, Schema.Schema}
+use Rattle.sqlite.specs.{Term.{Term, lit, col}, Source.TheVariants.Values, Command.TheVariants.{CreateTable, Insert}}
+use Rattle.sqlite.specs.{Compile.table_defined_by, Change.{created, next_tree, KeepsRows}, Rowids.TheVariants.Chosen}
+use Rattle.sqlite.specs.{Edit.{edit_of, edited, Applies}, Does.{Tally, Does, lacks_sequence}, Rows.Written, Tree.Trees}
+use Rattle.sqlite.specs.{Effect.Database, Listing.understood, State.{State, mode_of, Writes, Executes}}
 use Rattle.sqlite_schema.specs.declared.schema.Keys.TheVariants.{Enforced}
-use Rattle.sqlite.specs.Does.{Tally, Does, lacks_sequence}
-use Rattle.sqlite.specs.Rows.{Written}
-use Rattle.sqlite.specs.Tree.{Trees}
-use Rattle.sqlite.specs.Effect.{Database}
 use Rattle.sqlite_tied.specs.Compute.{everything}
-use Rattle.sqlite.specs.Listing.{understood}
-use Rattle.sqlite.specs.State.{State, mode_of, Writes, Executes}
 use Rattle.sqlite.proofs.Callers.{IsPlain, command_of, statement_of, runs_as, one_step}
 use Rattle.argus_store.specs.Tables.{no_schema, log_table, opening_table, batch_table, object_table, log_schema}
-use Rattle.argus_store.specs.Journal.{Journal, new_journal, log_row, HoldsRows, HoldsLog}
-use Rattle.argus_store.specs.Store.{HasLog}
+use Rattle.argus_store.specs.{Journal.{Journal, new_journal, log_row, HoldsRows, HoldsLog}, Store.HasLog}
 use Rattle.argus_store.specs.Making.{begin_row, begin_text}
 use Rattle.argus_store.proofs.Changes.{went, same_value, cast_int, cast_null}
 

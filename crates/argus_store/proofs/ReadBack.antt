@@ -1,19 +1,14 @@
 -- What reading the batches shows: all of them, in the order of their entries.
 use Rattle.std.proofs.Common.{◌≡◌, List, [], ◌∷◌, map, refl, ap, subst, ◌∙◌, Less, IsPermutation, int_cmp}
 use Rattle.std.specs.List.{flat_map}
-use Rattle.sqlite.specs.declared.types.Value.TheVariants.{Null, Int}
-use Rattle.sqlite.specs.Order.{Row, value_cmp}
+use Rattle.sqlite.specs.{declared.types.Value.TheVariants.{Null, Int}, Order.{Row, value_cmp}, Program.overlay}
 use Rattle.sqlite.specs.Query.{inner, end, IsAnswer, output, output_cmp, Output, matches_as, page}
-use Rattle.sqlite.specs.Program.{overlay}
-use Rattle.sqlite.specs.Tree.{Trees, IsAscending}
-use Rattle.sqlite.specs.State.{State, Shown}
+use Rattle.sqlite.specs.{Tree.{Trees, IsAscending}, State.{State, Shown}}
 use Rattle.sqlite.proofs.Callers.{reads_as}
 use Rattle.sqlite_sql.proofs.QueryLemmas.{output_cmp_total}
 use Rattle.sqlite_value.proofs.OrderLemmas.{value_cmp-Int, then-Equal}
-use Rattle.sqlite_keyed.proofs.ListLemmas.{ascending-map, all_weaker}
-use Rattle.sqlite_keyed.proofs.SortLemmas.{sorted_unique}
-use Rattle.argus_store.specs.Tables.{log_schema}
-use Rattle.argus_store.specs.Journal.{Batch, Journal, batch_row, shown_batch, HoldsLog, AreRising}
+use Rattle.sqlite_keyed.proofs.{ListLemmas.{ascending-map, all_weaker}, SortLemmas.sorted_unique}
+use Rattle.argus_store.specs.{Tables.log_schema, Journal.{Batch, Journal, batch_row, shown_batch, HoldsLog, AreRising}}
 use Rattle.argus_store.proofs.Statements.{read_text, read_query, read_is, read_plain, read_unlisted}
 
 -- what a batch is sorted by, and what it shows

@@ -1,34 +1,24 @@
 -- A crash, and the next opening: the schema that the files list, and the log in them.
-use Rattle.std.proofs.Common.{◌≡◌, inl, inr, ℕ, zero, suc, ◌+◌, List, [], ◌∷◌, IsTrue, Some, refl, sym, ap, ap₂, subst, subst₂, arith, ◌∙◌, length, slice_get, filter}
-use Rattle.std.proofs.Math.Logic.{∥∥₁_elim, ∥∥₁_map}
+use Rattle.std.proofs.Common.{◌≡◌, inl, inr, ℕ, zero, suc, ◌+◌, List, [], ◌∷◌, IsTrue, Some, refl, sym, ap, ap₂, subst}
+use Rattle.std.proofs.{Common.{subst₂, arith, ◌∙◌, length, slice_get, filter}, Math.Logic.{∥∥₁_elim, ∥∥₁_map}}
 use Rattle.std.specs.List.{AllZip}
-use Rattle.sqlite_value.specs.declared.value.Value.{Value}
+use Rattle.sqlite_value.specs.{declared.value.Value.Value, Order.{Row, column}}
 use Rattle.sqlite_value.specs.declared.value.Value.TheVariants.{Null, Int, Real, Text, Blob}
-use Rattle.sqlite_value.specs.Order.{Row, column}
 use Rattle.sqlite_disk.specs.declared.Disk.{Ghosts}
 use Rattle.sqlite_wal.specs.Recovery.{Image}
 use Rattle.sqlite_wal.proofs.LogLemmas.{SeenMayStay}
-use Rattle.sqlite_trees.specs.Tree.{Trees}
-use Rattle.sqlite_trees.specs.Props.{Trees-set}
-use Rattle.sqlite_trees.specs.Objects.{catalog_tree}
-use Rattle.sqlite_store.specs.declared.store.FileStore.{FileStore}
+use Rattle.sqlite_trees.specs.{Tree.Trees, Props.Trees-set, Objects.catalog_tree}
+use Rattle.sqlite_store.specs.{declared.store.FileStore.FileStore, Laws.settled_at}
 use Rattle.sqlite_store.specs.FileStore as store
-use Rattle.sqlite_store.specs.Laws.{settled_at}
-use Rattle.sqlite_schema.specs.declared.schema.Table.{Table}
-use Rattle.sqlite_schema.specs.declared.schema.Index.{Index}
+use Rattle.sqlite_schema.specs.{declared.schema.Table.Table, declared.schema.Index.Index, declared.schema.Schema.Schema}
 use Rattle.sqlite_schema.specs.declared.schema.View.{View as Stored}
-use Rattle.sqlite_schema.specs.declared.schema.Schema.{Schema}
 use Rattle.sqlite_rules.specs.Lists.{Has}
 use Rattle.sqlite_catalog.specs.Listing.{IsSound, IsTableRow, IsIndexRow, IsViewRow, IsDefined, automatic, is_index_row}
-use Rattle.sqlite.specs.State.{State, Opens, IsLive}
-use Rattle.sqlite.specs.Effect.{Database}
-use Rattle.sqlite.specs.Held.{Held, AreDatabases}
+use Rattle.sqlite.specs.{State.{State, Opens, IsLive}, Effect.Database, Held.{Held, AreDatabases}, Start.FindsIn}
 use Rattle.sqlite.specs.Files.{file_state, HoldsDatabase}
-use Rattle.sqlite.specs.Start.{FindsIn}
 use Rattle.sqlite.proofs.Theorems.{opens_again}
 use Rattle.argus_store.specs.Tables.{log_table, opening_table, batch_table, object_table, log_schema}
-use Rattle.argus_store.specs.Journal.{Journal, HoldsLog}
-use Rattle.argus_store.specs.Store.{HasLog, FilesHold, Keeps}
+use Rattle.argus_store.specs.{Journal.{Journal, HoldsLog}, Store.{HasLog, FilesHold, Keeps}}
 
 -- ---- a row of the list names one table
 

@@ -1,19 +1,13 @@
 -- What the texts of the statements mean over the log's tables: the check runs SQL's meaning on each.
 use Rattle.std.proofs.Common.{◌≡◌, ℕ, pos, negsuc, List, [], ◌∷◌, codes, false, None, refl}
-use Rattle.sqlite.specs.Collation.TheVariants.{Binary}
-use Rattle.sqlite.specs.declared.types.Value.TheVariants.{Null, Int}
-use Rattle.sqlite.specs.Term.{Term, lit, col, op2}
-use Rattle.sqlite_sql.specs.declared.ops.BinaryOp.TheVariants.{Compare}
-use Rattle.sqlite_sql.specs.declared.ops.CompareOp.TheVariants.{Eq}
-use Rattle.sqlite.specs.Query.{Query, inner, end}
+use Rattle.sqlite.specs.{Collation.TheVariants.Binary, declared.types.Value.TheVariants.{Null, Int}}
+use Rattle.sqlite.specs.{Term.{Term, lit, col, op2}, Query.{Query, inner, end}, Source.TheVariants.Values}
+use Rattle.sqlite.specs.{Command.TheVariants.{Insert, Update, Select}, Listing.{understood, reads_listing}}
+use Rattle.sqlite_sql.specs.{declared.ops.BinaryOp.TheVariants.Compare, declared.ops.CompareOp.TheVariants.Eq}
 use Rattle.sqlite_schema.specs.declared.program.Program.{Program}
-use Rattle.sqlite.specs.Source.TheVariants.{Values}
-use Rattle.sqlite.specs.Command.TheVariants.{Insert, Update, Select}
 use Rattle.sqlite_tied.specs.Compute.{everything}
-use Rattle.sqlite.specs.Listing.{understood, reads_listing}
 use Rattle.sqlite.proofs.Callers.{IsPlain, command_of}
-use Rattle.argus_store.specs.Tables.{log_schema}
-use Rattle.argus_store.specs.Appending.{move_text, put_text}
+use Rattle.argus_store.specs.{Tables.log_schema, Appending.{move_text, put_text}}
 
 -- ---- the log's end is moved
 

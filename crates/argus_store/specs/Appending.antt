@@ -1,11 +1,7 @@
 -- What the transaction of an append does to a database.
 use Rattle.std.specs.Prelude.{◌≡◌, ◌≢◌, ℕ, ℤ, true, false, List, [], ◌∷◌, Ok, IsTrue, codes}
-use Rattle.sqlite.specs.declared.types.Value.TheVariants.{Int}
-use Rattle.sqlite.specs.Order.{Row}
-use Rattle.sqlite.specs.Store.{Ghosts}
-use Rattle.sqlite.specs.Effect.{Database}
-use Rattle.sqlite.specs.State.{State, Executes}
-use Rattle.sqlite.specs.Held.{Held, state}
+use Rattle.sqlite.specs.{declared.types.Value.TheVariants.Int, Order.Row, Store.Ghosts, Effect.Database}
+use Rattle.sqlite.specs.{State.{State, Executes}, Held.{Held, state}}
 use Rattle.argus_store.specs.Journal.{Batch, shown_batch}
 
 abbrev pub move_text : List ℕ

@@ -1,11 +1,8 @@
 -- What a log has, and when the trees of a database hold it.
-use Rattle.std.specs.Prelude.{◌≡◌, ℕ, ℤ, pos, ⊤, List, [], ◌∷◌, ◌++◌, map}
-use Rattle.std.specs.List.{AllByRecursion}
-use Rattle.std.specs.Ordering.{int_cmp}
+use Rattle.std.specs.{Prelude.{◌≡◌, ℕ, ℤ, pos, ⊤, List, [], ◌∷◌, ◌++◌, map}, List.AllByRecursion, Ordering.int_cmp}
 use Rattle.std.specs.declared.cmp.Ordering.TheVariants.{Less}
 use Rattle.sqlite.specs.declared.types.Value.TheVariants.{Null, Int, Text as Words}
-use Rattle.sqlite.specs.Order.{Row}
-use Rattle.sqlite.specs.Tree.{Trees}
+use Rattle.sqlite.specs.{Order.Row, Tree.Trees}
 
 -- some lines of a journal's listing, the number of the first one's entry, and their sum
 pub record Batch : Type 0 where

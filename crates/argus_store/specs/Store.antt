@@ -1,16 +1,11 @@
 -- What a store shows, and what a crash leaves of it.
 use Rattle.std.specs.Prelude.{◌≡◌, ◌⊎◌, IsTrue, false}
 use Rattle.sqlite_disk.specs.declared.Disk.{Ghosts}
-use Rattle.sqlite.specs.Recovery.{Image}
-use Rattle.sqlite.specs.Tree.{Trees}
-use Rattle.sqlite.specs.State.{State}
-use Rattle.sqlite.specs.Held.{Held}
-use Rattle.sqlite.specs.FileStore as store
-use Rattle.sqlite.specs.declared.FileStore.{FileStore}
+use Rattle.sqlite.specs.{Recovery.Image, Tree.Trees, State.State, Held.Held, declared.FileStore.FileStore}
 use Rattle.sqlite.specs.Files.{file_state, HoldsDatabase}
+use Rattle.sqlite.specs.FileStore as store
 use Rattle.sqlite_catalog.specs.Listing.{IsSound}
-use Rattle.argus_store.specs.Tables.{log_schema}
-use Rattle.argus_store.specs.Journal.{Journal, HoldsLog}
+use Rattle.argus_store.specs.{Tables.log_schema, Journal.{Journal, HoldsLog}}
 
 -- The store is open, has no transaction under way, and its database is this log, all of it committed.
 pub record HasLog (s : State) (j : Journal) : Type 0 where

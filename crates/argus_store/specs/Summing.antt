@@ -1,6 +1,5 @@
 -- The sum of a batch, as docs/DURABLE.md has it.
-use Rattle.std.specs.Prelude.{ℕ, ◌%◌, ◌/◌, ◌==◌, if◌then◌else◌, bit_xor, fold, decimal, codes}
-use Rattle.std.specs.Prelude.{List, ◌++◌}
+use Rattle.std.specs.Prelude.{ℕ, ◌%◌, ◌/◌, ◌==◌, if◌then◌else◌, bit_xor, fold, decimal, codes, List, ◌++◌}
 
 -- the last bit goes out, and if it is 1 the polynomial is taken off
 unfoldable pub shifted : ℕ → ℕ

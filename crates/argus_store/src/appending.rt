@@ -1,8 +1,7 @@
 //! The transaction of an append: it moves the log's end, and puts the batch in.
 
 ghost use Rattle.std.specs.Prelude.{◌≡◌, IsTrue, false, IfOk, OnErr};
-ghost use Rattle.sqlite.specs.State.{HasCleanDisk, Survives, ExecutesInside};
-ghost use Rattle.sqlite.specs.Held.{state};
+ghost use Rattle.sqlite.specs.{State.{HasCleanDisk, Survives, ExecutesInside}, Held.state};
 ghost use Rattle.argus_store.specs.Journal.{a_batch, shown_batch};
 ghost use Rattle.argus_store.specs.Appending.{Appends, IsAsBefore, IsElsewhere, IsSettled};
 ghost use Rattle.argus_store.specs.Appending.{move_row, move_text, put_text};

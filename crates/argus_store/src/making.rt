@@ -1,12 +1,9 @@
 //! Makes the tables of a log, in one transaction.
 
 ghost use Rattle.std.specs.Prelude.{◌≡◌, ◌≢◌, ◌↔◌, IsTrue, IfOk, false};
-ghost use Rattle.sqlite.specs.State.{HasCleanDisk, Survives, ExecutesInside};
-ghost use Rattle.sqlite.specs.Held.{state};
-ghost use Rattle.argus_store.specs.Tables.{no_schema};
-ghost use Rattle.argus_store.specs.Journal.{new_journal};
+ghost use Rattle.sqlite.specs.{State.{HasCleanDisk, Survives, ExecutesInside}, Held.state};
+ghost use Rattle.argus_store.specs.{Tables.no_schema, Journal.new_journal, Store.HasLog};
 ghost use Rattle.argus_store.specs.Making.{begin_row, begin_text};
-ghost use Rattle.argus_store.specs.Store.{HasLog};
 
 use sqlite::{Alter, Connection, Error, Transaction, params};
 use sqlite_schema::schema::Schema;

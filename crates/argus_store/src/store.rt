@@ -2,12 +2,8 @@
 
 ghost use Rattle.std.specs.Prelude.{◌≡◌, ◌≢◌, ◌⊎◌, ◌≤ℤ◌, IfOk, IfSome, IsTrue, None, Ok, false};
 ghost use Rattle.std.specs.Prelude.{map, true};
-ghost use Rattle.sqlite.specs.State.{HasCleanDisk};
-ghost use Rattle.sqlite.specs.Held.{state};
-ghost use Rattle.sqlite.specs.Files.{file_state};
-ghost use Rattle.sqlite.specs.View.{IsClean};
-ghost use Rattle.sqlite.specs.FileStore.{view};
-ghost use Rattle.sqlite.specs.WalFiles.{image_at};
+ghost use Rattle.sqlite.specs.{State.HasCleanDisk, Held.state, Files.file_state, View.IsClean};
+ghost use Rattle.sqlite.specs.{FileStore.view, WalFiles.image_at};
 ghost use Rattle.argus_store.specs.Tables.{no_schema};
 ghost use Rattle.argus_store.specs.Journal.{Journal, new_journal, with_lines, shown_batch};
 ghost use Rattle.argus_store.specs.Store.{HasLog, Leaves, LeavesEither, FilesHold, Keeps};

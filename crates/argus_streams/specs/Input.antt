@@ -1,6 +1,5 @@
 -- What is read of an input.
-use Rattle.std.specs.Prelude.{List, Option, length, ℕ, ◌<◌, ◌≤◌}
-use Rattle.std.specs.Io.KnownBytes.{Consumes, IsAtEnd}
+use Rattle.std.specs.{Prelude.{List, Option, length, ℕ, ◌<◌, ◌≤◌}, Io.KnownBytes.{Consumes, IsAtEnd}}
 
 -- bytes were read: all that the reader had, or the first of them up to a limit
 pub record ReadUpTo (limit : ℕ) (old new : Option (List ℕ)) (bytes : List ℕ) : Type 0 where

@@ -1,8 +1,7 @@
 //! `FailStop`: a reader or a writer that is never tried again after a failure.
 
-ghost use Rattle.std.specs.Prelude.{◌≡◌, ◌≤◌, ◌<◌, length, take, true, false};
-ghost use Rattle.std.specs.Prelude.{IfSome, IfNone, OnSome};
-ghost use Rattle.std.specs.Io.KnownBytes.{Appends, Consumes, IsAtEnd, Keeps};
+ghost use Rattle.std.specs.Prelude.{◌≡◌, ◌≤◌, ◌<◌, length, take, true, false, IfSome, IfNone};
+ghost use Rattle.std.specs.{Prelude.OnSome, Io.KnownBytes.{Appends, Consumes, IsAtEnd, Keeps}};
 ghost use Rattle.argus_streams.specs.FailStop.{has_failed, inner_of, unless_failed};
 
 use std::io::{Read, Write};

@@ -1,6 +1,5 @@
 -- The accepted texts are the forms of the readers' languages.
-use Rattle.argus_texts.specs.Fault.{IsValueText}
-use Rattle.argus_texts.specs.Languages.{Values}
+use Rattle.argus_texts.specs.{Fault.IsValueText, Languages.Values}
 use Rattle.argus_texts.proofs.Faults.{Accepts}
 
 pub value_texts : Accepts (Values 16) IsValueText

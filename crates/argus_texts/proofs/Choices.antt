@@ -4,10 +4,8 @@ use Rattle.std.specs.Fmt.{decimal}
 use Rattle.argus_contents.specs.Value.{PlainValue, null}
 use Rattle.argus_texts.specs.Language.{Language, Reads, Stops, IsNot}
 use Rattle.argus_texts.specs.Languages.{Numbers, Word, Pairs, Values, Choices}
-use Rattle.argus_texts.proofs.Digits.{numbers_clear}
-use Rattle.argus_texts.proofs.Forms.{value_precedes, values_clear}
+use Rattle.argus_texts.proofs.{Digits.numbers_clear, Forms.{value_precedes, values_clear}, Stops.pair_whole}
 use Rattle.argus_texts.proofs.Stops.{Precedes, Clear, stops_in, stops_behind, pair_first, pair_second, pair_between}
-use Rattle.argus_texts.proofs.Stops.{pair_whole}
 
 abbrev Tags : Language
 Tags = Numbers 0 255

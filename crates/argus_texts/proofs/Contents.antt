@@ -1,21 +1,14 @@
 -- The form of a content: that a text begins with at most one, and where reading it stops.
 use Rattle.std.proofs.Common.{◌≡◌, ◌≢◌, ℕ, inl, inr, List, [], ◌∷◌, ◌++◌, length, refl, sym, ap, ◌∙◌, subst}
 use Rattle.std.proofs.Common.{append_assoc, append-nil, arith}
-use Rattle.std.specs.Prelude.{ℤ}
-use Rattle.std.specs.Fmt.{decimal, signed_decimal}
+use Rattle.std.specs.{Prelude.ℤ, Fmt.{decimal, signed_decimal}}
 use Rattle.argus_contents.specs.Value.{PlainValue, PlainValues, none, more, listed}
-use Rattle.argus_contents.specs.Content.{PlainContent, rec, arr, var}
-use Rattle.argus_contents.specs.declared.limits.TheConstants.{MAX_VALUE_DEPTH}
-use Rattle.argus_texts.specs.ContentSpelling.{content_spelling, PartsWithin}
-use Rattle.argus_texts.specs.Fault.{IsContentText}
-use Rattle.argus_texts.specs.Language.{Reads, Starts, Stops, First, IsNot}
-use Rattle.argus_texts.specs.Laws.{IsReadBack}
+use Rattle.argus_contents.specs.{Content.{PlainContent, rec, arr, var}, declared.limits.TheConstants.MAX_VALUE_DEPTH}
+use Rattle.argus_texts.specs.{ContentSpelling.{content_spelling, PartsWithin}, Fault.IsContentText, Laws.IsReadBack}
+use Rattle.argus_texts.specs.{Language.{Reads, Starts, Stops, First, IsNot}, Spelling.{spelling, inside, AllWithin}}
 use Rattle.argus_texts.specs.Languages.{BeginsInt, Ints, Insides, Choices, Contents, Arrays}
-use Rattle.argus_texts.specs.Spelling.{spelling, inside, AllWithin}
-use Rattle.argus_texts.proofs.Digits.{one_decimal, ints_clear}
-use Rattle.argus_texts.proofs.Faults.{Accepts}
+use Rattle.argus_texts.proofs.{Digits.{one_decimal, ints_clear}, Faults.Accepts, Lists.{tail_of, head_of}}
 use Rattle.argus_texts.proofs.Forms.{int_lead, int_front, one_form, one_inside, value_ends, choice_form}
-use Rattle.argus_texts.proofs.Lists.{tail_of, head_of}
 use Rattle.argus_texts.proofs.Stops.{Clear, Behind, Among, Precedes, stops_in, stops_behind, stops_among, pair_first}
 use Rattle.argus_texts.proofs.Stops.{pair_second, pair_between, pair_reads, pair_whole}
 

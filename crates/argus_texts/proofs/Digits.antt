@@ -1,14 +1,11 @@
 -- The digits of numbers, and where they stop.
 use Rattle.std.proofs.Common.{◌≡◌, ◌≢◌, ℕ, zero, suc, ◌<◌, ◌≤◌, ◌+◌, ◌-◌, ◌*◌, ◌^◌, ◌⊎◌, inl, inr, List, [], ◌∷◌, ◌++◌}
 use Rattle.std.proofs.Common.{length, get_or, refl, sym, ap, ◌∙◌, subst, append-nil, append_assoc, arith}
-use Rattle.std.specs.Prelude.{◌%◌, ◌/◌, ℤ, pos, negsuc}
-use Rattle.std.specs.Fmt.{decimal, signed_decimal}
 use Rattle.std.proofs.lemmas.Fmt.{decimal_by_steps, decimal_step, decimal_digit, first_decimal, decimal_injective}
-use Rattle.argus_texts.specs.Language.{Reads, Starts, NoWay, Stops, First}
+use Rattle.std.specs.{Prelude.{◌%◌, ◌/◌, ℤ, pos, negsuc}, Fmt.{decimal, signed_decimal}}
+use Rattle.argus_texts.specs.{Language.{Reads, Starts, NoWay, Stops, First}, Spelling.IsI64}
 use Rattle.argus_texts.specs.Languages.{IsNoDigit, NotDigit, Numbers, Ints}
-use Rattle.argus_texts.specs.Spelling.{IsI64}
-use Rattle.argus_texts.proofs.Lists.{tail_of, head_of}
-use Rattle.argus_texts.proofs.Stops.{Clear, Behind, Among, stops_now}
+use Rattle.argus_texts.proofs.{Lists.{tail_of, head_of}, Stops.{Clear, Behind, Among, stops_now}}
 
 abbrev AreDigits : List ℕ → Type 0
 AreDigits [] = Unit {0}

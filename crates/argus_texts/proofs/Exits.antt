@@ -1,11 +1,9 @@
 -- What a stop says, and what a refusal says, weakened.
 use Rattle.std.proofs.Common.{ℕ}
-use Rattle.argus_texts.specs.declared.stop.Stop.{Stop}
-use Rattle.argus_texts.specs.declared.stop.Stop.TheVariants as stop
-use Rattle.argus_texts.specs.declared.unread.Unread.{Unread}
-use Rattle.argus_texts.specs.declared.unread.Unread.TheVariants as unread
-use Rattle.argus_texts.specs.Language.{OnLeft}
+use Rattle.argus_texts.specs.{declared.stop.Stop.Stop, declared.unread.Unread.Unread, Language.OnLeft}
 use Rattle.argus_texts.specs.ShapeLanguages.{OnNoForm}
+use Rattle.argus_texts.specs.declared.stop.Stop.TheVariants as stop
+use Rattle.argus_texts.specs.declared.unread.Unread.TheVariants as unread
 
 pub passed : (e : Stop) (P Q : ℕ → Type 0) → ((left : ℕ) → P left → Q left) → OnLeft e P → OnLeft e Q
 passed (stop.Left left) P Q f h = f left h

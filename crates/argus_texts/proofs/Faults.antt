@@ -1,8 +1,7 @@
 -- From where reading stops to the fault of the whole text.
 use Rattle.std.proofs.Common.{◌≡◌, ℕ, zero, suc, ◌<◌, ◌≤◌, ◌-◌, List, [], ◌∷◌, ◌++◌, length, take, refl, sym, ap, ◌∙◌}
 use Rattle.std.proofs.Common.{subst, append-nil, append_assoc, length-append, arith}
-use Rattle.argus_texts.specs.Fault.{Begins, IsFault}
-use Rattle.argus_texts.specs.Language.{Language, FormOf, Reads, Starts, NoWay, Stops}
+use Rattle.argus_texts.specs.{Fault.{Begins, IsFault}, Language.{Language, FormOf, Reads, Starts, NoWay, Stops}}
 use Rattle.argus_texts.proofs.Stops.{Clear}
 
 -- no accepted text goes on as back does

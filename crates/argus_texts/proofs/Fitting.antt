@@ -1,18 +1,13 @@
 -- A value is no deeper than its type.
-use Rattle.std.proofs.Common.{◌≡◌, ℕ, zero, suc, ◌≤◌, ◌<◌, ◌-◌, true, arith}
-use Rattle.std.proofs.lemmas.Bool.{and_parts, false≢true}
-use Rattle.argus_contents.specs.Content.{PlainContent, is_within}
-use Rattle.argus_contents.specs.Content as content
-use Rattle.argus_contents.specs.Fitting.{is_fitting}
+use Rattle.std.proofs.{Common.{◌≡◌, ℕ, zero, suc, ◌≤◌, ◌<◌, ◌-◌, true, arith}, lemmas.Bool.{and_parts, false≢true}}
+use Rattle.argus_contents.specs.{Content.{PlainContent, is_within}, Fitting.is_fitting, Ty.more}
 use Rattle.argus_contents.specs.Shape.{PlainShape, rec, arr, var, depth_of, deepest_of, depth_in, IsMakeable}
 use Rattle.argus_contents.specs.Ty.{PlainTy, PlainFields, null, bool, int, text, atomic, sequence, fields, choice, none}
-use Rattle.argus_contents.specs.Ty.{more}
 use Rattle.argus_contents.specs.Typing.{is_typed, all_typed, each_typed, is_typed_at}
-use Rattle.argus_contents.specs.Value.{PlainValue, PlainValues, listed}
+use Rattle.argus_contents.specs.{Value.{PlainValue, PlainValues, listed}, declared.limits.TheConstants.MAX_VALUE_DEPTH}
+use Rattle.argus_contents.specs.Content as content
 use Rattle.argus_contents.specs.Value as value
-use Rattle.argus_contents.specs.declared.limits.TheConstants.{MAX_VALUE_DEPTH}
-use Rattle.argus_texts.specs.ContentSpelling.{PartsWithin}
-use Rattle.argus_texts.specs.Spelling.{Within, AllWithin}
+use Rattle.argus_texts.specs.{ContentSpelling.PartsWithin, Spelling.{Within, AllWithin}}
 use Rattle.argus_texts.proofs.Makeable.{makeable_depth}
 use Rattle.std.specs.Prelude.{length}
 

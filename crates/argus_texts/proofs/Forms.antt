@@ -1,16 +1,13 @@
 -- The form of a value: what it begins with, and that a text begins with at most one.
 use Rattle.std.proofs.Common.{◌≡◌, ◌≢◌, ℕ, suc, ◌≤◌, ◌-◌, inl, inr, true, false, List, [], ◌∷◌, ◌++◌, refl, sym, ap}
 use Rattle.std.proofs.Common.{◌∙◌, append_assoc, append-nil, arith}
-use Rattle.std.specs.Prelude.{ℤ, pos, negsuc, codes}
-use Rattle.std.specs.Fmt.{decimal, signed_decimal}
+use Rattle.std.specs.{Prelude.{ℤ, pos, negsuc, codes}, Fmt.{decimal, signed_decimal}}
 use Rattle.argus_contents.specs.Value.{PlainValue, PlainValues, null, bool, int, text, atomic, sequence, fields, choice}
 use Rattle.argus_contents.specs.Value.{none, more}
 use Rattle.argus_texts.specs.Languages.{IsNoDigit, NotDigit, ValueEnds, BeginsInt, BeginsNoScalar, IsClose, Values}
 use Rattle.argus_texts.specs.Spelling.{spelling, escaped, inside, behind, IsI64, Within, AllWithin}
-use Rattle.argus_texts.proofs.Lists.{tail_of, head_of}
-use Rattle.argus_texts.proofs.Digits.{some_decimal, first_digit, one_decimal, ints_clear}
-use Rattle.argus_texts.proofs.Quotes.{quoted_clear}
-use Rattle.argus_texts.proofs.Stops.{Clear, Precedes}
+use Rattle.argus_texts.proofs.{Lists.{tail_of, head_of}, Digits.{some_decimal, first_digit, one_decimal, ints_clear}}
+use Rattle.argus_texts.proofs.{Quotes.quoted_clear, Stops.{Clear, Precedes}}
 
 -- a value's form may begin with the byte
 abbrev pub Lead : PlainValue → ℕ → Type 0

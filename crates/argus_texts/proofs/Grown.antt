@@ -1,17 +1,12 @@
 -- Texts that had bytes appended.
 use Rattle.std.proofs.Common.{◌≡◌, ℕ, List, [], ◌∷◌, ◌++◌, length, take, refl, sym, ap, ◌∙◌, subst, append_assoc}
 use Rattle.std.proofs.Common.{length-append, String, string_bytes, rules, arith}
-use Rattle.std.specs.String.{string_len}
-use Rattle.std.specs.declared.alloc.Global.{Global}
-use Rattle.std.specs.Str.{IsUtf8, IsCharBoundary}
-use Rattle.std.specs.Fmt.{decimal}
 use Rattle.std.proofs.lemmas.Str.{IsCharBoundary-from_take, IsUtf8-string_bytes}
+use Rattle.std.specs.{String.string_len, declared.alloc.Global.Global, Str.{IsUtf8, IsCharBoundary}, Fmt.decimal}
 use Rattle.argus_memory.specs.declared.limited.Limited.{Limited}
 use Rattle.argus_contents.specs.Value.{PlainValue, choice, listed}
-use Rattle.argus_texts.specs.Grown.{Grew, commas}
-use Rattle.argus_texts.specs.Spelling.{escape, escaped, spelling, inside, behind}
-use Rattle.argus_texts.proofs.Faults.{take_front}
-use Rattle.argus_texts.proofs.Quotes.{escaped-append}
+use Rattle.argus_texts.specs.{Grown.{Grew, commas}, Spelling.{escape, escaped, spelling, inside, behind}}
+use Rattle.argus_texts.proofs.{Faults.take_front, Quotes.escaped-append}
 
 pub grew_more : (a b c : List ℕ) → Grew a b → Grew b c → Grew a c
 grew_more a b c g h =

@@ -1,15 +1,13 @@
 -- Where reading a list of values stops, and what is read of it.
 use Rattle.std.proofs.Common.{◌≡◌, ◌≢◌, ℕ, ◌≤◌, inl, inr, List, [], ◌∷◌, ◌++◌, length, refl, sym, ap, ◌∙◌, subst}
-use Rattle.std.proofs.Common.{append_assoc, append-nil, arith}
-use Rattle.std.proofs.lemmas.List.{map-append}
+use Rattle.std.proofs.{Common.{append_assoc, append-nil, arith}, lemmas.List.map-append}
 use Rattle.argus_contents.specs.Value.{PlainValue, PlainValues, none, more, listed, plain_value, plain_list}
 use Rattle.argus_contents.specs.declared.value.Value.{Value}
 use Rattle.argus_texts.specs.Language.{Reads, Starts, NoWay, Stops, First}
 use Rattle.argus_texts.specs.Languages.{ValueEnds, IsClose, Values, Insides, Items}
 use Rattle.argus_texts.specs.Spelling.{spelling, inside, behind, Within, AllWithin}
-use Rattle.argus_texts.proofs.Lists.{tail_of, head_of}
+use Rattle.argus_texts.proofs.{Lists.{tail_of, head_of}, Values.none_within}
 use Rattle.argus_texts.proofs.Forms.{close_no_comma, one_form, ends_behind, ends_first, value_ends}
-use Rattle.argus_texts.proofs.Values.{none_within}
 use Rattle.argus_texts.proofs.Stops.{Behind, Among, stops_now, stops_in, stops_behind, stops_among}
 
 -- the first value stops

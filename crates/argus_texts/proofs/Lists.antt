@@ -1,10 +1,8 @@
 -- Lists of bytes: first bytes, common prefixes.
 use Rattle.std.proofs.Common.{◌≡◌, ℕ, zero, suc, ◌<◌, ◌≤◌, true, List, [], ◌∷◌, ◌++◌, length, take, drop, get_or, refl}
-use Rattle.std.proofs.Common.{sym, ap, ◌∙◌, arith, drop-cons}
-use Rattle.std.specs.Prelude.{nat_lt, ◌&&◌, Bool, false}
+use Rattle.std.proofs.{Common.{sym, ap, ◌∙◌, arith, drop-cons}, lemmas.List.take-append-drop}
+use Rattle.std.specs.{Prelude.{nat_lt, ◌&&◌, Bool, false}, List.list_all}
 use borrow.Author.Tests.{ltb-true}
-use Rattle.std.specs.List.{list_all}
-use Rattle.std.proofs.lemmas.List.{take-append-drop}
 use Rattle.argus_texts.specs.Language.{First, IsNot}
 
 pub tail_of : {a b : ℕ} {xs ys : List ℕ} → a ∷ xs ≡ b ∷ ys → xs ≡ ys

@@ -1,11 +1,9 @@
 -- The types of a shape that can be made meet the reader's requirements.
 use Rattle.std.proofs.Common.{◌≡◌, ℕ, ◌≤◌, ◌-◌, Bool, true, false, nat_lt, ◌||◌, if◌then◌else◌, Option, Some, None}
-use Rattle.std.proofs.Common.{length, refl, arith}
-use Rattle.std.proofs.lemmas.Bool.{or_parts, ltb-false}
+use Rattle.std.proofs.{Common.{length, refl, arith}, lemmas.Bool.{or_parts, ltb-false}}
 use Rattle.argus_contents.specs.Shape.{PlainShape, rec, arr, var, names_of, in_ty, in_fields, anywhere, has_twice}
-use Rattle.argus_contents.specs.Shape.{has_none, has_too_many, depth_of, deepest_of, depth_in, fault_of}
+use Rattle.argus_contents.specs.{Shape.{has_none, has_too_many, depth_of, deepest_of, depth_in, fault_of}, Ty.more}
 use Rattle.argus_contents.specs.Ty.{PlainTy, PlainFields, null, bool, int, text, atomic, sequence, fields, choice, none}
-use Rattle.argus_contents.specs.Ty.{more}
 use Rattle.argus_contents.specs.declared.limits.TheConstants.{MAX_NAMES, MAX_VALUE_DEPTH}
 use Rattle.argus_contents.specs.declared.shape_fault.ShapeFault.{ShapeFault}
 use Rattle.argus_contents.specs.declared.shape_fault.ShapeFault.TheVariants.{NameTwice, NoNames, TooManyNames, TooDeep}

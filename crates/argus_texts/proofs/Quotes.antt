@@ -1,19 +1,13 @@
 -- Texts between quotes, and where they stop.
 use Rattle.std.proofs.Common.{◌≡◌, ◌≢◌, ℕ, Bool, true, false, ◌<◌, ◌≤◌, ◌+◌, ◌⊎◌, inl, inr, List, [], ◌∷◌, ◌++◌, length}
 use Rattle.std.proofs.Common.{take, get_or, refl, sym, ap, ◌∙◌, subst, append-nil, append_assoc, arith}
-use Rattle.std.specs.Prelude.{if◌then◌else◌}
-use Rattle.std.specs.Str.{IsUtf8}
-use Rattle.std.proofs.lemmas.Bool.Decides.{eqb_tells}
-use Rattle.std.proofs.lemmas.Str.{IsUtf8-append}
-use Rattle.std.proofs.lemmas.List.{take_more}
+use Rattle.std.proofs.{lemmas.Bool.Decides.eqb_tells, lemmas.Str.IsUtf8-append, lemmas.List.take_more}
+use Rattle.std.specs.{Prelude.{if◌then◌else◌}, Str.IsUtf8}
 use lib.Dec.{eqb}
 use lib.Utf8
-use Rattle.argus_texts.specs.Language.{Reads, NoWay, Stops, First}
-use Rattle.argus_texts.specs.Languages.{Quoted}
-use Rattle.argus_texts.specs.Quotes.{IsSpecial, IsNoEscape}
+use Rattle.argus_texts.specs.{Language.{Reads, NoWay, Stops, First}, Languages.Quoted, Quotes.{IsSpecial, IsNoEscape}}
 use Rattle.argus_texts.specs.Spelling.{escape, escaped}
-use Rattle.argus_texts.proofs.Lists.{tail_of, head_of}
-use Rattle.argus_texts.proofs.Stops.{Clear}
+use Rattle.argus_texts.proofs.{Lists.{tail_of, head_of}, Stops.Clear}
 
 pub escaped-append : (a b : List ℕ) → escaped (a ++ b) ≡ escaped a ++ escaped b
 escaped-append [] b = refl

@@ -1,13 +1,10 @@
 -- The forms of types and shapes: a text begins with at most one.
 use Rattle.std.proofs.Common.{◌≡◌, ◌≢◌, ℕ, true, List, [], ◌∷◌, ◌++◌, length, get_or, ◌&&◌, nat_lt, nat_le, refl, sym}
-use Rattle.std.proofs.Common.{ap, ◌∙◌, subst, append_assoc, codes, arith}
+use Rattle.std.proofs.{Common.{ap, ◌∙◌, subst, append_assoc, codes, arith}, lemmas.Bool.and_parts}
 use Rattle.std.specs.List.{list_all}
-use Rattle.std.proofs.lemmas.Bool.{and_parts}
-use Rattle.argus_contents.specs.declared.limits.TheConstants.{MAX_NAME_BYTES}
-use Rattle.argus_contents.specs.Name.{is_name, is_name_byte}
+use Rattle.argus_contents.specs.{declared.limits.TheConstants.MAX_NAME_BYTES, Name.{is_name, is_name_byte}, Ty.more}
 use Rattle.argus_contents.specs.Shape.{PlainShape, rec, arr, var}
 use Rattle.argus_contents.specs.Ty.{PlainTy, PlainFields, null, bool, int, text, atomic, sequence, fields, choice, none}
-use Rattle.argus_contents.specs.Ty.{more}
 use Rattle.argus_texts.specs.ShapeSpelling.{ty_spelling, names_inside, names_behind, shape_spelling, IsNamed, AreNamed}
 use Rattle.argus_texts.specs.ShapeSpelling.{HasNames}
 use Rattle.argus_texts.proofs.Lists.{tail_of, head_of}

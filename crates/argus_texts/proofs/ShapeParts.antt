@@ -1,17 +1,13 @@
 -- Where a part of a shape comes, and where none does.
 use Rattle.std.proofs.Common.{◌≡◌, ◌≢◌, ℕ, suc, ◌<◌, ◌-◌, true, false, List, [], ◌∷◌, ◌++◌, length, get_or, codes, None}
 use Rattle.std.proofs.Common.{refl, sym, ap, ◌∙◌, subst, append_assoc, append-nil, arith}
-use Rattle.argus_contents.specs.Name.{is_name}
-use Rattle.argus_contents.specs.Shape.{PlainShape, rec, arr, var, fault_of}
+use Rattle.argus_contents.specs.{Name.is_name, Shape.{PlainShape, rec, arr, var, fault_of}}
 use Rattle.argus_contents.specs.Ty.{PlainTy, PlainFields, none, more, named}
-use Rattle.argus_texts.specs.Language.{First, IsNot, Reads, Starts}
-use Rattle.argus_texts.specs.Languages.{Word}
+use Rattle.argus_texts.specs.{Language.{First, IsNot, Reads, Starts}, Languages.Word, ShapeLanguages.{Shapes, Types}}
 use Rattle.argus_texts.specs.ShapeLanguages.{BeginsNo, Closed, Fields, IsList, IsShallow, AreShallow, Lists, Names}
-use Rattle.argus_texts.specs.ShapeLanguages.{Shapes, Types}
 use Rattle.argus_texts.specs.ShapeSpelling.{ty_spelling, names_inside, names_behind, shape_spelling, IsNamed, AreNamed}
 use Rattle.argus_texts.specs.ShapeSpelling.{HasNames, IsMakeable, IsShapeText}
-use Rattle.argus_texts.proofs.Items.{NoEnd}
-use Rattle.argus_texts.proofs.Lists.{tail_of, head_of}
+use Rattle.argus_texts.proofs.{Items.NoEnd, Lists.{tail_of, head_of}}
 use Rattle.argus_texts.proofs.Makeable.{fields_makeable, tags_makeable, item_makeable, shallow_named}
 use Rattle.argus_texts.proofs.ShapeForms.{NoColon, colon_told, name_no_colon, name_told, one_ty, one_shape, kind_told}
 

@@ -1,7 +1,6 @@
 -- Where reading stops: what was read so far can be gone on with, but not as the text goes on.
 use Rattle.std.proofs.Common.{◌≡◌, ℕ, suc, ◌<◌, List, [], ◌∷◌, ◌++◌, length, take, drop, get_or, refl, sym, ap, ◌∙◌}
-use Rattle.std.proofs.Common.{subst, append_assoc, append-nil}
-use Rattle.std.proofs.lemmas.List.{take-append-drop}
+use Rattle.std.proofs.{Common.{subst, append_assoc, append-nil}, lemmas.List.take-append-drop}
 use Rattle.argus_texts.specs.Language.{Language, FormOf, Reads, Starts, NoWay, Stops, First, IsNot}
 use Rattle.argus_texts.specs.Languages.{Pairs, Word}
 use Rattle.argus_texts.proofs.Lists.{tail_of, head_of, cancel, split_at}

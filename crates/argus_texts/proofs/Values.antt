@@ -3,12 +3,10 @@ use Rattle.std.proofs.Common.{◌≡◌, ◌≢◌, ℕ, ◌<◌, ◌≤◌, ◌
 use Rattle.std.proofs.Common.{ap, subst, sym, arith}
 use Rattle.std.specs.Prelude.{codes}
 use Rattle.argus_contents.specs.Value.{PlainValue, null, bool, int, text, atomic, sequence, fields, choice}
-use Rattle.argus_texts.specs.Language.{Starts, NoWay, Stops, First}
+use Rattle.argus_texts.specs.{Language.{Starts, NoWay, Stops, First}, Languages.{Insides, Choices}}
 use Rattle.argus_texts.specs.Languages.{ValueEnds, BeginsInt, BeginsNoScalar, Numbers, Ints, Word, Quoted, Values}
-use Rattle.argus_texts.specs.Languages.{Insides, Choices}
 use Rattle.argus_texts.specs.Spelling.{spelling, Within}
-use Rattle.argus_texts.proofs.Lists.{tail_of, head_of}
-use Rattle.argus_texts.proofs.Forms.{Lead, lead_of, kind_of, no_lead, some_form}
+use Rattle.argus_texts.proofs.{Lists.{tail_of, head_of}, Forms.{Lead, lead_of, kind_of, no_lead, some_form}}
 use Rattle.argus_texts.proofs.Stops.{Behind, Among, stops_now}
 
 -- SCALARS

@@ -1,11 +1,8 @@
 -- The one written form of a content.
-use Rattle.std.specs.Prelude.{ℕ, ◌<◌, ◌^◌, List, [], ◌∷◌, ◌++◌}
-use Rattle.std.specs.Fmt.{decimal, signed_decimal}
-use Rattle.argus_contents.specs.Content.{PlainContent, rec, arr, var}
-use Rattle.argus_contents.specs.Value.{listed}
-use Rattle.argus_texts.specs.Spelling.{spelling, inside, IsI64, Within, AllWithin}
-use Rattle.argus_texts.specs.Bytes.{close_brace, close_bracket, colon, greater_than, less_than}
-use Rattle.argus_texts.specs.Bytes.{open_brace, open_bracket}
+use Rattle.std.specs.{Prelude.{ℕ, ◌<◌, ◌^◌, List, [], ◌∷◌, ◌++◌}, Fmt.{decimal, signed_decimal}}
+use Rattle.argus_contents.specs.{Content.{PlainContent, rec, arr, var}, Value.listed}
+use Rattle.argus_texts.specs.{Spelling.{spelling, inside, IsI64, Within, AllWithin}, Bytes.open_bracket}
+use Rattle.argus_texts.specs.Bytes.{close_brace, close_bracket, colon, greater_than, less_than, open_brace}
 
 -- the written form of a content
 abbrev pub content_spelling : PlainContent → List ℕ

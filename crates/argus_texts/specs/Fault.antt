@@ -1,10 +1,7 @@
 -- Accepted texts, and where a text stops being the beginning of one.
 use Rattle.std.specs.Prelude.{◌≡◌, ℕ, ◌<◌, ◌≤◌, List, ◌++◌, length, take}
-use Rattle.argus_contents.specs.Value.{PlainValue}
-use Rattle.argus_contents.specs.Content.{PlainContent}
-use Rattle.argus_contents.specs.declared.limits.TheConstants.{MAX_VALUE_DEPTH}
-use Rattle.argus_texts.specs.Spelling.{spelling, Within}
-use Rattle.argus_texts.specs.ContentSpelling.{content_spelling, PartsWithin}
+use Rattle.argus_contents.specs.{Value.PlainValue, Content.PlainContent, declared.limits.TheConstants.MAX_VALUE_DEPTH}
+use Rattle.argus_texts.specs.{Spelling.{spelling, Within}, ContentSpelling.{content_spelling, PartsWithin}}
 use Rattle.argus_texts.specs.declared.read_error.ReadError.{ReadError}
 use Rattle.argus_texts.specs.declared.read_error.ReadError.TheVariants as error
 

@@ -1,8 +1,7 @@
 -- A text that had bytes appended.
 use Rattle.std.specs.Prelude.{◌≡◌, ℕ, List, [], ◌∷◌, ◌++◌}
 use Rattle.argus_contents.specs.Value.{PlainValues, none, more}
-use Rattle.argus_texts.specs.Spelling.{spelling}
-use Rattle.argus_texts.specs.Bytes.{comma}
+use Rattle.argus_texts.specs.{Spelling.spelling, Bytes.comma}
 
 -- new is old and then more
 pub record Grew (old new : List ℕ) : Type 0 where

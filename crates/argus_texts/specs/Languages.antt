@@ -1,15 +1,12 @@
 -- The languages of the readers.
-use Rattle.std.specs.Prelude.{◌≡◌, ◌≢◌, ℕ, ℤ, ◌<◌, ◌≤◌, ◌⊎◌, List, [], ◌∷◌, ◌++◌}
-use Rattle.std.specs.Fmt.{decimal, signed_decimal}
+use Rattle.std.specs.{Prelude.{◌≡◌, ◌≢◌, ℕ, ℤ, ◌<◌, ◌≤◌, ◌⊎◌, List, [], ◌∷◌, ◌++◌}, Fmt.{decimal, signed_decimal}}
 use Rattle.std.specs.Str.{IsUtf8}
-use Rattle.argus_contents.specs.Value.{PlainValue, PlainValues}
+use Rattle.argus_contents.specs.{Value.{PlainValue, PlainValues}, Content.PlainContent}
 use Rattle.argus_contents.specs.Value as value
-use Rattle.argus_contents.specs.Content.{PlainContent}
 use Rattle.argus_texts.specs.Spelling.{spelling, escaped, inside, behind, IsI64, Within, AllWithin}
-use Rattle.argus_texts.specs.ContentSpelling.{content_spelling, PartsWithin}
-use Rattle.argus_texts.specs.Language.{Language, First}
-use Rattle.argus_texts.specs.Bytes.{at_sign, close_brace, close_bracket, colon, greater_than}
-use Rattle.argus_texts.specs.Bytes.{hyphen, letter_f, letter_n, letter_t, open_bracket, quote}
+use Rattle.argus_texts.specs.{ContentSpelling.{content_spelling, PartsWithin}, Language.{Language, First}}
+use Rattle.argus_texts.specs.Bytes.{at_sign, close_brace, close_bracket, colon, greater_than, hyphen, letter_f}
+use Rattle.argus_texts.specs.Bytes.{letter_n, letter_t, open_bracket, quote}
 
 -- the byte is no decimal digit
 abbrev pub IsNoDigit : ℕ → Type 0

@@ -1,12 +1,8 @@
 -- The laws of the written forms.
 use Rattle.std.specs.Prelude.{◌≡◌, ℕ, true}
-use Rattle.argus_contents.specs.Value.{PlainValue}
-use Rattle.argus_contents.specs.Content.{PlainContent}
-use Rattle.argus_contents.specs.Fitting.{is_fitting}
-use Rattle.argus_contents.specs.Shape.{PlainShape}
+use Rattle.argus_contents.specs.{Value.PlainValue, Content.PlainContent, Fitting.is_fitting, Shape.PlainShape}
 use Rattle.argus_contents.specs.declared.limits.TheConstants.{MAX_VALUE_DEPTH}
-use Rattle.argus_texts.specs.Spelling.{spelling, Within}
-use Rattle.argus_texts.specs.ContentSpelling.{content_spelling, PartsWithin}
+use Rattle.argus_texts.specs.{Spelling.{spelling, Within}, ContentSpelling.{content_spelling, PartsWithin}}
 use Rattle.argus_texts.specs.Fault.{IsValueText, IsContentText, IsFault}
 use Rattle.argus_texts.specs.ShapeSpelling.{shape_spelling, HasNames, IsMakeable, IsShapeText}
 

@@ -1,15 +1,11 @@
 -- The languages of the reader of shapes, and what it requires of types while it reads.
 use Rattle.std.specs.Prelude.{◌≡◌, ℕ, ◌<◌, ◌-◌, true, List, [], ◌∷◌, ◌++◌}
-use Rattle.argus_contents.specs.Name.{is_name}
-use Rattle.argus_contents.specs.Shape.{PlainShape}
-use Rattle.argus_contents.specs.Ty.{PlainTy, PlainFields}
-use Rattle.argus_contents.specs.Ty as ty
+use Rattle.argus_contents.specs.{Name.is_name, Shape.PlainShape, Ty.{PlainTy, PlainFields}}
 use Rattle.argus_contents.specs.declared.limits.TheConstants.{MAX_NAMES}
-use Rattle.argus_texts.specs.declared.unread.Unread.{Unread}
-use Rattle.argus_texts.specs.declared.unread.Unread.TheVariants as unread
-use Rattle.argus_texts.specs.Language.{Language, Starts}
+use Rattle.argus_contents.specs.Ty as ty
+use Rattle.argus_texts.specs.{declared.unread.Unread.Unread, Language.{Language, Starts}, Bytes.{close_bracket, colon}}
 use Rattle.argus_texts.specs.ShapeSpelling.{ty_spelling, names_inside, shape_spelling, IsMakeable}
-use Rattle.argus_texts.specs.Bytes.{close_bracket, colon}
+use Rattle.argus_texts.specs.declared.unread.Unread.TheVariants as unread
 
 -- the text doesn't begin with a form of the language
 abbrev pub BeginsNo : Language → List ℕ → Type 0

@@ -1,13 +1,10 @@
 -- The one written form of a value, and the values that a text can spell.
-use Rattle.std.specs.Prelude.{ℕ, ℤ, pos, negsuc, ◌<◌, ◌^◌, ◌-◌, ◌==◌, if◌then◌else◌, true, false}
-use Rattle.std.specs.Prelude.{List, [], ◌∷◌, ◌++◌, codes}
-use Rattle.std.specs.Fmt.{decimal, signed_decimal}
-use Rattle.std.specs.Str.{IsUtf8}
+use Rattle.std.specs.Prelude.{ℕ, ℤ, pos, negsuc, ◌<◌, ◌^◌, ◌-◌, ◌==◌, if◌then◌else◌, true, false, List, [], ◌∷◌, ◌++◌}
+use Rattle.std.specs.{Prelude.codes, Fmt.{decimal, signed_decimal}, Str.IsUtf8}
 use Rattle.argus_contents.specs.Value.{PlainValue, PlainValues}
 use Rattle.argus_contents.specs.Value as value
-use Rattle.argus_texts.specs.Bytes.{at_sign, backslash, close_brace, close_bracket, colon, comma}
-use Rattle.argus_texts.specs.Bytes.{greater_than, less_than, letter_n, line_feed, open_brace}
-use Rattle.argus_texts.specs.Bytes.{open_bracket, quote}
+use Rattle.argus_texts.specs.Bytes.{at_sign, backslash, close_brace, close_bracket, colon, comma, greater_than}
+use Rattle.argus_texts.specs.Bytes.{less_than, letter_n, line_feed, open_brace, open_bracket, quote}
 
 -- a byte of a text: the quote, the backslash and the line feed are escaped by a backslash, the line
 -- feed as `n`

@@ -4,9 +4,8 @@ ghost use Rattle.std.specs.Prelude.{◌≡◌, ◌≤◌, ◌-◌, length, IfOk,
 ghost use Rattle.argus_contents.specs.Content.{plain_content};
 ghost use Rattle.argus_contents.specs.declared.limits.TheConstants.{MAX_VALUE_DEPTH};
 ghost use Rattle.argus_texts.specs.ContentSpelling.{PartsWithin, content_spelling};
-ghost use Rattle.argus_texts.specs.Fault.{IsContentText, IsFault, OnFault};
+ghost use Rattle.argus_texts.specs.{Fault.{IsContentText, IsFault, OnFault}, Languages.Contents};
 ghost use Rattle.argus_texts.specs.Language.{IsNot, OnLeft, Reads, Stops};
-ghost use Rattle.argus_texts.specs.Languages.{Contents};
 ghost use Rattle.argus_texts.specs.Bytes.{less_than, open_brace};
 
 use crate::number::int;

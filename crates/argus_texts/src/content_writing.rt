@@ -1,12 +1,9 @@
 //! `write_content`: the written form of a content.
 
 ghost use Rattle.std.specs.Prelude.{◌≡◌, ◌++◌, OnOk, OnErr, string_bytes};
-ghost use Rattle.argus_contents.specs.Content.{plain_content};
-ghost use Rattle.argus_contents.specs.Value.{listed, plain_list};
-ghost use Rattle.argus_texts.specs.ContentSpelling.{content_spelling};
-ghost use Rattle.argus_texts.specs.Grown.{Grew, commas};
-ghost use Rattle.argus_texts.specs.Spelling.{inside};
-ghost use Rattle.argus_texts.specs.Bytes.{close_bracket};
+ghost use Rattle.argus_contents.specs.{Content.plain_content, Value.{listed, plain_list}};
+ghost use Rattle.argus_texts.specs.{ContentSpelling.content_spelling, Grown.{Grew, commas}};
+ghost use Rattle.argus_texts.specs.{Spelling.inside, Bytes.close_bracket};
 
 use crate::writing::{append, append_inside, append_int, append_tag, append_value};
 use argus_contents::{Content, Value};

@@ -1,8 +1,7 @@
 //! The laws of the written forms. Each function does nothing: its contract is the law.
 
 ghost use Rattle.argus_texts.specs.Laws.{ContentsAreReadBack, ContentTextsAreUnambiguous};
-ghost use Rattle.argus_texts.specs.Laws.{FittingContentsAreReadBack};
-ghost use Rattle.argus_texts.specs.Laws.{ShapeTextsAreUnambiguous};
+ghost use Rattle.argus_texts.specs.Laws.{FittingContentsAreReadBack, ShapeTextsAreUnambiguous};
 ghost use Rattle.argus_texts.specs.Laws.{ValueTextsAreUnambiguous, ShapesAreReadBack};
 ghost use Rattle.argus_texts.specs.Laws.{ValuesAreReadBack};
 

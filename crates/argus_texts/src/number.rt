@@ -1,9 +1,8 @@
 //! The numbers of a text: digits without a leading zero, with a sign for an integer.
 
-ghost use Rattle.std.specs.Prelude.{◌≡◌, negsuc, ◌<◌, ◌≤◌, ◌+◌, ◌-◌, ◌*◌, ◌⊎◌, IfOk, IfErr};
-ghost use Rattle.std.specs.Prelude.{IfSome, IfNone, ◌≢◌};
-ghost use Rattle.argus_texts.specs.Language.{OnLeft, Reads, Stops};
-ghost use Rattle.argus_texts.specs.Languages.{Ints, Numbers};
+ghost use Rattle.std.specs.Prelude.{◌≡◌, negsuc, ◌<◌, ◌≤◌, ◌+◌, ◌-◌, ◌*◌, ◌⊎◌, IfOk, IfErr, IfSome};
+ghost use Rattle.std.specs.Prelude.{IfNone, ◌≢◌};
+ghost use Rattle.argus_texts.specs.{Language.{OnLeft, Reads, Stops}, Languages.{Ints, Numbers}};
 ghost use Rattle.argus_texts.specs.declared.stop.Stop.TheVariants as stop;
 
 use crate::scan::{split_ascii, strip};

@@ -1,12 +1,9 @@
 //! The text of a text value, from after its opening quote up to its closing one.
 
 ghost use Rattle.std.specs.Prelude.{◌≡◌, ◌<◌, true, false, ◌∷◌, [], ◌++◌, length, IfOk, IfErr};
-ghost use Rattle.std.specs.Prelude.{string_bytes};
-ghost use Rattle.std.specs.Str.{IsUtf8};
-ghost use Rattle.argus_texts.specs.Language.{First, OnLeft, Reads, Stops};
-ghost use Rattle.argus_texts.specs.Languages.{Quoted};
-ghost use Rattle.argus_texts.specs.Quotes.{IsNoEscape, IsSpecial};
-ghost use Rattle.argus_texts.specs.Spelling.{escape, escaped};
+ghost use Rattle.std.specs.{Prelude.string_bytes, Str.IsUtf8};
+ghost use Rattle.argus_texts.specs.{Language.{First, OnLeft, Reads, Stops}, Languages.Quoted};
+ghost use Rattle.argus_texts.specs.{Quotes.{IsNoEscape, IsSpecial}, Spelling.{escape, escaped}};
 
 use crate::scan::split_ascii;
 use crate::stop::Stop;

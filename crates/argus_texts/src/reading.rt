@@ -6,8 +6,7 @@ ghost use Rattle.argus_contents.specs.declared.limits.TheConstants.{MAX_VALUE_DE
 ghost use Rattle.argus_texts.specs.Fault.{IsFault, IsValueText, OnFault};
 ghost use Rattle.argus_texts.specs.Language.{First, OnLeft, Reads, Stops};
 ghost use Rattle.argus_texts.specs.Languages.{BeginsInt, BeginsNoScalar, Choices, Insides, IsClose};
-ghost use Rattle.argus_texts.specs.Languages.{Items, Values};
-ghost use Rattle.argus_texts.specs.Spelling.{Within, spelling};
+ghost use Rattle.argus_texts.specs.{Languages.{Items, Values}, Spelling.{Within, spelling}};
 
 use crate::number::{int, number};
 use crate::quoted::quoted;

@@ -1,11 +1,8 @@
 //! The front of a text: its first byte, one byte that must come, a word that must come.
 
 ghost use Rattle.std.specs.Prelude.{◌≡◌, true, nat_lt, ◌<◌, ◌≤◌, ◌∷◌, ◌++◌, length, IfOk, IfErr};
-ghost use Rattle.std.specs.Prelude.{IfSome, IfNone, ◌≢◌};
-ghost use Rattle.std.specs.List.{list_all};
-ghost use Rattle.std.specs.Str.{IsUtf8};
-ghost use Rattle.argus_texts.specs.Language.{First, IsNot, OnLeft, Starts, Stops};
-ghost use Rattle.argus_texts.specs.Languages.{Word};
+ghost use Rattle.std.specs.{Prelude.{IfSome, IfNone, ◌≢◌}, List.list_all, Str.IsUtf8};
+ghost use Rattle.argus_texts.specs.{Language.{First, IsNot, OnLeft, Starts, Stops}, Languages.Word};
 ghost use Rattle.argus_texts.specs.declared.stop.Stop.TheVariants as stop;
 
 use crate::stop::Stop;

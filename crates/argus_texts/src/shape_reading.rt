@@ -3,10 +3,9 @@
 ghost use Rattle.std.specs.Prelude.{◌≡◌, ◌<◌, IfOk, IfErr, IfSome, IfNone};
 ghost use Rattle.argus_contents.specs.Ty.{plain_fields, plain_ty};
 ghost use Rattle.argus_contents.specs.declared.limits.TheConstants.{MAX_NAMES};
-ghost use Rattle.argus_texts.specs.Language.{Reads};
+ghost use Rattle.argus_texts.specs.{Language.Reads, ShapeLanguages.Types};
 ghost use Rattle.argus_texts.specs.ShapeLanguages.{BeginsNo, Closed, Fields, IsList, IsScalar};
 ghost use Rattle.argus_texts.specs.ShapeLanguages.{IsShallow, Lists, Names, OnNoForm, Shapes};
-ghost use Rattle.argus_texts.specs.ShapeLanguages.{Types};
 ghost use Rattle.argus_texts.specs.ShapeSpelling.{AreNamed, IsMakeable, IsNamed, IsShapeText};
 ghost use Rattle.argus_texts.specs.ShapeSpelling.{shape_spelling};
 

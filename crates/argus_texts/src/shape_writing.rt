@@ -2,9 +2,8 @@
 
 ghost use Rattle.std.specs.Prelude.{◌≡◌, ◌∷◌, ◌++◌, OnOk, OnErr, string_bytes};
 ghost use Rattle.argus_contents.specs.Ty.{plain_fields, plain_ty};
-ghost use Rattle.argus_texts.specs.Grown.{Grew};
+ghost use Rattle.argus_texts.specs.{Grown.Grew, Bytes.colon};
 ghost use Rattle.argus_texts.specs.ShapeSpelling.{names_inside, shape_spelling, ty_spelling};
-ghost use Rattle.argus_texts.specs.Bytes.{colon};
 
 use crate::writing::append;
 use argus_contents::{Name, Shape, ShapeView, Ty};

@@ -3,10 +3,8 @@
 ghost use Rattle.std.specs.Prelude.{◌≡◌, ◌<◌, ◌∷◌, [], ◌++◌, OnOk, OnErr, string_bytes};
 ghost use Rattle.std.specs.Fmt.{decimal, signed_decimal};
 ghost use Rattle.argus_contents.specs.Value.{listed, plain_list, plain_value};
-ghost use Rattle.argus_texts.specs.Grown.{Grew};
-ghost use Rattle.argus_texts.specs.Quotes.{IsSpecial};
+ghost use Rattle.argus_texts.specs.{Grown.Grew, Quotes.IsSpecial, Bytes.{colon, less_than, quote}};
 ghost use Rattle.argus_texts.specs.Spelling.{escape, escaped, inside, spelling};
-ghost use Rattle.argus_texts.specs.Bytes.{colon, less_than, quote};
 
 use crate::quoted::split_plain;
 use crate::scan::split_ascii;

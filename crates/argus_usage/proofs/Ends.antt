@@ -1,9 +1,7 @@
 -- How a program ends on an error of clap.
 use Rattle.std.proofs.Common.{List, inl, inr, rules}
-use Rattle.clap.specs.Words.{App, HasKind, Text, fault_of, kind_of}
-use Rattle.clap.specs.declared.error.Error.{Error}
-use Rattle.argus_usage.specs.Usage.{EndsBy, IsUsage}
-use Rattle.argus_usage.specs.declared.no_options.NoOptions.{NoOptions}
+use Rattle.clap.specs.{Words.{App, HasKind, Text, fault_of, kind_of}, declared.error.Error.Error}
+use Rattle.argus_usage.specs.{Usage.{EndsBy, IsUsage}, declared.no_options.NoOptions.NoOptions}
 use Rattle.argus_usage.specs.declared.no_options.NoOptions.TheVariants as no
 
 pub ends_by_its_kind : (app : App) (words : List Text) (error : Error) (ending : NoOptions)

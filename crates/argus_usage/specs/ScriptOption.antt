@@ -1,10 +1,8 @@
 -- What a program is asked for that takes the name of a script's file.
 use Rattle.std.specs.Prelude.{List, Option, Some, [], codes, false, ◌∷◌, ◌≡◌}
 use Rattle.argus_usage.specs.Usage.{named_program}
-use Rattle.clap.specs.Words.{App, IsPlain, Rule, Text, app_of, fault_of, first_of, matches_of}
-use Rattle.clap.specs.Words.{new_rule, with_rule}
-use Rattle.clap.specs.declared.builder.action.ArgAction.TheVariants.{Set}
-use Rattle.clap.specs.declared.builder.command.Command.{Command}
+use Rattle.clap.specs.Words.{App, IsPlain, Rule, Text, app_of, fault_of, first_of, matches_of, new_rule, with_rule}
+use Rattle.clap.specs.{declared.builder.action.ArgAction.TheVariants.Set, declared.builder.command.Command.Command}
 use Rattle.clap.specs.declared.builder.command.Command.TheViews.{out-Command}
 
 -- the option `--script`, whose value may be any text, and which may be left out

@@ -2,10 +2,8 @@
 use Rattle.std.specs.Prelude.{List, [], false, true, ℕ, ◌≡◌, ◌≢◌, ◌⊎◌}
 use Rattle.argus_usage.specs.declared.no_options.NoOptions.{NoOptions}
 use Rattle.argus_usage.specs.declared.no_options.NoOptions.TheVariants as no
-use Rattle.clap.specs.Words.{App, IsAmong, Text, app_of, args_of, fault_of, groups_of, new_app}
-use Rattle.clap.specs.Simple.{on_top}
-use Rattle.clap.specs.declared.builder.command.Command.{Command}
-use Rattle.clap.specs.declared.builder.command.Command.TheViews.{out-Command}
+use Rattle.clap.specs.{Words.{App, IsAmong, Text, app_of, args_of, fault_of, groups_of, new_app}, Simple.on_top}
+use Rattle.clap.specs.{declared.builder.command.Command.Command, declared.builder.command.Command.TheViews.out-Command}
 use Rattle.clap.specs.declared.error.kind.ErrorKind.{ErrorKind}
 use Rattle.clap.specs.declared.error.kind.ErrorKind.TheVariants as kind
 

@@ -3,8 +3,7 @@
 ghost use Rattle.std.specs.Prelude.{IfErr, IfOk, codes, false, map, option_map, string_bytes, ◌∷◌};
 ghost use Rattle.std.specs.Prelude.{◌≡◌, ◌⊎◌};
 ghost use Rattle.argus_usage.specs.ScriptOption.{AsksScript, IsScriptProgram, script_program};
-ghost use Rattle.argus_usage.specs.ScriptOption.{script_rule};
-ghost use Rattle.argus_usage.specs.Usage.{EndsBy, EndsWith0Or2};
+ghost use Rattle.argus_usage.specs.{ScriptOption.script_rule, Usage.{EndsBy, EndsWith0Or2}};
 ghost use Rattle.clap.specs.Words.{HasKind, IsPlainArg, fault_of, rule_of};
 
 use crate::command::{new_command, usage};

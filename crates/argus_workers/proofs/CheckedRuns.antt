@@ -1,29 +1,21 @@
 -- A caller that answers from the receipts of a run comes to the same as one that answers from their entries, and each
 -- arm ended as its last call shows.
-use Rattle.std.proofs.Common.{Bool, List, None, Option, Some, [], ap, cond, false, refl, subst, true}
-use Rattle.std.proofs.Common.{ℕ, ◌+◌, ◌∙◌, ◌∷◌, ◌≡◌}
+use Rattle.std.proofs.Common.{Bool, List, None, Option, Some, [], ap, cond, false, refl, subst, true, ℕ, ◌+◌, ◌∙◌, ◌∷◌}
+use Rattle.std.proofs.Common.{◌≡◌}
 use Rattle.argus_actions.specs.declared.action_id.ActionId.{ActionId}
-use Rattle.argus_language.specs.PlainStep.{PlainStep, PlainSteps, more, none}
-use Rattle.argus_language.specs.Script.{PlainScript}
+use Rattle.argus_language.specs.{PlainStep.{PlainStep, PlainSteps, more, none}, Script.PlainScript}
 use Rattle.argus_contents.specs.declared.obj_id.ObjId.{ObjId}
-use Rattle.argus_entries.specs.Call.{PlainCall}
-use Rattle.argus_entries.specs.Entry.{PlainEntry}
-use Rattle.argus_entries.specs.Same.{same_call}
+use Rattle.argus_entries.specs.{Call.PlainCall, Entry.PlainEntry, Same.same_call}
 use Rattle.argus_sharing.specs.Receipt.{PlainReceipt}
-use Rattle.argus_runs.specs.RunOutcome.{RunOutcome, finished, mismatched, ◌>>=◌}
-use Rattle.argus_runs.specs.Played.{reply_from_entries}
-use Rattle.argus_runs.specs.Running.{run_arm, run_arms, run_script}
-use Rattle.argus_runs.specs.declared.flow.Flow.{Flow}
+use Rattle.argus_runs.specs.{RunOutcome.{RunOutcome, finished, mismatched, ◌>>=◌}, Played.reply_from_entries}
+use Rattle.argus_runs.specs.{Running.{run_arm, run_arms, run_script}, declared.flow.Flow.Flow}
 use Rattle.argus_runs.specs.declared.flow.Flow.TheVariants as flow
 use Rattle.argus_runs.proofs.Simulation.{Simulates, part_related, tops_related}
-use Rattle.argus_workers.specs.Laws.{CheckedRunsAreRuns}
-use Rattle.argus_workers.specs.Outcomes.{AreShown, ended_as}
+use Rattle.argus_workers.specs.{Laws.CheckedRunsAreRuns, Outcomes.{AreShown, ended_as}, declared.ended.Ended.Ended}
 use Rattle.argus_workers.specs.RunCheck.{CheckState, check_arms, end_arm, enter_arm, entries_of_receipts, leave_arm}
 use Rattle.argus_workers.specs.RunCheck.{reply_from_receipt, reply_from_receipts, start, with_call}
-use Rattle.argus_workers.specs.declared.ended.Ended.{Ended}
 use Rattle.argus_workers.proofs.Endings.{AreShownSo, IsTold, behind_coenter, keeping_told, none_shown, shown_whole}
-use Rattle.argus_workers.proofs.Endings.{told_in_arm, told_outside}
-use Rattle.argus_workers.proofs.Keeping.{Keeping}
+use Rattle.argus_workers.proofs.{Endings.{told_in_arm, told_outside}, Keeping.Keeping}
 
 -- entries that are told
 abbrev pub Es : Type 0

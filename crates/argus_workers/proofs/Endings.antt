@@ -1,20 +1,15 @@
 -- Who made the calls so far, and how they ended arms.
 use Rattle.std.proofs.Common.{All, List, None, Option, Some, [], ap, arith, cond, false, inl, inr, length, map, refl}
 use Rattle.std.proofs.Common.{append_assoc, length-append, subst, sym, true, ℕ, ◌&&◌, ◌+◌, ◌++◌, ◌<◌, ◌≤◌, ◌==◌, ◌∙◌}
-use Rattle.std.proofs.Common.{◌∷◌, ◌≡◌, ◌⊎◌}
-use Rattle.std.proofs.lemmas.Bool.Decides.{nat_tests}
-use Rattle.std.proofs.lemmas.List.{append-nil}
-use Rattle.std.proofs.lemmas.List.Elements.{All-push, All-weaker}
-use Rattle.std.proofs.lemmas.List.{length-map, map-append}
+use Rattle.std.proofs.{Common.{◌∷◌, ◌≡◌, ◌⊎◌}, lemmas.Bool.Decides.nat_tests}
+use Rattle.std.proofs.{lemmas.List.{append-nil, length-map, map-append}, lemmas.List.Elements.{All-push, All-weaker}}
 use Rattle.argus_actions.specs.declared.action_id.ActionId.{ActionId}
 use Rattle.argus_entries.specs.Entry.{PlainEntry}
 use Rattle.argus_sharing.specs.Receipt.{PlainReceipt}
 use Rattle.argus_workers.specs.Outcomes.{AreShown, IsShown, arm_of, ended_as, is_arm, last_of_arm, later_of}
 use Rattle.argus_workers.specs.RunCheck.{CheckState, enter_arm, entries_of_receipts, leave_arm}
-use Rattle.argus_workers.specs.declared.arm_number.ArmNumber.{ArmNumber}
-use Rattle.argus_workers.specs.declared.arm_outcome.ArmOutcome.{ArmOutcome}
-use Rattle.argus_workers.specs.declared.ended.Ended.{Ended}
-use Rattle.argus_workers.specs.declared.made_call.MadeCall.{MadeCall}
+use Rattle.argus_workers.specs.{declared.arm_number.ArmNumber.ArmNumber, declared.arm_outcome.ArmOutcome.ArmOutcome}
+use Rattle.argus_workers.specs.{declared.ended.Ended.Ended, declared.made_call.MadeCall.MadeCall}
 use Rattle.argus_workers.proofs.Keeping.{Keeping}
 
 -- the calls of these receipts, which this arm made

@@ -1,11 +1,9 @@
 -- The order of calls, one more at a time.
 use Rattle.std.proofs.Common.{All, List, [], get_or, length, subst, sym, take, ℕ, ◌+◌, ◌++◌, ◌<◌, ◌≤◌, ◌∷◌, ◌≡◌}
-use Rattle.std.proofs.lemmas.List.{take_all, take_more}
-use Rattle.std.proofs.lemmas.List.Elements.{All-push, All-weaker}
+use Rattle.std.proofs.{lemmas.List.{take_all, take_more}, lemmas.List.Elements.{All-push, All-weaker}}
 use Rattle.std.proofs.lemmas.List.Quantifiers.{all_pairs_push}
-use Rattle.argus_workers.specs.Order.{MayComeNext, IsBelowBounds, InOrder, InTurn}
+use Rattle.argus_workers.specs.{Order.{MayComeNext, IsBelowBounds, InOrder, InTurn}, declared.ordering.Order.Order}
 use Rattle.argus_workers.specs.declared.made_call.MadeCall.{MadeCall}
-use Rattle.argus_workers.specs.declared.ordering.Order.{Order}
 
 -- the first i calls are in order, and the order holds of each
 abbrev pub UpTo : Order → List MadeCall → ℕ → Type 0

@@ -1,9 +1,6 @@
 -- Which calls are parallel, and the order of those that aren't.
-use Rattle.std.specs.Prelude.{Bool, List, None, Option, Some, false, not, ◌&&◌, ◌==◌, ◌≡◌, ◌<◌}
-use Rattle.std.specs.Prelude.{nat_lt}
-use Rattle.std.specs.List.{AllPairs}
-use Rattle.argus_workers.specs.declared.arm_number.ArmNumber.{ArmNumber}
-use Rattle.argus_workers.specs.declared.made_call.MadeCall.{MadeCall}
+use Rattle.std.specs.{Prelude.{Bool, List, None, Option, Some, false, not, ◌&&◌, ◌==◌, ◌≡◌, ◌<◌, nat_lt}, List.AllPairs}
+use Rattle.argus_workers.specs.{declared.arm_number.ArmNumber.ArmNumber, declared.made_call.MadeCall.MadeCall}
 use Rattle.argus_workers.specs.declared.ordering.Order.{Order}
 
 -- two different arms of one outermost coenter

@@ -1,17 +1,13 @@
 -- How the arms of outermost coenters ended, by their last calls.
-use Rattle.std.specs.Prelude.{All, Bool, List, None, Option, Some, false, if◌then◌else◌}
-use Rattle.std.specs.Prelude.{◌&&◌, ◌==◌, ◌∷◌, ◌≡◌, []}
+use Rattle.std.specs.Prelude.{All, Bool, List, None, Option, Some, false, if◌then◌else◌, ◌&&◌, ◌==◌, ◌∷◌, ◌≡◌, []}
 use Rattle.argus_actions.specs.declared.action_id.ActionId.{ActionId}
-use Rattle.argus_entries.specs.Call.{PlainCall, abort, abort_others, alter, ask, begin_nested}
-use Rattle.argus_entries.specs.Call.{begin_sub, begin_top, commit, declare, test_read, test_write}
-use Rattle.argus_entries.specs.Entry.{PlainEntry}
+use Rattle.argus_entries.specs.Call.{PlainCall, abort, abort_others, alter, ask, begin_nested, begin_sub, begin_top}
+use Rattle.argus_entries.specs.{Call.{commit, declare, test_read, test_write}, Entry.PlainEntry}
 use Rattle.argus_entries.specs.Reply.{PlainReply, answered, begun, object, refused}
 use Rattle.argus_runs.specs.Replies.{is_over}
-use Rattle.argus_workers.specs.declared.arm_number.ArmNumber.{ArmNumber}
-use Rattle.argus_workers.specs.declared.arm_outcome.ArmOutcome.{ArmOutcome}
-use Rattle.argus_workers.specs.declared.ended.Ended.{Ended}
+use Rattle.argus_workers.specs.{declared.arm_number.ArmNumber.ArmNumber, declared.arm_outcome.ArmOutcome.ArmOutcome}
+use Rattle.argus_workers.specs.{declared.ended.Ended.Ended, declared.made_call.MadeCall.MadeCall}
 use Rattle.argus_workers.specs.declared.ended.Ended.TheVariants as ended
-use Rattle.argus_workers.specs.declared.made_call.MadeCall.{MadeCall}
 
 -- how an arm with this action ended, if its last call was this one and was accepted: by a commit or
 -- an abort of its own action, and by no other call

@@ -1,25 +1,16 @@
 -- What receipts in script order show: that they are those of a run, who made each call, and what
 -- became of the arms of outermost coenters.
-use Rattle.std.specs.Prelude.{List, None, Option, Some, cond, map}
-use Rattle.std.specs.Prelude.{ℕ, ◌+◌, ◌++◌, ◌∷◌, ◌≡◌, []}
+use Rattle.std.specs.Prelude.{List, None, Option, Some, cond, map, ℕ, ◌+◌, ◌++◌, ◌∷◌, ◌≡◌, []}
 use Rattle.argus_actions.specs.declared.action_id.ActionId.{ActionId}
-use Rattle.argus_language.specs.PlainStep.{PlainStep, PlainSteps, more, none}
-use Rattle.argus_language.specs.Script.{PlainScript}
+use Rattle.argus_language.specs.{PlainStep.{PlainStep, PlainSteps, more, none}, Script.PlainScript}
 use Rattle.argus_contents.specs.declared.obj_id.ObjId.{ObjId}
-use Rattle.argus_entries.specs.Call.{PlainCall}
-use Rattle.argus_entries.specs.Entry.{PlainEntry}
-use Rattle.argus_entries.specs.Reply.{PlainReply}
-use Rattle.argus_entries.specs.Same.{same_call}
+use Rattle.argus_entries.specs.{Call.PlainCall, Entry.PlainEntry, Reply.PlainReply, Same.same_call}
 use Rattle.argus_sharing.specs.Receipt.{PlainReceipt}
-use Rattle.argus_runs.specs.RunOutcome.{RunOutcome, finished, mismatched, ◌>>=◌}
-use Rattle.argus_runs.specs.Running.{run_arm, run_script}
+use Rattle.argus_runs.specs.{RunOutcome.{RunOutcome, finished, mismatched, ◌>>=◌}, Running.{run_arm, run_script}}
 use Rattle.argus_runs.specs.declared.flow.Flow.{Flow}
 use Rattle.argus_runs.specs.declared.flow.Flow.TheVariants as flow
-use Rattle.argus_workers.specs.Order.{InOrder}
-use Rattle.argus_workers.specs.Outcomes.{AreShown, ended_as}
-use Rattle.argus_workers.specs.declared.arm_number.ArmNumber.{ArmNumber}
-use Rattle.argus_workers.specs.declared.arm_outcome.ArmOutcome.{ArmOutcome}
-use Rattle.argus_workers.specs.declared.ended.Ended.{Ended}
+use Rattle.argus_workers.specs.{Order.InOrder, Outcomes.{AreShown, ended_as}, declared.arm_number.ArmNumber.ArmNumber}
+use Rattle.argus_workers.specs.{declared.arm_outcome.ArmOutcome.ArmOutcome, declared.ended.Ended.Ended}
 use Rattle.argus_workers.specs.declared.made_call.MadeCall.{MadeCall}
 
 -- What was seen of a run so far: the receipts still to come; who made each call so far; the arm of

@@ -1,9 +1,7 @@
 -- What contracts see of a receipt caller.
-use Rattle.std.specs.Prelude.{map}
-use Rattle.std.specs.Option.{option_map}
+use Rattle.std.specs.{Prelude.map, Option.option_map}
 use Rattle.argus_sharing.specs.Receipt.{plain_receipt}
-use Rattle.argus_workers.specs.RunCheck.{CheckState}
-use Rattle.argus_workers.specs.declared.receipt_caller.ReceiptCaller.{ReceiptCaller}
+use Rattle.argus_workers.specs.{RunCheck.CheckState, declared.receipt_caller.ReceiptCaller.ReceiptCaller}
 
 -- what a receipt caller has seen
 abbrev pub check_state_of : ReceiptCaller → CheckState

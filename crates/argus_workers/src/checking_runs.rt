@@ -3,8 +3,7 @@
 ghost use Rattle.std.specs.Prelude.{IfOk, IfSome, map, true, ◌≡◌};
 ghost use Rattle.argus_language.specs.Script.{plain_script};
 ghost use Rattle.argus_sharing.specs.Receipt.{plain_receipt};
-ghost use Rattle.argus_workers.specs.RunCheck.{IsCheckedRun, IsWhole};
-ghost use Rattle.argus_workers.specs.State.{check_state_of};
+ghost use Rattle.argus_workers.specs.{RunCheck.{IsCheckedRun, IsWhole}, State.check_state_of};
 
 use crate::arm_outcome::ArmOutcome;
 use crate::ordering::in_order;

@@ -1,13 +1,9 @@
 //! `ReceiptCaller`: answers a run's calls from receipts.
 
-ghost use Rattle.std.specs.Prelude.{IfOk, None, OnOk, ◌≡◌};
-ghost use Rattle.std.specs.Option.{option_map};
+ghost use Rattle.std.specs.{Prelude.{IfOk, None, OnOk, ◌≡◌}, Option.option_map};
 ghost use Rattle.argus_language.specs.PlainStep.{plain_step};
-ghost use Rattle.argus_entries.specs.Call.{plain_call};
-ghost use Rattle.argus_entries.specs.Reply.{plain_reply};
-ghost use Rattle.argus_entries.specs.Same.{same_call};
-ghost use Rattle.argus_runs.specs.RunOutcome.{finished};
-ghost use Rattle.argus_runs.specs.Running.{run_arm};
+ghost use Rattle.argus_entries.specs.{Call.plain_call, Reply.plain_reply, Same.same_call};
+ghost use Rattle.argus_runs.specs.{RunOutcome.finished, Running.run_arm};
 ghost use Rattle.argus_runs.specs.declared.flow.Flow.TheVariants.{On};
 ghost use Rattle.argus_sharing.specs.Receipt.{plain_receipt};
 ghost use Rattle.argus_workers.specs.Outcomes.{ended_as, ended_by_call, ended_by_reply};

@@ -1,7 +1,6 @@
 //! `run_shared`: a script, run by several workers on a shared guardian.
 
-ghost use Rattle.std.specs.Prelude.{IfErr, IfOk, IfSome, length, map, sum_by, ◌+◌, ◌≡◌};
-ghost use Rattle.std.specs.Prelude.{◌≤◌};
+ghost use Rattle.std.specs.Prelude.{IfErr, IfOk, IfSome, length, map, sum_by, ◌+◌, ◌≡◌, ◌≤◌};
 ghost use Rattle.argus_language.specs.Script.{plain_script};
 ghost use Rattle.argus_sharing.specs.Receipt.{plain_receipt};
 ghost use Rattle.argus_runs.specs.declared.run_fault.RunFault.TheVariants.{Memory};

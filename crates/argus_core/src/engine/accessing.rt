@@ -1,13 +1,11 @@
 //! How actions read objects.
 
 ghost use Rattle.std.specs.Prelude.{◌≡◌, ◌<◌, None, IfOk, OnErr, OnOk};
-ghost use Rattle.argus_contents.specs.Query.{reply};
-ghost use Rattle.argus_contents.specs.SmallAnswer.{plain_small};
+ghost use Rattle.argus_contents.specs.{Query.reply, SmallAnswer.plain_small};
 ghost use Rattle.argus_core.specs.declared.engine.atomic_object.AtomicObject.{AtomicObject};
-ghost use Rattle.argus_entries.specs.Call.{ask};
-ghost use Rattle.argus_entries.specs.Reply.{plain_reply};
 ghost use Rattle.argus_core.specs.Accessing.{HasReadRoom, seen_at};
 ghost use Rattle.argus_core.specs.GuardianState.{StateInvariant, journal_view_of};
+ghost use Rattle.argus_entries.specs.{Call.ask, Reply.plain_reply};
 ghost use Rattle.argus_journal.specs.JournalView.{after, refusal_to, reply_to};
 ghost use Rattle.argus_journal.specs.LegalJournal.{room_in};
 

@@ -1,14 +1,11 @@
 //! The answers of granted accesses, before anything is changed.
 
 ghost use Rattle.std.specs.Prelude.{◌≡◌, ◌<◌, length, slice_index_or, true, IfOk, IfSome};
-ghost use Rattle.argus_contents.specs.Answer.{plain_answer};
+ghost use Rattle.argus_contents.specs.{Answer.plain_answer, Content.KeepsLimits, Query.reply};
 ghost use Rattle.argus_contents.specs.Change.{gives_value, outcome, plain_change};
-ghost use Rattle.argus_contents.specs.Content.{KeepsLimits};
-ghost use Rattle.argus_contents.specs.Query.{reply};
 ghost use Rattle.argus_contents.specs.SmallAnswer.{plain_small};
 ghost use Rattle.argus_entries.specs.Reply.{answered, plain_reply};
-ghost use Rattle.argus_core.specs.Accessing.{seen_at};
-ghost use Rattle.argus_core.specs.Moving.{AreLawful};
+ghost use Rattle.argus_core.specs.{Accessing.seen_at, Moving.AreLawful};
 ghost use Rattle.argus_core.specs.declared.engine.atomic_object.AtomicObject.{AtomicObject};
 ghost use Rattle.argus_objects.specs.Rules.{may_read, may_write};
 

@@ -1,11 +1,9 @@
 //! How actions begin.
 
 ghost use Rattle.std.specs.Prelude.{IfOk, OnErr, OnOk, ◌<◌, ◌≡◌};
-ghost use Rattle.argus_entries.specs.Call.{begin_nested, begin_sub, begin_top};
-ghost use Rattle.argus_entries.specs.Reply.{plain_reply};
+ghost use Rattle.argus_entries.specs.{Call.{begin_nested, begin_sub, begin_top}, Reply.plain_reply};
 ghost use Rattle.argus_core.specs.GuardianState.{StateInvariant, journal_view_of};
-ghost use Rattle.argus_journal.specs.JournalView.{after, reply_to};
-ghost use Rattle.argus_journal.specs.LegalJournal.{room_in};
+ghost use Rattle.argus_journal.specs.{JournalView.{after, reply_to}, LegalJournal.room_in};
 
 use crate::engine::guardian_state::GuardianState;
 use crate::engine::refusing::{refusal_of, refuse};

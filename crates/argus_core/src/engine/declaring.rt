@@ -1,8 +1,7 @@
 //! How objects are declared.
 
 ghost use Rattle.std.specs.Prelude.{IfOk, OnErr, OnOk, ◌≡◌};
-ghost use Rattle.argus_entries.specs.Call.{declare};
-ghost use Rattle.argus_entries.specs.Reply.{plain_reply};
+ghost use Rattle.argus_entries.specs.{Call.declare, Reply.plain_reply};
 ghost use Rattle.argus_core.specs.GuardianState.{StateInvariant, journal_view_of};
 ghost use Rattle.argus_journal.specs.JournalView.{after, reply_to};
 

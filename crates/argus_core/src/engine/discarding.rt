@@ -1,15 +1,12 @@
 //! What an abort does to the objects that the ended actions hold: it visits only the objects on
 //! their lists.
 
-ghost use Rattle.std.specs.Prelude.{◌≡◌, ◌<◌, ◌≤◌, length, true, None, Some};
-ghost use Rattle.std.specs.Option.{option_map};
-ghost use Rattle.argus_actions.specs.Nodes.{AreLinked};
-ghost use Rattle.argus_actions.specs.Refusals.{abort_others_refusal};
+ghost use Rattle.std.specs.{Prelude.{◌≡◌, ◌<◌, ◌≤◌, length, true, None, Some}, Option.option_map};
+ghost use Rattle.argus_actions.specs.{Nodes.AreLinked, Refusals.abort_others_refusal};
 ghost use Rattle.argus_actions.specs.Rows.{has_ancestor, is_live_at, under_at};
 ghost use Rattle.argus_actions.specs.Tree.{is_ancestor, is_live_sibling, next};
 ghost use Rattle.argus_actions.specs.declared.action_id.ActionId.{ActionId};
-ghost use Rattle.argus_core.specs.Moving.{AreLawful};
-ghost use Rattle.argus_core.specs.Sweeping.{AreAllThere, AreCovered, AreEnded};
+ghost use Rattle.argus_core.specs.{Moving.AreLawful, Sweeping.{AreAllThere, AreCovered, AreEnded}};
 
 use crate::engine::atomic_object::AtomicObject;
 use crate::engine::moving::release_all;

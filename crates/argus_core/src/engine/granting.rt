@@ -2,10 +2,9 @@
 //! the lock. The cell says whether the action holds the object already, so a holder's list isn't
 //! touched.
 
-ghost use Rattle.std.specs.Prelude.{◌≡◌, ◌<◌, false, length, IfOk, OnErr, OnOk};
-ghost use Rattle.std.specs.Prelude.{slice_index_or, true};
-ghost use Rattle.argus_contents.specs.Answer.{done_or};
-ghost use Rattle.argus_contents.specs.Change.{gives_value, outcome, plain_change};
+ghost use Rattle.std.specs.Prelude.{◌≡◌, ◌<◌, false, length, IfOk, OnErr, OnOk, slice_index_or};
+ghost use Rattle.std.specs.Prelude.{true};
+ghost use Rattle.argus_contents.specs.{Answer.done_or, Change.{gives_value, outcome, plain_change}};
 ghost use Rattle.argus_contents.specs.Content.{KeepsLimits};
 ghost use Rattle.argus_core.specs.Accessing.{HasReadRoom, HasListRoom, IsAccessed, IsAltered};
 ghost use Rattle.argus_core.specs.Accessing.{IsAsBefore, IsFree, IsListedIfHeld, seen_at};
@@ -14,8 +13,7 @@ ghost use Rattle.argus_core.specs.GuardianState.{StateInvariant, journal_view_of
 ghost use Rattle.argus_core.specs.declared.engine.atomic_object.AtomicObject.{AtomicObject};
 ghost use Rattle.argus_journal.specs.LegalJournal.{room_in};
 ghost use Rattle.argus_objects.specs.Holdings.{Lists, SameLists, TakesOnePlace, noted};
-ghost use Rattle.argus_objects.specs.Holdings.{objects_held_by};
-ghost use Rattle.argus_objects.specs.Rules.{may_read, may_write};
+ghost use Rattle.argus_objects.specs.{Holdings.objects_held_by, Rules.{may_read, may_write}};
 
 use crate::engine::atomic_object::AtomicObject;
 use crate::engine::guardian_state::GuardianState;

@@ -2,14 +2,12 @@
 //! handed up; otherwise the parent's list takes the objects that the parent doesn't hold yet.
 
 ghost use Rattle.std.specs.Prelude.{◌≡◌, ◌≢◌, ◌<◌, ◌==◌, ◌≤◌, length, None, OnOk, Some};
-ghost use Rattle.argus_actions.specs.Refusals.{commit_refusal};
-ghost use Rattle.argus_actions.specs.Tree.{parent_of};
+ghost use Rattle.argus_actions.specs.{Refusals.commit_refusal, Tree.parent_of};
 ghost use Rattle.argus_contents.specs.declared.obj_id.ObjId.{ObjId};
-ghost use Rattle.argus_core.specs.Accessing.{IsListedIfHeld};
-ghost use Rattle.argus_core.specs.CommitStep.{CanPass};
+ghost use Rattle.argus_core.specs.{Accessing.IsListedIfHeld, CommitStep.CanPass};
 ghost use Rattle.argus_core.specs.Moving.{AreChanged, AreLawful, AreThere, IsInherited};
-ghost use Rattle.argus_objects.specs.Holdings.{Lists, PassedOn, SameLists};
-ghost use Rattle.argus_objects.specs.Holdings.{holdings_room_of, objects_held_by, passed};
+ghost use Rattle.argus_objects.specs.Holdings.{Lists, PassedOn, SameLists, holdings_room_of};
+ghost use Rattle.argus_objects.specs.Holdings.{objects_held_by, passed};
 
 use crate::engine::atomic_object::AtomicObject;
 use crate::engine::granting::note_if;

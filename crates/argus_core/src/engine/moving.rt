@@ -1,13 +1,10 @@
 //! What becomes of the objects on an action's list when it commits, or when an action above it is
 //! aborted.
 
-ghost use Rattle.std.specs.Prelude.{◌≡◌, ◌==◌, length};
-ghost use Rattle.std.specs.List.{IsDistinct};
-ghost use Rattle.argus_actions.specs.Refusals.{commit_refusal};
-ghost use Rattle.argus_actions.specs.Tree.{parent_of};
-ghost use Rattle.std.specs.Prelude.{None, Some};
-ghost use Rattle.argus_core.specs.Moving.{AreChanged, AreLawful, AreThere};
-ghost use Rattle.argus_core.specs.Moving.{IsEnded, IsInherited, IsSettled};
+ghost use Rattle.std.specs.{Prelude.{◌≡◌, ◌==◌, length, None, Some}, List.IsDistinct};
+ghost use Rattle.argus_actions.specs.{Refusals.commit_refusal, Tree.parent_of};
+ghost use Rattle.argus_core.specs.Moving.{AreChanged, AreLawful, AreThere, IsEnded, IsInherited};
+ghost use Rattle.argus_core.specs.Moving.{IsSettled};
 
 use crate::engine::atomic_object::AtomicObject;
 use argus_actions::{ActionId, ActionTree};

@@ -1,16 +1,12 @@
 //! Why calls are refused, and how a refusal is recorded.
 
 ghost use Rattle.std.specs.Prelude.{IfOk, OnErr, OnOk, length, true, ◌<◌, ◌≡◌, ◌≤◌};
-ghost use Rattle.argus_contents.specs.Change.{plain_change};
+ghost use Rattle.argus_contents.specs.{Change.plain_change, Fitting.{change_suits, query_suits}};
 ghost use Rattle.argus_contents.specs.declared.limits.TheConstants.{MAX_OBJECTS};
-ghost use Rattle.argus_contents.specs.Fitting.{change_suits, query_suits};
-ghost use Rattle.argus_core.specs.Accessing.{access_refusal};
+ghost use Rattle.argus_core.specs.{Accessing.access_refusal, Moving.AreLawful};
 ghost use Rattle.argus_core.specs.GuardianState.{StateInvariant, journal_view_of};
-ghost use Rattle.argus_core.specs.Moving.{AreLawful};
-ghost use Rattle.argus_entries.specs.Call.{plain_call};
-ghost use Rattle.argus_entries.specs.Reply.{plain_reply, refused};
-ghost use Rattle.argus_journal.specs.JournalView.{after, reply_to};
-ghost use Rattle.argus_journal.specs.LegalJournal.{room_in};
+ghost use Rattle.argus_entries.specs.{Call.plain_call, Reply.{plain_reply, refused}};
+ghost use Rattle.argus_journal.specs.{JournalView.{after, reply_to}, LegalJournal.room_in};
 ghost use Rattle.argus_refinement.specs.TreeRefinement.{journal_refusal};
 ghost use Rattle.argus_objects.specs.Rules.{may_read, may_write};
 

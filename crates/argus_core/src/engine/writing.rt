@@ -2,8 +2,7 @@
 
 ghost use Rattle.std.specs.Prelude.{IfOk, None, OnErr, OnOk, true, ◌≡◌};
 ghost use Rattle.argus_contents.specs.Change.{gives_value, plain_change};
-ghost use Rattle.argus_entries.specs.Call.{alter, test_write};
-ghost use Rattle.argus_entries.specs.Reply.{plain_reply};
+ghost use Rattle.argus_entries.specs.{Call.{alter, test_write}, Reply.plain_reply};
 ghost use Rattle.argus_core.specs.GuardianState.{StateInvariant, journal_view_of};
 ghost use Rattle.argus_journal.specs.JournalView.{after, refusal_to, reply_to};
 

@@ -1,8 +1,6 @@
 -- Which sharing this is.
-use Rattle.argus_guardian.specs.Keeper.{history_of, next_right_of}
-use Rattle.argus_journal.specs.Opening.{content_in}
-use Rattle.argus_guardian.specs.Following.{journal_bases, journal_effects}
-use Rattle.argus_journal.specs.JournalView.{next_entry}
+use Rattle.argus_guardian.specs.{Keeper.{history_of, next_right_of}, Following.{journal_bases, journal_effects}}
+use Rattle.argus_journal.specs.{Opening.content_in, JournalView.next_entry}
 use Rattle.argus_embedding_example.proofs.main.Given as goal
 
 abbrev pub ghosts-pay_from_threads-N-Ledger : goal.ghosts-pay_from_threads-N-Ledger

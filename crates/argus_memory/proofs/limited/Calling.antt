@@ -1,6 +1,6 @@
 -- What each method of `Limited` does: it drops what it is handed, takes the `&` to the allocator apart, and some call
 -- `is_spent`. Assumes `Logic`.
-use Rattle.std.proofs.Common.{◌≡◌, ℕ, ◌+◌, Bool, List, [], ◌∷◌, refl, ap, Bor}
+use Rattle.std.proofs.{Common.{◌≡◌, ℕ, ◌+◌, Bool, List, [], ◌∷◌, refl, ap, Bor}, alloc.Calls.{Al, α, seen}}
 use seplogic.Ra.Ura.{Ura}
 use mir.Syntax.{Args, Body, Opd, Place, a_type, call, dcons, dnil, named, seq}
 use mir.Val.{Val, vbool, vptr}
@@ -29,7 +29,6 @@ use denote.Triple.Statement.{Contract}
 use denote.Triple.Table.{cited, framed}
 use denote.Triple.Spec.{triple_of}
 use denote.Triple.Walked.{AllGo, Goes-dropped, Silent, Stays, stay_dropped}
-use Rattle.std.proofs.alloc.Calls.{Al, α, seen}
 use Rattle.argus_memory.specs.contracts.count.Count as CO
 use Rattle.argus_memory.specs.contracts.count.is_spent as TK
 use Rattle.argus_memory.specs.contracts.limited.Limited as wrapper

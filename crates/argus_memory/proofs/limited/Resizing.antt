@@ -1,7 +1,8 @@
 -- `grow` and `shrink` of `Limited`, whose contracts differ in one fact, φ: what they are handed, the inner allocator's
 -- call, and how they end. Assumes `Logic`.
-use Rattle.std.proofs.Common.{◌≡◌, ℕ, Bool, List, [], ◌∷◌, refl, w64, Bor}
-use Rattle.std.proofs.raw_atomic.Walks.{proved}
+use Rattle.std.proofs.{Common.{◌≡◌, ℕ, Bool, List, [], ◌∷◌, refl, w64, Bor}, raw_atomic.Walks.proved}
+use Rattle.std.proofs.{alloc.Calls.{Al, token, Answer, answer_val}, alloc.Resizes.{result_own, asked, heard_all}}
+use Rattle.std.proofs.alloc.Resizes.{Sizes, resize_key, Resizes, at_resizes, Resizes-goes, Resizes-gives, result_of}
 use seplogic.Ra.Ura.{Ura}
 use mir.Syntax.{Args, Body, Callee, Fn, Opd, Place, a_type, call, dcons, dnil, seq}
 use mir.Val.{Val, WT, vint}
@@ -29,9 +30,6 @@ use denote.Triple.Statement.{Triple, Contract}
 use denote.Triple.Table.{framed}
 use denote.Triple.Walked.{walk_of, ends_at}
 use Rattle.std.specs.Allocator.{block_with_items, resized_if_ok}
-use Rattle.std.proofs.alloc.Calls.{Al, token, Answer, answer_val}
-use Rattle.std.proofs.alloc.Resizes.{Sizes, resize_key, Resizes, at_resizes, Resizes-goes, Resizes-gives}
-use Rattle.std.proofs.alloc.Resizes.{result_of, result_own, asked, heard_all}
 use Rattle.argus_memory.specs.contracts.limited.Limited as wrapper
 use Rattle.argus_memory.specs.contracts.limited.LimitedAllocator.grow as F
 use Rattle.argus_memory.proofs.limited.Calling.{count_seen, dropped, each_goes, inner_at, inner_seen, parts}

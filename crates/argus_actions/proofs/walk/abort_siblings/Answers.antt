@@ -1,16 +1,11 @@
 -- When no sibling is left, all below a live one are Aborted.
-use Rattle.std.proofs.Common.{◌≡◌, ◌-◌, true, false, eqb, not, ◌&&◌, get_or, sym, ◌∙◌, ap, arith}
-use Rattle.std.proofs.Math.Bool.{and-false}
+use Rattle.std.proofs.{Common.{◌≡◌, ◌-◌, true, false, eqb, not, ◌&&◌, get_or, sym, ◌∙◌, ap, arith}, Math.Bool.and-false}
 use Rattle.std.proofs.lemmas.Bool.{eq-eqb, ne_eqb}
-use Rattle.argus_actions.specs.declared.status.Status.TheVariants.{Aborted}
-use Rattle.argus_actions.specs.Row.{is_live}
+use Rattle.argus_actions.specs.{declared.status.Status.TheVariants.Aborted, Row.is_live, Nodes.{rows_of, AreNodes}}
 use Rattle.argus_actions.specs.Rows.{mark, has_ancestor, is_live_sibling_of}
-use Rattle.argus_actions.specs.Nodes.{rows_of, AreNodes}
-use Rattle.argus_actions.proofs.Counted.{count}
-use Rattle.argus_actions.proofs.NodesLemmas.{some_node}
+use Rattle.argus_actions.proofs.{Counted.count, NodesLemmas.some_node, Siblings.left_aborted}
 use Rattle.argus_actions.proofs.Siblings.{is_swept, under_begun, sweep_start, sweep_begun, sweep_end, sibling_seen}
-use Rattle.argus_actions.proofs.Siblings.{sweep_spared, sweep_aborted, sweep_step, sweep_smaller, has_live}
-use Rattle.argus_actions.proofs.Siblings.{left_spared, left_aborted}
+use Rattle.argus_actions.proofs.Siblings.{sweep_spared, sweep_aborted, sweep_step, sweep_smaller, has_live, left_spared}
 use Rattle.argus_actions.proofs.walk.abort_siblings.Goals.{then-child-a+then-is_live, else-child-a}
 use Rattle.argus_actions.proofs.walk.abort_siblings.Goals.{else-child-a-via-then-child-a+else-is_live}
 use Rattle.argus_actions.proofs.walk.abort_siblings.Goals.{else-child-a-via-else-child-a}

@@ -1,14 +1,10 @@
 -- A node is made of what its parent or creator says.
 use Rattle.std.proofs.Common.{◌≤◌, ◌-◌, ◌+◌, length, get_or, sym, ◌∙◌, ap, arith}
 use Rattle.argus_contents.specs.declared.limits.TheConstants.{MAX_ACTION_DEPTH}
-use Rattle.argus_actions.specs.declared.node.TheConstants.{NONE}
-use Rattle.argus_actions.specs.declared.origin.Origin.{Origin}
-use Rattle.argus_actions.specs.declared.origin.Origin.TheVariants.{Sub, Nested}
-use Rattle.argus_actions.specs.Row.{under_of, at_parent}
-use Rattle.argus_actions.specs.Rows.{depth_at}
+use Rattle.argus_actions.specs.{declared.node.TheConstants.NONE, declared.origin.Origin.Origin, Rows.depth_at}
+use Rattle.argus_actions.specs.{declared.origin.Origin.TheVariants.{Sub, Nested}, Row.{under_of, at_parent}}
 use Rattle.argus_actions.specs.Nodes.{rows_of, IsNode, fresh, older_sub_link, older_child_link}
-use Rattle.argus_actions.proofs.NodesLemmas.{some_node}
-use Rattle.argus_actions.proofs.Begun.{under_between}
+use Rattle.argus_actions.proofs.{NodesLemmas.some_node, Begun.under_between}
 use Rattle.argus_actions.proofs.walk.begun_node.Goals as goal
 
 pub overflow_add-older_sub : goal.overflow_add-older_sub

@@ -2,8 +2,7 @@
 use Rattle.std.proofs.Common.{◌≡◌, ◌-◌, ◌+◌, ◌<◌, length, sym, ◌∙◌, arith, inl, inr}
 use Rattle.std.proofs.lemmas.Bool.{eq-eqb, ne_eqb, cases_eq}
 use Rattle.argus_actions.specs.Nodes.{rows_of}
-use Rattle.argus_actions.proofs.RowsLemmas.{is_above_newer}
-use Rattle.argus_actions.proofs.NodesLemmas.{some_node}
+use Rattle.argus_actions.proofs.{RowsLemmas.is_above_newer, NodesLemmas.some_node}
 use Rattle.argus_actions.proofs.Climbs.{climbed_here, climbed_up, climbed_out, parent_before}
 use Rattle.argus_actions.proofs.walk.climbs.Goals as goal
 

@@ -1,7 +1,6 @@
 -- Who is above the place of the climb is above the action, and no other is.
 use Rattle.std.proofs.Common.{◌≡◌, ◌<◌, ◌≤◌, ◌+◌, length}
-use Rattle.argus_actions.specs.Rows.{is_above}
-use Rattle.argus_actions.specs.Nodes.{rows_of}
+use Rattle.argus_actions.specs.{Rows.is_above, Nodes.rows_of}
 use Rattle.argus_actions.proofs.walk.climbs.Given as goal
 
 abbrev pub invariant-loop-at : goal.invariant-loop-at

@@ -1,13 +1,11 @@
 -- What ending one action does to the nodes.
 use Rattle.std.proofs.Common.{◌≡◌, ◌<◌, ◌+◌, ◌-◌, ℕ, Option, Some, None, length, get_or, set, refl, sym, ◌∙◌, arith}
-use Rattle.std.proofs.Common.{inl, inr}
-use Rattle.std.proofs.lemmas.List.{length-set}
+use Rattle.std.proofs.{Common.{inl, inr}, lemmas.List.length-set}
 use Rattle.argus_actions.specs.declared.node.Node.{Node}
-use Rattle.argus_actions.proofs.NodesLemmas.{some_node, under_is_there, under_has_live}
+use Rattle.argus_actions.proofs.{NodesLemmas.{some_node, under_is_there, under_has_live}, Finished.with_end}
 use Rattle.argus_actions.proofs.Finished.{finished, finished_under, finished_alone, finished_rows, finished_nodes}
-use Rattle.argus_actions.proofs.Finished.{with_end}
-use Rattle.argus_actions.proofs.walk.finish.Goals as goal
 use Rattle.argus_actions.proofs.walk.finish.Goals.{then-is_live+in-Some, then-is_live+in_default, else-is_live}
+use Rattle.argus_actions.proofs.walk.finish.Goals as goal
 
 pub overflow_sub-above : goal.overflow_sub-above
 overflow_sub-above c =

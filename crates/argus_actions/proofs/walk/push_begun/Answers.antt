@@ -2,9 +2,7 @@
 use Rattle.std.proofs.Common.{◌≡◌, ◌<◌, ◌≤◌, ◌+◌, ℕ, List, [], ◌∷◌, ◌++◌, length, get_or, subst, refl, ◌∙◌, ap, arith}
 use Rattle.std.proofs.lemmas.List.{with_items_is}
 use Rattle.argus_contents.specs.declared.limits.TheConstants.{MAX_ACTIONS, MAX_ACTION_DEPTH}
-use Rattle.argus_actions.specs.declared.node.Node.{Node}
-use Rattle.argus_actions.specs.Row.{at_parent}
-use Rattle.argus_actions.specs.Rows.{depth_at}
+use Rattle.argus_actions.specs.{declared.node.Node.Node, Row.at_parent, Rows.depth_at}
 use Rattle.argus_actions.specs.Nodes.{rows_of, IsBegunBetween, adopted, fresh, older_sub_link, older_child_link}
 use Rattle.argus_actions.proofs.Begun.{begun_rows, begun_nodes}
 use Rattle.argus_actions.proofs.walk.push_begun.Goals as goal

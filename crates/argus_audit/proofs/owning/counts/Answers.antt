@@ -1,7 +1,6 @@
 -- What an action did counts by its owner.
 use Rattle.std.proofs.Common.{None, Some, ap, sym, ◌∙◌}
-use Rattle.argus_journal.specs.Journal.{entries_of, opening_of}
-use Rattle.argus_journal.specs.Replaying.{counts_by_entries}
+use Rattle.argus_journal.specs.{Journal.{entries_of, opening_of}, Replaying.counts_by_entries}
 use Rattle.argus_journal.specs.declared.owner.Owner.TheVariants.{Base, Folded, Gone, Held}
 use Rattle.argus_audit.proofs.Owners.{above, counted}
 use Rattle.argus_audit.proofs.owning.counts.Goals as goal

@@ -1,7 +1,6 @@
 -- The action that is reached has the same owner.
 use Rattle.std.proofs.Common.{◌≡◌}
-use Rattle.argus_journal.specs.Journal.{entries_of, opening_of}
-use Rattle.argus_journal.specs.JournalFacts.{owner_in}
+use Rattle.argus_journal.specs.{Journal.{entries_of, opening_of}, JournalFacts.owner_in}
 use Rattle.argus_audit.proofs.owning.owner_of.Given as goal
 
 abbrev pub invariant-loop-parent : goal.invariant-loop-parent

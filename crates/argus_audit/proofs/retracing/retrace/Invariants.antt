@@ -1,7 +1,6 @@
 -- The tree is that of the entries so far.
 use Rattle.argus_audit.specs.Places.{first_entries}
-use Rattle.argus_journal.specs.Events.{history}
-use Rattle.argus_journal.specs.Journal.{entries_of, opening_of}
+use Rattle.argus_journal.specs.{Events.history, Journal.{entries_of, opening_of}}
 use Rattle.argus_refinement.specs.TreeRefinement.{IsTree}
 use Rattle.argus_audit.proofs.retracing.retrace.Given as goal
 

@@ -1,13 +1,9 @@
 -- The call that was found makes the tree that of one more entry.
-use Rattle.std.proofs.Common.{subst, sym, ◌+◌}
-use Rattle.std.proofs.lemmas.Result.{on_ok_weaker}
-use Rattle.argus_audit.proofs.Places.{first_legal, no_more, one_more}
-use Rattle.argus_audit.proofs.Retraced.{entry_retraced}
+use Rattle.std.proofs.{Common.{subst, sym, ◌+◌}, lemmas.Result.on_ok_weaker}
+use Rattle.argus_audit.proofs.{Places.{first_legal, no_more, one_more}, Retraced.entry_retraced}
 use Rattle.argus_audit.specs.Places.{first_entries}
 use Rattle.argus_entries.specs.Entry.{plain_entry}
-use Rattle.argus_journal.specs.Events.{history}
-use Rattle.argus_journal.specs.Journal.{entries_of, opening_of}
-use Rattle.argus_journal.specs.Legal.{Legal}
+use Rattle.argus_journal.specs.{Events.history, Journal.{entries_of, opening_of}, Legal.Legal}
 use Rattle.argus_refinement.specs.TreeRefinement.{IsTree}
 use Rattle.argus_audit.proofs.retracing.retrace_entry.Goals as goal
 

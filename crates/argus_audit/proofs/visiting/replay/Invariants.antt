@@ -2,8 +2,7 @@
 use Rattle.std.proofs.Common.{◌-◌, ◌≡◌}
 use Rattle.argus_audit.specs.Places.{first_entries}
 use Rattle.argus_contents.specs.Content.{plain_option}
-use Rattle.argus_journal.specs.Journal.{entries_of, opening_of}
-use Rattle.argus_journal.specs.Replaying.{replayed}
+use Rattle.argus_journal.specs.{Journal.{entries_of, opening_of}, Replaying.replayed}
 use Rattle.argus_audit.proofs.visiting.replay.Given as goal
 
 abbrev pub invariant-loop-place : goal.invariant-loop-place

@@ -1,11 +1,9 @@
 -- What one more entry leaves, by whether it writes the object and counts.
 use Rattle.std.proofs.Common.{ap, false, sym, true, ◌∙◌}
-use Rattle.argus_audit.proofs.Places.{first_legal}
-use Rattle.argus_audit.proofs.Visits.{unwritten_at, written_at}
+use Rattle.argus_audit.proofs.{Places.first_legal, Visits.{unwritten_at, written_at}}
 use Rattle.argus_audit.specs.Places.{first_entries}
 use Rattle.argus_entries.specs.Entry.{plain_entry}
-use Rattle.argus_journal.specs.Entries.{content_after_call}
-use Rattle.argus_journal.specs.Journal.{entries_of, opening_of}
+use Rattle.argus_journal.specs.{Entries.content_after_call, Journal.{entries_of, opening_of}}
 use Rattle.argus_journal.proofs.Replay.{replayed_keeps}
 use Rattle.argus_audit.proofs.visiting.visit.Goals as goal
 

@@ -1,9 +1,7 @@
 -- Which sharing this is.
 use Rattle.argus_bench.proofs.sharing.run.Given as goal
-use Rattle.argus_guardian.specs.Keeper.{history_of, next_right_of}
-use Rattle.argus_journal.specs.Opening.{content_in}
-use Rattle.argus_guardian.specs.Following.{journal_bases, journal_effects}
-use Rattle.argus_journal.specs.JournalView.{next_entry}
+use Rattle.argus_guardian.specs.{Keeper.{history_of, next_right_of}, Following.{journal_bases, journal_effects}}
+use Rattle.argus_journal.specs.{Opening.content_in, JournalView.next_entry}
 
 abbrev pub ghosts-time_shared-N-Ledger : goal.ghosts-time_shared-N-Ledger
 ghosts-time_shared-N-Ledger g a = record { name = a.blank.name; parts = a.blank.parts }

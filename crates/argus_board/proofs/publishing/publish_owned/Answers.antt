@@ -2,10 +2,8 @@
 use Rattle.std.proofs.Common.{List, Option, ap, subst, sym, ◌∙◌, ◌≡◌}
 use mathlib.Core.List.{IsPrefix}
 use Rattle.argus_contents.specs.Content.{PlainContent}
-use Rattle.argus_board.specs.Effects.{contents_after}
-use Rattle.argus_board.specs.HistoryPrefix.{book_of, line_of}
-use Rattle.argus_board.specs.Published.{contents_of, shown_table}
-use Rattle.argus_board.specs.declared.history_prefix.HistoryPrefix.{HistoryPrefix}
+use Rattle.argus_board.specs.{Effects.contents_after, HistoryPrefix.{book_of, line_of}}
+use Rattle.argus_board.specs.{Published.{contents_of, shown_table}, declared.history_prefix.HistoryPrefix.HistoryPrefix}
 use Rattle.argus_board.proofs.Rule.{rises}
 use Rattle.argus_board.proofs.publishing.publish_owned.Goals as goal
 

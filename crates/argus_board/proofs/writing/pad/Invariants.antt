@@ -1,7 +1,6 @@
 -- So many absent objects stand at the end, and there is room for the rest.
 use Rattle.std.proofs.Common.{replicate, ◌++◌, ◌+◌, ◌-◌, ◌≡◌, ◌≤◌}
-use Rattle.std.specs.Prelude.{None}
-use Rattle.std.specs.Vec.{vec_capacity, vec_len}
+use Rattle.std.specs.{Prelude.None, Vec.{vec_capacity, vec_len}}
 use Rattle.argus_board.proofs.writing.pad.Given as goal
 
 abbrev pub invariant-loop-more : goal.invariant-loop-more

@@ -2,8 +2,7 @@
 use Rattle.std.proofs.Common.{Option, ap, arith, length, ◌++◌, ◌∙◌, ◌∷◌, ◌≡◌, []}
 use Rattle.std.specs.Option.{option_to_list}
 use lib.ListN.{length-set}
-use Rattle.argus_contents.specs.declared.content.Content.{Content}
-use Rattle.argus_contents.specs.declared.obj_id.ObjId.{ObjId}
+use Rattle.argus_contents.specs.{declared.content.Content.Content, declared.obj_id.ObjId.ObjId}
 use Rattle.argus_board.proofs.Contents.{last_is_needed, write_last}
 use Rattle.argus_board.proofs.writing.write.Goals as goal
 

@@ -1,16 +1,15 @@
-use Rattle.std.proofs.Common.{ap, ap₂, arith, codes, inl, inr, map, option_map, rules, string_bytes}
-use Rattle.std.proofs.Common.{subst, sym, ◌∙◌, ◌∷◌, ◌≡◌, ◌⊎◌}
-use Rattle.clap.specs.Words.{HasKind, Text, fault_of, first_of, found_of, is_simple}
-use Rattle.clap.specs.Words.{is_simple_and_free, kind_of, matches_of, one_of, one_text, rows_of}
+use Rattle.std.proofs.Common.{ap, ap₂, arith, codes, inl, inr, map, option_map, rules, string_bytes, subst, sym, ◌∙◌}
+use Rattle.std.proofs.Common.{◌∷◌, ◌≡◌, ◌⊎◌}
+use Rattle.clap.specs.Words.{HasKind, Text, fault_of, first_of, found_of, is_simple, is_simple_and_free, kind_of}
+use Rattle.clap.specs.Words.{matches_of, one_of, one_text, rows_of}
 use Rattle.clap.specs.declared.error.kind.ErrorKind.TheVariants as kind
-use Rattle.argus_cli.specs.CommandLine.{IsRefused, faults_of_words, is_given, listing_named}
-use Rattle.argus_cli.specs.CommandLine.{listing_or_bases, number_or, rows_of_words}
+use Rattle.argus_cli.specs.CommandLine.{IsRefused, faults_of_words, is_given, listing_named, listing_or_bases}
+use Rattle.argus_cli.specs.CommandLine.{number_or, rows_of_words}
+use Rattle.argus_cli.specs.declared.limits.TheConstants.{MAX_PATIENCE, MAX_WORKERS}
 use Rattle.argus_cli.proofs.Program.{program_is_free, program_is_simple}
-use Rattle.argus_cli.proofs.Accepted.{IsWithin, flag_read, listing_or, number_read}
-use Rattle.argus_cli.proofs.Accepted.{patience_accepted, workers_accepted}
+use Rattle.argus_cli.proofs.Accepted.{IsWithin, flag_read, listing_or, number_read, patience_accepted, workers_accepted}
 use Rattle.clap.proofs.WalkLemmas.{first_value-rows, one_text-rows}
 use Rattle.std.specs.Str.Parse.{ExplainsUnsignedError, HasUnsignedDigitsIfOk, ParsesUnsigned}
-use Rattle.argus_cli.specs.declared.limits.TheConstants.{MAX_PATIENCE, MAX_WORKERS}
 use Rattle.argus_cli.proofs.command_line.asked.Goals as goal
 
 -- src/command_line.rt:59:19

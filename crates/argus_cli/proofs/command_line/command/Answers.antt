@@ -1,6 +1,4 @@
-use Rattle.std.proofs.Common.{ap₂, rules, subst, sym, ◌∙◌}
-use Rattle.std.proofs.lemmas.List.Elements.{All-nil}
-use Rattle.std.proofs.lemmas.Result.{IfOk-weaker}
+use Rattle.std.proofs.{Common.{ap₂, rules, subst, sym, ◌∙◌}, lemmas.List.Elements.All-nil, lemmas.Result.IfOk-weaker}
 use Rattle.std.specs.List.{All}
 use Rattle.clap.specs.Words.{IsPlain, IsPlainArg, with_rule}
 use Rattle.clap.proofs.CallerLemmas.{added_plain}

@@ -1,8 +1,6 @@
 -- The words and the reply, one behind the other.
-use Rattle.std.proofs.Common.{codes, string_bytes}
-use Rattle.std.proofs.lemmas.List.{append_assoc}
-use Rattle.argus_journal.specs.EntrySpelling.{reply_spelling}
-use Rattle.argus_journal.specs.Reply.{plain_reply}
+use Rattle.std.proofs.{Common.{codes, string_bytes}, lemmas.List.append_assoc}
+use Rattle.argus_journal.specs.{EntrySpelling.reply_spelling, Reply.plain_reply}
 use Rattle.argus_cli.proofs.faulty_line.append_line_fault.Goals as goal
 
 pub returns-in_ok-write_reply-in-NotTheReply : goal.returns-in_ok-write_reply-in-NotTheReply

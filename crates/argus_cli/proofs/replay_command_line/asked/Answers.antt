@@ -1,13 +1,12 @@
 -- What clap's matches of the words are, and their faults.
-use Rattle.std.proofs.Common.{ap, ap₂, codes, inl, inr, map, option_map, rules, string_bytes}
-use Rattle.std.proofs.Common.{subst, sym, ◌∙◌, ◌∷◌, ◌≡◌, ◌⊎◌}
-use Rattle.clap.specs.Words.{HasKind, Text, fault_of, first_of, found_of, is_simple}
-use Rattle.clap.specs.Words.{is_simple_and_free, kind_of, matches_of, one_of, one_text, rows_of}
+use Rattle.std.proofs.Common.{ap, ap₂, codes, inl, inr, map, option_map, rules, string_bytes, subst, sym, ◌∙◌, ◌∷◌, ◌≡◌}
+use Rattle.std.proofs.Common.{◌⊎◌}
+use Rattle.clap.specs.Words.{HasKind, Text, fault_of, first_of, found_of, is_simple, is_simple_and_free, kind_of}
+use Rattle.clap.specs.Words.{matches_of, one_of, one_text, rows_of}
 use Rattle.clap.specs.declared.error.kind.ErrorKind.TheVariants as kind
 use Rattle.argus_cli.specs.CommandLine.{is_given, listing_named, listing_or_bases}
 use Rattle.argus_cli.specs.ReplayCommandLine.{IsReplayRefused, replay_faults, replay_rows}
-use Rattle.argus_cli.proofs.Program.{replay_is_free, replay_is_simple}
-use Rattle.argus_cli.proofs.Accepted.{flag_read, listing_or}
+use Rattle.argus_cli.proofs.{Program.{replay_is_free, replay_is_simple}, Accepted.{flag_read, listing_or}}
 use Rattle.clap.proofs.WalkLemmas.{first_value-rows, one_text-rows}
 use Rattle.argus_cli.proofs.replay_command_line.asked.Goals as goal
 

@@ -1,8 +1,6 @@
 -- What was read and run is what is listed; without memory before that nothing was written.
-use Rattle.std.proofs.Common.{arith, refl, rules, subst, ◌+◌, ◌≡◌}
-use Rattle.std.proofs.lemmas.Result.{err_from_is_err_and}
-use Rattle.argus_commands.specs.Played.{IsPlay}
-use Rattle.argus_commands.specs.Script.{plain_script}
+use Rattle.std.proofs.{Common.{arith, refl, rules, subst, ◌+◌, ◌≡◌}, lemmas.Result.err_from_is_err_and}
+use Rattle.argus_commands.specs.{Played.IsPlay, Script.plain_script}
 use Rattle.argus_commands.specs.language_declared.limits.TheConstants.{MAX_SCRIPT_BYTES}
 use Rattle.argus_cli.specs.Streams.{streams}
 use Rattle.argus_cli.proofs.Runs.{is_new, listed, lists_run, partly_listed, unlisted}

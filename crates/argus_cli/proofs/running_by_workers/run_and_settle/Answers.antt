@@ -1,6 +1,5 @@
 -- Receipts that show a run and stand, each once, in a journal that began empty, are what workers leave.
-use Rattle.std.proofs.Common.{All, ap, arith, length, map, sum_by, ◌+◌, ◌∙◌, ◌≡◌}
-use Rattle.std.proofs.lemmas.List.{length-map}
+use Rattle.std.proofs.{Common.{All, ap, arith, length, map, sum_by, ◌+◌, ◌∙◌, ◌≡◌}, lemmas.List.length-map}
 use Rattle.argus_cli.proofs.Settled.{as_many, front_of, none_in_all}
 use Rattle.argus_commands.specs.Script.{plain_script}
 use Rattle.argus_guardian.specs.Receipt.{plain_receipt}

@@ -1,8 +1,6 @@
 -- What is left where the change was made keeps the limits.
 use Rattle.std.proofs.Common.{Some}
-use Rattle.argus_contents.specs.Answer.{done_or}
-use Rattle.argus_contents.specs.Change.{plain_change}
-use Rattle.argus_contents.specs.Content.{KeepsLimits, plain_content}
+use Rattle.argus_contents.specs.{Answer.done_or, Change.plain_change, Content.{KeepsLimits, plain_content}}
 use Rattle.argus_contents.proofs.Refit.{changed_keeps}
 use Rattle.argus_contents.proofs.altering.alter_by_reference.Goals as goal
 

@@ -1,7 +1,6 @@
 -- What a removal leaves keeps the limits.
 use Rattle.std.proofs.Common.{ap, subst, sym}
-use Rattle.argus_contents.specs.Change.{Outcome, plain_change}
-use Rattle.argus_contents.specs.Content.{KeepsLimits, plain_option}
+use Rattle.argus_contents.specs.{Change.{Outcome, plain_change}, Content.{KeepsLimits, plain_option}}
 use Rattle.argus_contents.proofs.Kept.{outcome_keeps}
 use Rattle.argus_contents.proofs.altering.alter_in_place.Goals as goal
 

@@ -1,13 +1,9 @@
 -- The low bound that is put back is the one that the change left.
-use Rattle.std.proofs.Common.{Some, w64}
-use Rattle.std.proofs.lemmas.Int.{to_z-of_z}
+use Rattle.std.proofs.{Common.{Some, w64}, lemmas.Int.to_z-of_z}
 use mir.Val.{SFits}
-use Rattle.argus_contents.specs.Answer.{done_or}
-use Rattle.argus_contents.specs.Change.{plain_change, array_outcome}
-use Rattle.argus_contents.specs.Content.{arr, KeepsLimits}
+use Rattle.argus_contents.specs.{Answer.done_or, Change.{plain_change, array_outcome}, Content.{arr, KeepsLimits}}
 use Rattle.argus_contents.specs.Value.{plain_list}
-use Rattle.argus_contents.proofs.Kept.{array_keeps}
-use Rattle.argus_contents.proofs.Refit.{refit, bound_fits}
+use Rattle.argus_contents.proofs.{Kept.array_keeps, Refit.{refit, bound_fits}}
 use Rattle.argus_contents.proofs.altering.alter_present.Goals as goal
 
 pub returns-in-Arr-clause-ok : goal.returns-in-Arr-clause-ok

@@ -1,6 +1,5 @@
 -- An item that is written by a copy.
-use Rattle.std.proofs.Common.{◌≡◌, length, arith, w64}
-use Rattle.std.proofs.lemmas.Int.{to_z-of_z}
+use Rattle.std.proofs.{Common.{◌≡◌, length, arith, w64}, lemmas.Int.to_z-of_z}
 use mir.Val.{SFits}
 use Rattle.argus_contents.proofs.Arrays.{stored}
 use Rattle.argus_contents.proofs.altering.store_item.Goals as goal

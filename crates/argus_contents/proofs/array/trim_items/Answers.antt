@@ -1,13 +1,8 @@
 -- What a trim leaves where it is made.
-use Rattle.std.proofs.lemmas.Grind.{common_steps}
-use Rattle.std.proofs.Common.{◌≡◌, length, arith, rules, w64, None, Some, ap, sym}
-use Rattle.std.proofs.lemmas.List.{length-map}
-use Rattle.std.proofs.lemmas.Int.{to_z-of_z}
+use Rattle.std.proofs.{lemmas.Grind.common_steps, Common.{◌≡◌, length, arith, rules, w64, None, Some, ap, sym}}
+use Rattle.std.proofs.{lemmas.List.length-map, lemmas.Int.to_z-of_z}
 use mir.Val.{SFits}
-use Rattle.argus_contents.specs.Value.{plain_value}
-use Rattle.argus_contents.specs.Answer.{done}
-use Rattle.argus_contents.specs.Change.{trim_refusal}
-use Rattle.argus_contents.specs.Content.{arr}
+use Rattle.argus_contents.specs.{Value.plain_value, Answer.done, Change.trim_refusal, Content.arr}
 use Rattle.argus_contents.proofs.Arrays.{kept_items}
 use Rattle.argus_contents.proofs.array.trim_items.Goals as goal
 

@@ -1,6 +1,5 @@
 -- Answers that save seconds of search.
-use Rattle.std.proofs.Common.{arith, rules}
-use Rattle.std.proofs.lemmas.Grind.{common_steps}
+use Rattle.std.proofs.{Common.{arith, rules}, lemmas.Grind.common_steps}
 use Rattle.argus_contents.proofs.asking.ask_array.Goals as goal
 
 pub returns-in-High : goal.returns-in-High

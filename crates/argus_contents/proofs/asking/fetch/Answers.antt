@@ -1,7 +1,5 @@
 -- An item is found at the place of its index.
-use Rattle.std.proofs.lemmas.Grind.{common_steps}
-use Rattle.std.proofs.Common.{◌≡◌, length, arith, w64}
-use Rattle.std.proofs.lemmas.Int.{to_z-of_z}
+use Rattle.std.proofs.{lemmas.Grind.common_steps, Common.{◌≡◌, length, arith, w64}, lemmas.Int.to_z-of_z}
 use mir.Val.{SFits}
 use Rattle.argus_contents.proofs.Places.{item-at-place}
 use Rattle.argus_contents.proofs.asking.fetch.Goals as goal

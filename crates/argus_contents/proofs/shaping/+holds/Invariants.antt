@@ -1,8 +1,6 @@
 -- What is left of the types decides whether a test holds in one of them.
 use Rattle.std.proofs.Common.{◌≡◌, drop}
-use Rattle.argus_contents.specs.Shape.{in_fields}
-use Rattle.argus_contents.specs.ShapeKind.{test_of}
-use Rattle.argus_contents.specs.Ty.{plain_fields}
+use Rattle.argus_contents.specs.{Shape.in_fields, ShapeKind.test_of, Ty.plain_fields}
 use Rattle.argus_contents.proofs.shaping.+holds.Given as goal
 
 abbrev pub invariant-holds_in_fields-loop-ty : goal.invariant-holds_in_fields-loop-ty

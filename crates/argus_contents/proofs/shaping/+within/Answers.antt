@@ -1,7 +1,6 @@
 -- A struct or a oneof is within a depth where its types are within one level less.
 use Rattle.std.proofs.Common.{◌∙◌}
-use Rattle.argus_contents.proofs.Levels.{plain_ty-Fields, plain_ty-Choice}
-use Rattle.argus_contents.proofs.Types.{deeper}
+use Rattle.argus_contents.proofs.{Levels.{plain_ty-Fields, plain_ty-Choice}, Types.deeper}
 use Rattle.argus_contents.proofs.shaping.+within.Goals as goal
 
 pub is_within-returns-in-Fields-clause-depth : goal.is_within-returns-in-Fields-clause-depth

@@ -1,8 +1,7 @@
 -- What is left of the types decides whether all are within the depth, and what is left of the names
 -- whether all have a name's form.
 use Rattle.std.proofs.Common.{◌≡◌, drop, nat_le}
-use Rattle.argus_contents.specs.Shape.{AreNamed, deepest_of}
-use Rattle.argus_contents.specs.Ty.{plain_fields}
+use Rattle.argus_contents.specs.{Shape.{AreNamed, deepest_of}, Ty.plain_fields}
 use Rattle.argus_contents.proofs.shaping.+within.Given as goal
 
 abbrev pub invariant-are_within-loop-name : goal.invariant-are_within-loop-name

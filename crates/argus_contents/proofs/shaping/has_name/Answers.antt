@@ -1,6 +1,5 @@
 -- Answered outright, so that nothing is searched for.
-use Rattle.std.proofs.Common.{arith, rules}
-use Rattle.std.proofs.lemmas.Grind.{common_steps}
+use Rattle.std.proofs.{Common.{arith, rules}, lemmas.Grind.common_steps}
 use Rattle.argus_contents.proofs.shaping.has_name.Goals as goal
 
 pub loop-other-init : goal.loop-other-init

@@ -2,8 +2,7 @@
 use Rattle.std.proofs.Common.{◌≡◌, drop, nat_eq}
 use Rattle.std.specs.List.{list_any}
 use lib.Pointwise.{pointwise}
-use Rattle.argus_contents.specs.Shape.{names_of}
-use Rattle.argus_contents.specs.Ty.{plain_fields}
+use Rattle.argus_contents.specs.{Shape.names_of, Ty.plain_fields}
 use Rattle.argus_contents.proofs.shaping.has_name.Given as goal
 
 abbrev pub invariant-loop-other : goal.invariant-loop-other

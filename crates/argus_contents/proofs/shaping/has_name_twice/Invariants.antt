@@ -1,7 +1,6 @@
 -- What is left of the names decides whether one stands twice.
 use Rattle.std.proofs.Common.{◌≡◌, drop}
-use Rattle.argus_contents.specs.Shape.{names_of, has_twice}
-use Rattle.argus_contents.specs.Ty.{plain_fields}
+use Rattle.argus_contents.specs.{Shape.{names_of, has_twice}, Ty.plain_fields}
 use Rattle.argus_contents.proofs.shaping.has_name_twice.Given as goal
 
 abbrev pub invariant-loop-i : goal.invariant-loop-i

@@ -1,8 +1,6 @@
 -- Lists of other lengths don't say the same, and the names of structs and oneofs decide.
-use Rattle.std.proofs.lemmas.Grind.{common_steps}
-use Rattle.std.proofs.Common.{sym, arith}
-use Rattle.argus_contents.proofs.Levels.{plain_ty-Choice, plain_ty-Fields}
-use Rattle.argus_contents.proofs.Lists.{other_names}
+use Rattle.std.proofs.{lemmas.Grind.common_steps, Common.{sym, arith}}
+use Rattle.argus_contents.proofs.{Levels.{plain_ty-Choice, plain_ty-Fields}, Lists.other_names}
 use Rattle.argus_contents.proofs.ty.+same.Goals as goal
 
 pub are_same-returns-then-a-b : goal.are_same-returns-then-a-b

@@ -1,7 +1,6 @@
 -- What is left of the two lists decides whether they say the same.
 use Rattle.std.proofs.Common.{◌≡◌, drop}
-use Rattle.argus_contents.specs.Same.{same_fields}
-use Rattle.argus_contents.specs.Ty.{plain_fields}
+use Rattle.argus_contents.specs.{Same.same_fields, Ty.plain_fields}
 use Rattle.argus_contents.proofs.ty.+same.Given as goal
 
 abbrev pub invariant-are_same-loop-i : goal.invariant-are_same-loop-i

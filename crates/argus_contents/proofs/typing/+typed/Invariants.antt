@@ -1,7 +1,6 @@
 -- What is left of the values decides whether all are typed.
 use Rattle.std.proofs.Common.{◌≡◌, drop}
-use Rattle.argus_contents.specs.Ty.{plain_ty, plain_fields}
-use Rattle.argus_contents.specs.Typing.{all_typed, each_typed}
+use Rattle.argus_contents.specs.{Ty.{plain_ty, plain_fields}, Typing.{all_typed, each_typed}}
 use Rattle.argus_contents.specs.Value.{listed, plain_list}
 use Rattle.argus_contents.proofs.typing.+typed.Given as goal
 

@@ -1,6 +1,5 @@
 -- Answered outright, so that nothing is searched for.
-use Rattle.std.proofs.Common.{arith, rules}
-use Rattle.std.proofs.lemmas.Grind.{common_steps}
+use Rattle.std.proofs.{Common.{arith, rules}, lemmas.Grind.common_steps}
 use Rattle.argus_contents.proofs.typing.fits.Goals as goal
 
 pub returns-in-Rec-Rec-clause-exact : goal.returns-in-Rec-Rec-clause-exact

@@ -1,7 +1,6 @@
 -- A field or a tag by its number.
 use Rattle.std.proofs.Common.{sym}
-use Rattle.argus_contents.specs.Ty.{plain_fields}
-use Rattle.argus_contents.specs.Value.{plain_value}
+use Rattle.argus_contents.specs.{Ty.plain_fields, Value.plain_value}
 use Rattle.argus_contents.proofs.Types.{ty_at-within, ty_at-past, choice_typed, choice_past}
 use Rattle.argus_contents.proofs.typing.has_type_at.Goals as goal
 

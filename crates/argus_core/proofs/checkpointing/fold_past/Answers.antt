@@ -1,14 +1,9 @@
 -- The folded parts are what the fold says, with all shapes and bases; `Busy` and `Full` come where they are due.
-use Rattle.std.proofs.Common.{ap, arith, refl, ◌∙◌, ◌≡◌}
-use Rattle.std.proofs.lemmas.Bool.{both_ways}
-use Rattle.argus_core.proofs.Checkpoints.{base_stays, busy_in, count_at, few_actions, fold_is, kept_folded}
-use Rattle.argus_core.proofs.Checkpoints.{quiet_in}
+use Rattle.std.proofs.{Common.{ap, arith, refl, ◌∙◌, ◌≡◌}, lemmas.Bool.both_ways}
+use Rattle.argus_core.proofs.Checkpoints.{base_stays, busy_in, count_at, few_actions, fold_is, kept_folded, quiet_in}
 use Rattle.argus_core.proofs.checkpointing.fold_past.Goals as goal
-use Rattle.argus_journal.specs.Folding.{next_entry_number}
-use Rattle.argus_journal.specs.LegalJournal.{entries_in, opening_in}
-use Rattle.argus_journal.specs.Objects.{shapes}
-use Rattle.argus_journal.specs.Opening.{Opening}
-use Rattle.argus_journal.specs.JournalFacts.{base_of}
+use Rattle.argus_journal.specs.{Folding.next_entry_number, LegalJournal.{entries_in, opening_in}, Objects.shapes}
+use Rattle.argus_journal.specs.{Opening.Opening, JournalFacts.base_of}
 use Rattle.argus_journal.proofs.Folded.{shapes-with_contents}
 
 pub returns-then-is_busy-clause-busy : goal.returns-then-is_busy-clause-busy

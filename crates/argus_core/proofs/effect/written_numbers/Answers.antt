@@ -1,10 +1,7 @@
 -- One object more of the list is noted, where the action has a version of it.
-use Rattle.std.proofs.Common.{[], ap, cond, get_or, sym, take, ◌++◌, ◌∙◌, ◌∷◌}
-use Rattle.std.proofs.lemmas.List.{get_or_default}
-use Rattle.argus_core.specs.Effect.{written_in}
-use Rattle.argus_core.specs.declared.engine.atomic_object.AtomicObject.{AtomicObject}
-use Rattle.argus_core.proofs.Changes.{listed_at}
-use Rattle.argus_core.proofs.Written.{written_more}
+use Rattle.std.proofs.{Common.{[], ap, cond, get_or, sym, take, ◌++◌, ◌∙◌, ◌∷◌}, lemmas.List.get_or_default}
+use Rattle.argus_core.specs.{Effect.written_in, declared.engine.atomic_object.AtomicObject.AtomicObject}
+use Rattle.argus_core.proofs.{Changes.listed_at, Written.written_more}
 use Rattle.argus_core.proofs.effect.written_numbers.Goals as goal
 use Rattle.argus_objects.specs.CellChanges.{has_version}
 

@@ -1,7 +1,6 @@
 -- What was found so far.
 use Rattle.std.proofs.Common.{take, ◌≡◌}
-use Rattle.argus_core.specs.Effect.{written_in}
-use Rattle.argus_core.specs.declared.engine.atomic_object.AtomicObject.{AtomicObject}
+use Rattle.argus_core.specs.{Effect.written_in, declared.engine.atomic_object.AtomicObject.AtomicObject}
 use Rattle.argus_core.proofs.effect.written_numbers.Given as goal
 
 abbrev pub invariant-loop-o : goal.invariant-loop-o

@@ -1,7 +1,5 @@
 -- One more object, with its copies and no holder.
-use Rattle.std.proofs.Common.{arith}
-use Rattle.std.proofs.lemmas.Grind.{common_steps}
-use Rattle.std.proofs.lemmas.List.Elements.{All-append}
+use Rattle.std.proofs.{Common.arith, lemmas.Grind.common_steps, lemmas.List.Elements.All-append}
 use Rattle.argus_core.proofs.Started.{IsFree, one_free}
 use Rattle.argus_core.proofs.starting.objects_of.Goals as goal
 

@@ -1,7 +1,6 @@
 -- It has what a checkpoint leaves, but for the number of the first action.
 use Rattle.std.proofs.Common.{ap, arith, inl, inr, ⊎_elim, ◌≡◌}
-use Rattle.argus_guardian.specs.Checkpoint.{after_checkpoint}
-use Rattle.argus_guardian.specs.JournalText.{IsEmptyOrReadable, IsReadableOpening}
+use Rattle.argus_guardian.specs.{Checkpoint.after_checkpoint, JournalText.{IsEmptyOrReadable, IsReadableOpening}}
 use Rattle.argus_journal.specs.Opening.{Opening, empty, opening_at}
 use Rattle.argus_embed.proofs.laws.renewals_leave_listable.Goals as goal
 

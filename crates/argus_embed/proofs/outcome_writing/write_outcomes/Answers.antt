@@ -1,5 +1,4 @@
-use Rattle.std.proofs.Common.{ap, arith, ◌∙◌}
-use Rattle.std.proofs.lemmas.List.{length-set}
+use Rattle.std.proofs.{Common.{ap, arith, ◌∙◌}, lemmas.List.length-set}
 use Rattle.argus_embed.specs.Embedded.{outcome_of}
 use Rattle.argus_journal.specs.Reply.{plain_reply}
 use Rattle.argus_embed.proofs.Outcomes.{outcome_here}

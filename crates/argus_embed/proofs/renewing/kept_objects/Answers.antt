@@ -1,11 +1,9 @@
-use Rattle.std.proofs.Common.{[], ap, arith, map, sym, ◌++◌, ◌∙◌, ◌∷◌}
-use Rattle.std.proofs.lemmas.List.{map_push}
+use Rattle.std.proofs.{Common.{[], ap, arith, map, sym, ◌++◌, ◌∙◌, ◌∷◌}, lemmas.List.map_push}
 use Rattle.std.specs.Option.{option_map}
-use Rattle.argus_journal.specs.Folding.{fold}
-use Rattle.argus_journal.specs.Opening.{plain_object}
+use Rattle.argus_journal.specs.{Folding.fold, Opening.plain_object}
 use Rattle.argus_embed.proofs.KeptObjects.{all_kept, none_left, one_more}
-use Rattle.argus_embed.proofs.renewing.kept_objects.Goals as goal
 use Rattle.argus_embed.proofs.renewing.kept_objects.Goals.{in-Some+in_ok-push, in_default}
+use Rattle.argus_embed.proofs.renewing.kept_objects.Goals as goal
 
 pub loop-o-preserved : goal.loop-o-preserved
 loop-o-preserved c =

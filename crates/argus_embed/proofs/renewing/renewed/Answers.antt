@@ -1,8 +1,6 @@
 -- `Busy` and `Full` come where they are due, and the copies are such as a guardian may begin with.
-use Rattle.std.proofs.Common.{arith, refl, rules, sym, ◌∙◌}
-use Rattle.std.proofs.lemmas.Bool.{both_ways}
-use Rattle.argus_embed.proofs.KeptObjects.{copies_few, copies_sound, count_read}
-use Rattle.argus_embed.proofs.Quiet.{busy_if, quiet_if}
+use Rattle.std.proofs.{Common.{arith, refl, rules, sym, ◌∙◌}, lemmas.Bool.both_ways}
+use Rattle.argus_embed.proofs.{KeptObjects.{copies_few, copies_sound, count_read}, Quiet.{busy_if, quiet_if}}
 use Rattle.argus_embed.proofs.renewing.renewed.Goals as goal
 
 pub returns-then-is_some-clause-busy : goal.returns-then-is_some-clause-busy

@@ -1,11 +1,7 @@
 -- All pieces of the line were appended.
-use Rattle.std.proofs.Common.{string_bytes}
-use Rattle.std.proofs.lemmas.Result.{IfOk-equal}
-use Rattle.std.specs.Fmt.{decimal}
-use Rattle.std.specs.Prelude.{codes}
-use Rattle.argus_entries.specs.Call.{plain_call}
-use Rattle.argus_entries.specs.EntrySpelling.{call_spelling, reply_spelling}
-use Rattle.argus_entries.specs.Reply.{plain_reply}
+use Rattle.std.proofs.{Common.string_bytes, lemmas.Result.IfOk-equal}
+use Rattle.std.specs.{Fmt.decimal, Prelude.codes}
+use Rattle.argus_entries.specs.{Call.plain_call, EntrySpelling.{call_spelling, reply_spelling}, Reply.plain_reply}
 use Rattle.argus_entries.proofs.Pieces.{line}
 use Rattle.argus_entries.proofs.entry_writing.append_entry.Goals as goal
 

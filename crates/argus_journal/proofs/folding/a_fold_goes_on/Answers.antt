@@ -1,6 +1,5 @@
 -- The proof of the laws that stand on `a_fold_goes_on`.
-use Rattle.argus_journal.specs.Objects.{shapes}
-use Rattle.argus_journal.specs.JournalFacts.{base_of}
+use Rattle.argus_journal.specs.{Objects.shapes, JournalFacts.base_of}
 use Rattle.argus_journal.proofs.Folded.{entry_stays, fold_content, next_stays, shapes-with_contents}
 use Rattle.argus_journal.proofs.folding.a_fold_goes_on.Goals as goal
 

@@ -1,7 +1,6 @@
 -- The entries that are left decide.
 use Rattle.std.proofs.Common.{◌≡◌}
-use Rattle.argus_journal.specs.Journal.{HasEntries, first_entries_of}
-use Rattle.argus_journal.specs.Replaying.{begun_by_entries}
+use Rattle.argus_journal.specs.{Journal.{HasEntries, first_entries_of}, Replaying.begun_by_entries}
 use Rattle.argus_journal.proofs.kinship.begun_by.Given as goal
 
 abbrev pub invariant-loop-entry : goal.invariant-loop-entry

@@ -1,7 +1,6 @@
 -- The entries that are left decide.
 use Rattle.std.proofs.Common.{◌≡◌}
-use Rattle.argus_journal.specs.Journal.{HasEntries, first_entries_of}
-use Rattle.argus_journal.specs.Replaying.{is_under_sibling_by_entries}
+use Rattle.argus_journal.specs.{Journal.{HasEntries, first_entries_of}, Replaying.is_under_sibling_by_entries}
 use Rattle.argus_journal.proofs.kinship.is_under_sibling.Given as goal
 
 abbrev pub invariant-loop-entry : goal.invariant-loop-entry

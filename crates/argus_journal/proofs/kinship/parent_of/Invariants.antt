@@ -1,7 +1,6 @@
 -- The entries that are left decide.
 use Rattle.std.proofs.Common.{◌≡◌}
-use Rattle.argus_journal.specs.Journal.{HasEntries, first_entries_of}
-use Rattle.argus_journal.specs.Replaying.{parent_by_entries}
+use Rattle.argus_journal.specs.{Journal.{HasEntries, first_entries_of}, Replaying.parent_by_entries}
 use Rattle.argus_journal.proofs.kinship.parent_of.Given as goal
 
 abbrev pub invariant-loop-entry : goal.invariant-loop-entry

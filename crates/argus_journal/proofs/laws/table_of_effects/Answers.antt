@@ -1,14 +1,9 @@
 -- The proof of the laws that stand on `table_of_effects`.
 use Rattle.std.proofs.Common.{sym, ◌+◌, ◌∙◌}
 use Rattle.argus_model.specs.Holders.{writers}
-use Rattle.argus_model.proofs.Commits.{written_are_held}
-use Rattle.argus_model.proofs.Theorems.{table_is_base}
-use Rattle.argus_journal.specs.Entries.{entries}
-use Rattle.argus_journal.specs.Events.{history}
-use Rattle.argus_journal.specs.Opening.{model_opening}
-use Rattle.argus_journal.proofs.Legal.{lawful}
-use Rattle.argus_journal.proofs.NextEntry.{writers_above}
-use Rattle.argus_journal.proofs.Serial.{effects_added}
+use Rattle.argus_model.proofs.{Commits.written_are_held, Theorems.table_is_base}
+use Rattle.argus_journal.specs.{Entries.entries, Events.history, Opening.model_opening}
+use Rattle.argus_journal.proofs.{Legal.lawful, NextEntry.writers_above, Serial.effects_added}
 use Rattle.argus_journal.proofs.Shifted.{contains_in_program}
 use Rattle.argus_journal.proofs.laws.table_of_effects.Goals as goal
 

@@ -1,7 +1,6 @@
 -- The proof of the laws that stand on `what_fits`.
 use Rattle.argus_journal.specs.Objects.{declared, shape_of}
-use Rattle.argus_journal.proofs.Fitting.{fits_keeps}
-use Rattle.argus_journal.proofs.References.{occurring_below}
+use Rattle.argus_journal.proofs.{Fitting.fits_keeps, References.occurring_below}
 use Rattle.argus_journal.proofs.laws.what_fits.Goals as goal
 
 pub returns : goal.returns

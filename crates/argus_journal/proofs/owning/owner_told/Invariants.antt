@@ -1,7 +1,6 @@
 -- The owner so far is what the entries so far tell.
 use Rattle.std.proofs.Common.{◌≡◌}
-use Rattle.argus_journal.specs.Journal.{first_entries_of, opening_of}
-use Rattle.argus_journal.specs.Replaying.{owner_by_entries}
+use Rattle.argus_journal.specs.{Journal.{first_entries_of, opening_of}, Replaying.owner_by_entries}
 use Rattle.argus_journal.proofs.owning.owner_told.Given as goal
 
 abbrev pub invariant-loop-older : goal.invariant-loop-older

@@ -1,7 +1,6 @@
 -- The field wasn't met yet.
 use Rattle.std.proofs.Common.{◌≡◌, drop}
-use Rattle.argus_contents.specs.Shape.{names_of}
-use Rattle.argus_contents.specs.Ty.{plain_fields}
+use Rattle.argus_contents.specs.{Shape.names_of, Ty.plain_fields}
 use Rattle.argus_language.specs.Fields.{place_from}
 use Rattle.argus_language.proofs.fields.field_place.Given as goal
 

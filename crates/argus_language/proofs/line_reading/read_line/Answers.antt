@@ -1,6 +1,5 @@
 -- A line that is UTF-8 says what its text says; any other is bad.
-use Rattle.std.proofs.Common.{cond, sym, ap, ◌∙◌}
-use Rattle.std.proofs.lemmas.Bool.{false_from_ne_true}
+use Rattle.std.proofs.{Common.{cond, sym, ap, ◌∙◌}, lemmas.Bool.false_from_ne_true}
 use Rattle.std.proofs.lemmas.Str.{IsUtf8-from_is_utf8, is_utf8-from_IsUtf8}
 use Rattle.std.specs.Str.{is_utf8}
 use Rattle.argus_language.specs.Command.{command_of_text, bad}

@@ -1,6 +1,5 @@
 -- Answered outright, so that nothing is searched for.
-use Rattle.std.proofs.Common.{arith, rules}
-use Rattle.std.proofs.lemmas.Grind.{common_steps}
+use Rattle.std.proofs.{Common.{arith, rules}, lemmas.Grind.common_steps}
 use Rattle.argus_language.proofs.line_reading.read_text.Goals as goal
 
 pub returns-in_default : goal.returns-in_default

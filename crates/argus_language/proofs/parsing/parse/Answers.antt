@@ -1,10 +1,7 @@
 -- Each line more keeps what was read in step with the lines; at the end no line is left.
 use Rattle.std.proofs.Common.{◌≡◌, [], ◌∷◌, ◌+◌, ◌-◌, length, ◌∙◌, ap, arith, refl}
-use Rattle.argus_language.specs.Fault.{IsFaultOf, NoFault}
-use Rattle.argus_language.specs.Lines.{lines_of}
-use Rattle.argus_language.specs.Parsed.{IsUnclosedAt, OnScriptFault}
-use Rattle.argus_language.specs.Reading.{levels_of, lines_so_far}
-use Rattle.argus_language.specs.Script.{Spells, plain_script}
+use Rattle.argus_language.specs.{Fault.{IsFaultOf, NoFault}, Lines.lines_of, Parsed.{IsUnclosedAt, OnScriptFault}}
+use Rattle.argus_language.specs.{Reading.{levels_of, lines_so_far}, Script.{Spells, plain_script}}
 use Rattle.argus_language.proofs.Ends.{end_fine, end_spells, end_unclosed, err_more, no_lines, ok_more, ok_thrice}
 use Rattle.argus_language.proofs.Faults.{declares-more, fine-more, first-fault, here_at, position-more, told-more}
 use Rattle.argus_language.proofs.Starts.{start-declares, start-position, start-sound, start-told}

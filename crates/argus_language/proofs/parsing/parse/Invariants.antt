@@ -1,10 +1,7 @@
 -- What was read is what the lines so far say.
 use Rattle.std.proofs.Common.{◌≡◌, ◌≤◌, ◌-◌, length, take, drop}
-use Rattle.argus_language.specs.Fault.{FineBefore, position_at, position_behind}
-use Rattle.argus_language.specs.Lines.{lines_of}
-use Rattle.argus_language.specs.Reading.{IsSound, levels_of, lines_so_far}
-use Rattle.argus_language.specs.Script.{Declares}
-use Rattle.argus_language.specs.declared.limits.TheConstants.{MAX_LINES}
+use Rattle.argus_language.specs.{Fault.{FineBefore, position_at, position_behind}, Lines.lines_of, Script.Declares}
+use Rattle.argus_language.specs.{Reading.{IsSound, levels_of, lines_so_far}, declared.limits.TheConstants.MAX_LINES}
 use Rattle.argus_language.proofs.Faults.{ToldOf}
 use Rattle.argus_language.proofs.parsing.parse.Given as goal
 

@@ -1,10 +1,7 @@
 -- The base's line and the versions' lines are those of the audit.
-use Rattle.std.proofs.Common.{map, string_bytes, ◌∙◌}
-use Rattle.std.proofs.lemmas.Result.{IfOk-equal}
+use Rattle.std.proofs.{Common.{map, string_bytes, ◌∙◌}, lemmas.Result.IfOk-equal}
 use Rattle.argus_core.specs.Objects.{version_pair}
-use Rattle.argus_journal.specs.Journal.{entries_of, opening_of}
-use Rattle.argus_journal.specs.Legal.{Legal}
-use Rattle.argus_journal.specs.JournalFacts.{versions_of}
+use Rattle.argus_journal.specs.{Journal.{entries_of, opening_of}, Legal.Legal, JournalFacts.versions_of}
 use Rattle.argus_listings.proofs.Audits.{audited, told_there}
 use Rattle.argus_listings.proofs.auditing.append_audit.Goals as goal
 

@@ -1,7 +1,6 @@
 -- What is left completes the text.
 use Rattle.std.proofs.Common.{drop, map, string_bytes, ◌++◌, ◌≡◌}
-use Rattle.argus_journal.specs.Journal.{entries_of, opening_of}
-use Rattle.argus_journal.specs.JournalFacts.{visible_to}
+use Rattle.argus_journal.specs.{Journal.{entries_of, opening_of}, JournalFacts.visible_to}
 use Rattle.argus_objects.specs.declared.version.Version.{Version}
 use Rattle.argus_listings.specs.Listing.{version_lines}
 use Rattle.argus_listings.proofs.auditing.append_versions_again.Given as goal

@@ -1,8 +1,6 @@
 -- All pieces of the line were appended.
-use Rattle.std.proofs.Common.{ap, string_bytes, ◌++◌, ◌∙◌}
-use Rattle.std.proofs.lemmas.Result.{IfOk-equal}
-use Rattle.std.specs.Fmt.{decimal}
-use Rattle.std.specs.Prelude.{codes}
+use Rattle.std.proofs.{Common.{ap, string_bytes, ◌++◌, ◌∙◌}, lemmas.Result.IfOk-equal}
+use Rattle.std.specs.{Fmt.decimal, Prelude.codes}
 use Rattle.argus_listings.proofs.Pieces.{three_pieces}
 use Rattle.argus_listings.proofs.journal_listing.append_folded.Goals as goal
 

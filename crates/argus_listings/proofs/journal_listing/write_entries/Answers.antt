@@ -1,14 +1,11 @@
 -- One entry after another is found, its line made, and the text written out if it is long.
-use Rattle.std.proofs.Common.{None, Some, arith, length, reverse, string_bytes, ◌+◌, ◌-◌}
-use Rattle.std.proofs.Common.{◌≡◌, ◌≤◌}
+use Rattle.std.proofs.Common.{None, Some, arith, length, reverse, string_bytes, ◌+◌, ◌-◌, ◌≡◌, ◌≤◌}
 use Rattle.std.proofs.lemmas.List.{length-reverse}
-use Rattle.argus_entries.specs.Entry.{plain_entry}
+use Rattle.argus_entries.specs.{Entry.plain_entry, EntrySpelling.entry_line}
 use Rattle.argus_journal.specs.Journal.{entries_of, opening_of}
 use Rattle.argus_listings.proofs.Added.{on_err}
-use Rattle.argus_listings.proofs.Each.{each_cut, each_ends, each_next, each_past, each_starts}
-use Rattle.argus_listings.proofs.Each.{each_stops, entry_there}
+use Rattle.argus_listings.proofs.Each.{each_cut, each_ends, each_next, each_past, each_starts, each_stops, entry_there}
 use Rattle.argus_listings.specs.Listing.{entries_text}
-use Rattle.argus_entries.specs.EntrySpelling.{entry_line}
 use Rattle.argus_streams.specs.FailStop.{inner_of}
 use Rattle.argus_listings.proofs.journal_listing.write_entries.Goals as goal
 

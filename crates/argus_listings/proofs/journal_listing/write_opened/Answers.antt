@@ -1,10 +1,8 @@
 -- One object after another is found, its line made, and the text written out if it is long.
-use Rattle.std.proofs.Common.{arith, string_bytes, sym}
-use Rattle.std.proofs.lemmas.Option.{slice_get_within}
+use Rattle.std.proofs.{Common.{arith, string_bytes, sym}, lemmas.Option.slice_get_within}
 use Rattle.argus_contents.specs.Content.{plain_option}
 use Rattle.argus_journal.specs.Journal.{opening_of}
-use Rattle.argus_listings.proofs.Added.{left_starts, on_err}
-use Rattle.argus_listings.proofs.Each.{each_cut, each_ends, each_next, each_stops}
+use Rattle.argus_listings.proofs.{Added.{left_starts, on_err}, Each.{each_cut, each_ends, each_next, each_stops}}
 use Rattle.argus_listings.specs.Listing.{each_from, opened_line}
 use Rattle.argus_streams.specs.FailStop.{inner_of}
 use Rattle.argus_listings.proofs.journal_listing.write_opened.Goals as goal

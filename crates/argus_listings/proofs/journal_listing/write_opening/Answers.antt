@@ -1,11 +1,9 @@
 -- The first line was appended, and then the lines of the objects.
-use Rattle.std.proofs.Common.{List, subst, string_bytes, ℕ}
-use Rattle.std.proofs.lemmas.Result.{on_err_weaker, on_ok_weaker}
+use Rattle.std.proofs.{Common.{List, subst, string_bytes, ℕ}, lemmas.Result.{on_err_weaker, on_ok_weaker}}
 use Rattle.argus_journal.specs.Journal.{opening_of}
 use Rattle.argus_listings.proofs.Added.{added_then, cut_then, left_starts, left_stops, on_err, text_added}
 use Rattle.argus_listings.proofs.Each.{opening_there}
-use Rattle.argus_listings.specs.Listing.{each_from, folded_line, opened_line, opening_text}
-use Rattle.argus_listings.specs.Flushing.{Added, Cut}
+use Rattle.argus_listings.specs.{Listing.{each_from, folded_line, opened_line, opening_text}, Flushing.{Added, Cut}}
 use Rattle.argus_streams.specs.FailStop.{inner_of}
 use Rattle.argus_listings.proofs.journal_listing.write_opening.Goals as goal
 

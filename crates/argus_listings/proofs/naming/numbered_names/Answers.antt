@@ -1,6 +1,5 @@
 -- One more object has one more name.
-use Rattle.std.proofs.Common.{[], ap₂, arith, sym, ◌++◌, ◌∙◌, ◌∷◌}
-use Rattle.std.proofs.lemmas.List.FromFn.{map-range_with_len_more}
+use Rattle.std.proofs.{Common.{[], ap₂, arith, sym, ◌++◌, ◌∙◌, ◌∷◌}, lemmas.List.FromFn.map-range_with_len_more}
 use Rattle.argus_listings.specs.Listing.{numbered_name}
 use Rattle.argus_listings.proofs.naming.numbered_names.Goals as goal
 

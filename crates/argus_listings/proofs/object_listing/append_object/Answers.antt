@@ -1,8 +1,6 @@
 -- An audit has what it needs.
-use Rattle.std.proofs.Common.{subst}
-use Rattle.std.proofs.lemmas.Bool.{false≢true}
-use Rattle.argus_listings.specs.Auditing.{HasAudit}
-use Rattle.argus_listings.specs.declared.listing.Listing.TheVariants.{Audit}
+use Rattle.std.proofs.{Common.subst, lemmas.Bool.false≢true}
+use Rattle.argus_listings.specs.{Auditing.HasAudit, declared.listing.Listing.TheVariants.Audit}
 use Rattle.argus_listings.proofs.object_listing.append_object.Goals as goal
 
 pub append_audit-requires-clause-audit : goal.append_audit-requires-clause-audit

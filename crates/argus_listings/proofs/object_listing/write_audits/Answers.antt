@@ -1,8 +1,7 @@
 -- Without the memory for what is found first nothing is written.
 use Rattle.std.proofs.Common.{string_bytes}
 use Rattle.argus_listings.proofs.Added.{left_starts, left_stops, on_err}
-use Rattle.argus_listings.specs.Listing.{objects_text}
-use Rattle.argus_listings.specs.declared.listing.Listing.TheVariants.{Audit}
+use Rattle.argus_listings.specs.{Listing.objects_text, declared.listing.Listing.TheVariants.Audit}
 use Rattle.argus_streams.specs.FailStop.{inner_of}
 use Rattle.argus_listings.proofs.object_listing.write_audits.Goals as goal
 

@@ -1,7 +1,6 @@
 -- One name after another is taken, its object's lines made, and the text written out if it is long.
 use Rattle.std.proofs.Common.{arith, string_bytes, rules}
-use Rattle.argus_listings.proofs.Added.{on_err}
-use Rattle.argus_listings.proofs.Each.{each_cut, each_next, each_stops, taken}
+use Rattle.argus_listings.proofs.{Added.on_err, Each.{each_cut, each_next, each_stops, taken}}
 use Rattle.argus_listings.specs.Listing.{names_within, object_text, objects_text}
 use Rattle.argus_streams.specs.FailStop.{inner_of}
 use Rattle.argus_listings.proofs.object_listing.write_objects.Goals as goal

@@ -2,14 +2,11 @@
 use Rattle.std.proofs.Common.{List, ap, subst, string_bytes, sym, ℕ, ◌++◌, ◌∙◌, ◌≡◌}
 use Rattle.std.proofs.lemmas.Result.{on_err_weaker, on_ok_weaker}
 use Rattle.argus_entries.specs.Entry.{PlainEntry}
-use Rattle.argus_journal.specs.Journal.{entries_of, opening_of}
-use Rattle.argus_journal.specs.Opening.{Opening}
+use Rattle.argus_journal.specs.{Journal.{entries_of, opening_of}, Opening.Opening, JournalView.JournalView}
 use Rattle.argus_listings.proofs.Added.{added_then, cut_before, cut_then, on_err, stops_then}
 use Rattle.argus_listings.specs.Listing.{entries_text, length_line, listing_of, objects_text, opening_text}
-use Rattle.argus_listings.specs.Flushing.{Added, Cut}
-use Rattle.argus_listings.specs.declared.listing.Listing.{Listing}
+use Rattle.argus_listings.specs.{Flushing.{Added, Cut}, declared.listing.Listing.Listing}
 use Rattle.argus_listings.specs.declared.listing.Listing.TheVariants.{Audit, Journal}
-use Rattle.argus_journal.specs.JournalView.{JournalView}
 use Rattle.argus_streams.specs.FailStop.{inner_of}
 use Rattle.argus_listings.proofs.writing.write_lines.Goals as goal
 

@@ -1,6 +1,5 @@
 -- What was left in the text was written, or a front of it.
-use Rattle.std.proofs.Common.{string_bytes}
-use Rattle.std.proofs.lemmas.Result.{on_err_weaker}
+use Rattle.std.proofs.{Common.string_bytes, lemmas.Result.on_err_weaker}
 use Rattle.argus_listings.proofs.Added.{front_poured}
 use Rattle.argus_listings.specs.Listing.{listing_of}
 use Rattle.argus_streams.specs.FailStop.{inner_of}

@@ -1,9 +1,6 @@
 -- The proof of the laws that stand on `holders`.
-use Rattle.argus_model.specs.Holders.{readers, writers}
-use Rattle.argus_model.specs.Meaning.{reads}
-use Rattle.argus_model.proofs.Holders.{holders_rising}
-use Rattle.argus_model.proofs.Lawful.{lawful_orderly}
-use Rattle.argus_model.proofs.LockRules.{holders_live}
+use Rattle.argus_model.specs.{Holders.{readers, writers}, Meaning.reads}
+use Rattle.argus_model.proofs.{Holders.holders_rising, Lawful.lawful_orderly, LockRules.holders_live}
 use Rattle.argus_model.proofs.Numbers.{increasing}
 use Rattle.argus_model.proofs.locks.holders.Goals as goal
 

@@ -1,6 +1,5 @@
 -- The proof of the laws that stand on `views`.
-use Rattle.argus_model.proofs.Lawful.{lawful_orderly}
-use Rattle.argus_model.proofs.Sees.{sees_same}
+use Rattle.argus_model.proofs.{Lawful.lawful_orderly, Sees.sees_same}
 use Rattle.argus_model.proofs.locks.views.Goals as goal
 
 pub returns : goal.returns

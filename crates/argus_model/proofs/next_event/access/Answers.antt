@@ -1,11 +1,7 @@
 -- The proof of the laws that stand on `access`.
 use Rattle.std.proofs.Common.{refl}
-use Rattle.argus_model.specs.Event.{Accessed}
-use Rattle.argus_model.specs.History.{◌▹◌}
-use Rattle.argus_model.specs.Meaning.{reads}
-use Rattle.argus_model.proofs.Lawful.{lawful_orderly}
-use Rattle.argus_model.proofs.Live.{live_stands}
-use Rattle.argus_model.proofs.NextHolders.{holders_after_access}
+use Rattle.argus_model.specs.{Event.Accessed, History.{◌▹◌}, Meaning.reads}
+use Rattle.argus_model.proofs.{Lawful.lawful_orderly, Live.live_stands, NextHolders.holders_after_access}
 use Rattle.argus_model.proofs.NextLive.{owner_after_access}
 use Rattle.argus_model.proofs.NextSees.{base_after_access, sees_after_access_other, sees_after_access_own}
 use Rattle.argus_model.proofs.next_event.access.Goals as goal

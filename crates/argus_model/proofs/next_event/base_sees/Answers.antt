@@ -1,6 +1,5 @@
 -- The proof of the laws that stand on `base_sees`.
-use Rattle.argus_model.proofs.Lawful.{lawful_orderly}
-use Rattle.argus_model.proofs.NextSees.{sees_base}
+use Rattle.argus_model.proofs.{Lawful.lawful_orderly, NextSees.sees_base}
 use Rattle.argus_model.proofs.next_event.base_sees.Goals as goal
 
 pub returns : goal.returns

@@ -1,14 +1,9 @@
 -- The proof of the laws that stand on `begin`.
 use Rattle.std.proofs.Common.{arith}
-use Rattle.argus_model.specs.Event.{Began}
-use Rattle.argus_model.specs.History.{next_action, ◌▹◌}
-use Rattle.argus_model.specs.Meaning.{reads}
-use Rattle.argus_model.proofs.Ancestors.{lineage_old}
-use Rattle.argus_model.proofs.Lawful.{lawful_orderly}
-use Rattle.argus_model.proofs.NextHolders.{holders_after_begin}
-use Rattle.argus_model.proofs.NextLive.{live_after_begin, new_lineage, new_owner, owner_after_begin}
+use Rattle.argus_model.specs.{Event.Began, History.{next_action, ◌▹◌}, Meaning.reads}
+use Rattle.argus_model.proofs.{Ancestors.lineage_old, Lawful.lawful_orderly, NextHolders.holders_after_begin}
+use Rattle.argus_model.proofs.{NextLive.{live_after_begin, new_lineage, new_owner, owner_after_begin}, Work.no_work}
 use Rattle.argus_model.proofs.NextSees.{base_after_begin, sees_after_begin, sees_after_begin_new}
-use Rattle.argus_model.proofs.Work.{no_work}
 use Rattle.argus_model.proofs.next_event.begin.Goals as goal
 
 pub returns : goal.returns

@@ -1,14 +1,8 @@
 -- The proof of the laws that stand on `commit`.
-use Rattle.argus_model.specs.Event.{Committed}
-use Rattle.argus_model.specs.History.{◌▹◌}
-use Rattle.argus_model.specs.Meaning.{reads}
-use Rattle.argus_model.proofs.Commits.{order_added}
-use Rattle.argus_model.proofs.Lawful.{lawful_orderly, lawful_steps}
-use Rattle.argus_model.proofs.Live.{live_stands}
-use Rattle.argus_model.proofs.NextHolders.{holders_after_commit}
-use Rattle.argus_model.proofs.NextLive.{live_after_commit, owner_after_commit}
-use Rattle.argus_model.proofs.NextSees.{base_after_commit, sees_after_commit}
-use Rattle.argus_model.proofs.Serial.{guarded}
+use Rattle.argus_model.specs.{Event.Committed, History.{◌▹◌}, Meaning.reads}
+use Rattle.argus_model.proofs.{Commits.order_added, Lawful.{lawful_orderly, lawful_steps}, Live.live_stands}
+use Rattle.argus_model.proofs.{NextHolders.holders_after_commit, NextLive.{live_after_commit, owner_after_commit}}
+use Rattle.argus_model.proofs.{NextSees.{base_after_commit, sees_after_commit}, Serial.guarded}
 use Rattle.argus_model.proofs.next_event.commit.Goals as goal
 
 pub returns : goal.returns

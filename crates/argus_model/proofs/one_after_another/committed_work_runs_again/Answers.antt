@@ -1,6 +1,5 @@
 -- The proof of the laws that stand on `committed_work_runs_again`.
-use Rattle.argus_model.proofs.Recorded.{serial_recorded}
-use Rattle.argus_model.proofs.Theorems.{serial_answers, serial_each, serial_leaves}
+use Rattle.argus_model.proofs.{Recorded.serial_recorded, Theorems.{serial_answers, serial_each, serial_leaves}}
 use Rattle.argus_model.proofs.one_after_another.committed_work_runs_again.Goals as goal
 
 pub returns : goal.returns

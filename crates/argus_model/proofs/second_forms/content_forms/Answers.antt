@@ -1,6 +1,5 @@
 -- The proof of the laws that stand on `content_forms`.
-use Rattle.argus_model.proofs.Lawful.{lawful_orderly, lawful_steps}
-use Rattle.argus_model.proofs.Sees.{base_is, sees_is}
+use Rattle.argus_model.proofs.{Lawful.{lawful_orderly, lawful_steps}, Sees.{base_is, sees_is}}
 use Rattle.argus_model.proofs.second_forms.content_forms.Goals as goal
 
 pub returns : goal.returns

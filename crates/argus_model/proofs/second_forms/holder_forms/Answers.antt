@@ -1,6 +1,5 @@
 -- The proof of the laws that stand on `holder_forms`.
-use Rattle.argus_model.proofs.Holders.{contains_holders, may_read_is, may_write_is}
-use Rattle.argus_model.proofs.Lawful.{lawful_orderly}
+use Rattle.argus_model.proofs.{Holders.{contains_holders, may_read_is, may_write_is}, Lawful.lawful_orderly}
 use Rattle.argus_model.proofs.NextHolders.{no_base_holder}
 use Rattle.argus_model.proofs.second_forms.holder_forms.Goals as goal
 

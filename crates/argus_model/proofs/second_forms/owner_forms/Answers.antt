@@ -1,8 +1,6 @@
 -- The proof of the laws that stand on `owner_forms`.
 use Rattle.std.proofs.Common.{sym}
-use Rattle.argus_model.proofs.Lawful.{lawful_orderly}
-use Rattle.argus_model.proofs.Live.{child_is, stands_is_live}
-use Rattle.argus_model.proofs.Owner.{owner_is}
+use Rattle.argus_model.proofs.{Lawful.lawful_orderly, Live.{child_is, stands_is_live}, Owner.owner_is}
 use Rattle.argus_model.proofs.second_forms.owner_forms.Goals as goal
 
 pub returns : goal.returns

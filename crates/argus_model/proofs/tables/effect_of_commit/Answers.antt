@@ -1,8 +1,6 @@
 -- The proof of the laws that stand on `effect_of_commit`.
 use Rattle.argus_model.specs.Effects.{written_objects}
-use Rattle.argus_model.proofs.Commits.{written_are_held}
-use Rattle.argus_model.proofs.Effects.{written-IsRising}
-use Rattle.argus_model.proofs.Numbers.{increasing}
+use Rattle.argus_model.proofs.{Commits.written_are_held, Effects.written-IsRising, Numbers.increasing}
 use Rattle.argus_model.proofs.tables.effect_of_commit.Goals as goal
 
 pub returns : goal.returns

@@ -1,7 +1,5 @@
 -- The proof of the laws that stand on `ancestors`.
-use Rattle.argus_model.proofs.Ancestors.{ancestor_self}
-use Rattle.argus_model.proofs.Owner.{base_above}
-use Rattle.argus_model.proofs.Siblings.{creator_older}
+use Rattle.argus_model.proofs.{Ancestors.ancestor_self, Owner.base_above, Siblings.creator_older}
 use Rattle.argus_model.proofs.Theorems.{ancestor_above, ancestor_live, ancestor_older, live_alone}
 use Rattle.argus_model.proofs.trees.ancestors.Goals as goal
 

@@ -1,7 +1,6 @@
 -- The proof of the laws that stand on `begun`.
 use Rattle.argus_model.specs.History.{begun_actions}
-use Rattle.argus_model.proofs.Live.{begun_listed, begun_rising}
-use Rattle.argus_model.proofs.Numbers.{increasing}
+use Rattle.argus_model.proofs.{Live.{begun_listed, begun_rising}, Numbers.increasing}
 use Rattle.argus_model.proofs.trees.begun.Goals as goal
 
 pub returns : goal.returns

@@ -1,6 +1,5 @@
 -- The proof of the laws that stand on `rows_say_what_happened`.
-use Rattle.argus_model.proofs.Lawful.{lawful_orderly}
-use Rattle.argus_model.proofs.Rows.{creator_of_origin, parent_of_origin, row_is, rows_length}
+use Rattle.argus_model.proofs.{Lawful.lawful_orderly, Rows.{creator_of_origin, parent_of_origin, row_is, rows_length}}
 use Rattle.argus_model.proofs.trees.rows_say_what_happened.Goals as goal
 
 pub returns : goal.returns

@@ -1,7 +1,5 @@
 -- The proof of the laws that stand on `rows_tell_ancestors_and_children`.
-use Rattle.argus_model.proofs.Depth.{depth_is}
-use Rattle.argus_model.proofs.Lawful.{lawful_orderly}
-use Rattle.argus_model.proofs.Rows.{has_live_row_is, is_above_exactly}
+use Rattle.argus_model.proofs.{Depth.depth_is, Lawful.lawful_orderly, Rows.{has_live_row_is, is_above_exactly}}
 use Rattle.argus_model.proofs.trees.rows_tell_ancestors_and_children.Goals as goal
 
 pub returns : goal.returns

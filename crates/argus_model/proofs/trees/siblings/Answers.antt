@@ -1,6 +1,5 @@
 -- The proof of the laws that stand on `siblings`.
-use Rattle.argus_model.proofs.Live.{contains_siblings, siblings_live}
-use Rattle.argus_model.proofs.Siblings.{siblings_increase, under_siblings}
+use Rattle.argus_model.proofs.{Live.{contains_siblings, siblings_live}, Siblings.{siblings_increase, under_siblings}}
 use Rattle.argus_model.proofs.trees.siblings.Goals as goal
 
 pub returns : goal.returns

@@ -1,6 +1,5 @@
 -- The proof of the laws that stand on `committed_topactions_stay`.
-use Rattle.argus_model.proofs.Counting.{tops-IsDistinct, tops_are, tops_stay}
-use Rattle.argus_model.proofs.Lawful.{lawful_orderly}
+use Rattle.argus_model.proofs.{Counting.{tops-IsDistinct, tops_are, tops_stay}, Lawful.lawful_orderly}
 use Rattle.argus_model.proofs.what_counts.committed_topactions_stay.Goals as goal
 
 pub returns : goal.returns

@@ -1,7 +1,6 @@
 -- The proof of the laws that stand on `nothing_comes_back`.
 use Rattle.argus_model.specs.History.{◌▹◌}
-use Rattle.argus_model.proofs.Counting.{gone_stays, good_stays, over_stays}
-use Rattle.argus_model.proofs.Lawful.{lawful_orderly}
+use Rattle.argus_model.proofs.{Counting.{gone_stays, good_stays, over_stays}, Lawful.lawful_orderly}
 use Rattle.argus_model.proofs.what_counts.nothing_comes_back.Goals as goal
 
 pub returns : goal.returns

@@ -1,6 +1,5 @@
 -- The proof of the laws that stand on `owners_are_live`.
-use Rattle.argus_model.proofs.Counting.{held_by_live}
-use Rattle.argus_model.proofs.Lawful.{lawful_orderly}
+use Rattle.argus_model.proofs.{Counting.held_by_live, Lawful.lawful_orderly}
 use Rattle.argus_model.proofs.what_counts.owners_are_live.Goals as goal
 
 pub returns : goal.returns

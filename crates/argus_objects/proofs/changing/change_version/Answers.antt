@@ -1,19 +1,14 @@
 -- The newest version is changed in place, or a changed copy of what is on top is pushed.
 use Rattle.std.proofs.Common.{◌≡◌, ◌-◌, set, true, ltb, ◌∙◌, refl, ap, arith}
-use Rattle.std.specs.Prelude.{IfOk, OnErr, OnOk}
-use Rattle.std.specs.List.{list_all}
+use Rattle.std.specs.{Prelude.{IfOk, OnErr, OnOk}, List.list_all}
 use Rattle.argus_actions.specs.declared.action_id.ActionId.{ActionId}
-use Rattle.argus_contents.specs.Answer.{plain_answer}
-use Rattle.argus_contents.specs.Content.{plain_option}
-use Rattle.argus_contents.specs.Change.{plain_change}
-use Rattle.argus_objects.specs.declared.version.Version.{Version}
-use Rattle.argus_objects.specs.Object.{versions_newest_first, holders}
+use Rattle.argus_contents.specs.{Answer.plain_answer, Content.plain_option, Change.plain_change}
+use Rattle.argus_objects.specs.{declared.version.Version.Version, Object.{versions_newest_first, holders}}
 use Rattle.argus_objects.specs.CellChanges.{changed_top, newest_content, with_version}
-use Rattle.argus_objects.proofs.Stacks.{all_lower, none_lower}
-use Rattle.argus_objects.proofs.Changes.{changed_copy, changed_in_place}
-use Rattle.argus_objects.proofs.changing.change_version.Goals as goal
+use Rattle.argus_objects.proofs.{Stacks.{all_lower, none_lower}, Changes.{changed_copy, changed_in_place}}
 use Rattle.argus_objects.proofs.changing.change_version.Goals.{else-held-gt0-via-then-held-gt0+else-index-a}
 use Rattle.argus_objects.proofs.changing.change_version.Goals.{else-held-gt0-via-else-held-gt0}
+use Rattle.argus_objects.proofs.changing.change_version.Goals as goal
 
 -- the version of the action, changed in place, or as it was
 in_place : (c : goal.After-versions-1)

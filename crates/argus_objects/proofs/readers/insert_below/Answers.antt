@@ -1,6 +1,5 @@
 -- Those that moved down, and behind them the action.
-use Rattle.std.proofs.Common.{◌≡◌, ℕ, ◌+◌, ◌-◌, ◌++◌, ◌∷◌, take, drop, set, ◌∙◌, ap, subst, arith}
-use Rattle.std.proofs.Math.Seq.{paste}
+use Rattle.std.proofs.{Common.{◌≡◌, ℕ, ◌+◌, ◌-◌, ◌++◌, ◌∷◌, take, drop, set, ◌∙◌, ap, subst, arith}, Math.Seq.paste}
 use Rattle.argus_objects.proofs.Moved.{down_by_one}
 use Rattle.argus_objects.proofs.readers.insert_below.Goals as goal
 

@@ -1,7 +1,6 @@
 -- What is left of the holders decides, asked of the last one that was found above.
 use Rattle.std.proofs.Common.{◌≡◌, ◌≤◌, length, take}
-use Rattle.argus_objects.specs.Object.{holders, versions_newest_first, writers}
-use Rattle.argus_objects.specs.Rules.{all_above}
+use Rattle.argus_objects.specs.{Object.{holders, versions_newest_first, writers}, Rules.all_above}
 use Rattle.argus_objects.proofs.versions.all_writers_above.Given as goal
 
 abbrev pub invariant-loop-left : goal.invariant-loop-left

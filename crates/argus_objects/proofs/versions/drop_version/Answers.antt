@@ -1,9 +1,7 @@
 -- The versions that stay are those of other holders.
-use Rattle.std.proofs.Common.{not, eqb, sym, ◌∙◌, ap, rules, tests}
-use Rattle.std.proofs.lemmas.Fn.{filter_same}
+use Rattle.std.proofs.{Common.{not, eqb, sym, ◌∙◌, ap, rules, tests}, lemmas.Fn.filter_same}
 use Rattle.argus_actions.specs.declared.action_id.ActionId.{ActionId}
-use Rattle.argus_objects.specs.declared.version.Version.{Version}
-use Rattle.argus_objects.specs.Object.{versions_newest_first}
+use Rattle.argus_objects.specs.{declared.version.Version.Version, Object.versions_newest_first}
 use Rattle.argus_objects.proofs.Stacks.{newest_filter}
 use Rattle.argus_objects.proofs.versions.drop_version.Goals as goal
 

@@ -1,10 +1,8 @@
 -- With the version of the parent gone, that of the subaction takes its place.
 use Rattle.std.proofs.Common.{◌≡◌, List, ◌++◌, map, length, take, drop, reverse, eqb, true, false, sym, ◌∙◌, ap, arith}
+use Rattle.std.proofs.{lemmas.Bool.{cond-true, cond-false}, lemmas.List.{drop_all, take_all, append-nil}}
 use Rattle.std.specs.List.{list_any}
-use Rattle.std.proofs.lemmas.Bool.{cond-true, cond-false}
-use Rattle.std.proofs.lemmas.List.{drop_all, take_all, append-nil}
-use Rattle.argus_objects.specs.declared.version.Version.{Version}
-use Rattle.argus_objects.specs.Object.{plain_version, versions_newest_first}
+use Rattle.argus_objects.specs.{declared.version.Version.Version, Object.{plain_version, versions_newest_first}}
 use Rattle.argus_objects.specs.CellChanges.{version_inherited, has_version}
 use Rattle.argus_objects.proofs.Stacks.{has_newest, map_reverse}
 use Rattle.argus_objects.proofs.versions.hand_over.Goals as goal

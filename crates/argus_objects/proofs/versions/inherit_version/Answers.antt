@@ -2,8 +2,7 @@
 use Rattle.std.proofs.Common.{◌≡◌, ℕ, ◌-◌, length, take, ltb, true, sym, ◌∙◌, refl, ap, arith}
 use Rattle.std.specs.List.{list_all}
 use Rattle.argus_objects.specs.declared.version.Version.{Version}
-use Rattle.argus_objects.proofs.InOrder.{any_default}
-use Rattle.argus_objects.proofs.Changes.{handed_in_place}
+use Rattle.argus_objects.proofs.{InOrder.any_default, Changes.handed_in_place}
 use Rattle.argus_objects.proofs.versions.inherit_version.Goals as goal
 
 pub returns-then-is_past_older-clause-versions : goal.returns-then-is_past_older-clause-versions

@@ -1,10 +1,8 @@
 -- The newest version stands on top of a chain.
 use Rattle.std.proofs.Common.{◌≡◌, ℕ, ◌-◌, ◌∷◌, length, take, get_or, sym, ◌∙◌, ap, arith}
-use Rattle.argus_objects.specs.declared.version.Version.{Version}
+use Rattle.argus_objects.specs.{declared.version.Version.Version, Rules.{all_above, is_chain}}
 use Rattle.argus_objects.specs.Object.{holders, plain_version, versions_newest_first}
-use Rattle.argus_objects.specs.Rules.{all_above, is_chain}
-use Rattle.argus_objects.proofs.Chains.{newest_above}
-use Rattle.argus_objects.proofs.Changes.{newest_top}
+use Rattle.argus_objects.proofs.{Chains.newest_above, Changes.newest_top}
 use Rattle.argus_objects.proofs.versions.is_newest_above.Goals as goal
 
 pub returns-else-held-eq0 : goal.returns-else-held-eq0

@@ -1,7 +1,6 @@
 -- Of holders in increasing number the last decides.
-use Rattle.std.proofs.Common.{◌≡◌, ℕ, ◌+◌, ◌-◌, length, take, ltb, sym, ◌∙◌, ap, arith}
+use Rattle.std.proofs.{Common.{◌≡◌, ℕ, ◌+◌, ◌-◌, length, take, ltb, sym, ◌∙◌, ap, arith}, lemmas.Bool.lt-ltb}
 use Rattle.std.specs.List.{list_all}
-use Rattle.std.proofs.lemmas.Bool.{lt-ltb}
 use Rattle.argus_objects.specs.declared.version.Version.{Version}
 use Rattle.argus_objects.proofs.Changes.{last_decides}
 use Rattle.argus_objects.proofs.versions.is_past_older.Goals as goal

@@ -3,13 +3,11 @@ use Rattle.std.proofs.Common.{◌≡◌, ℕ, ◌-◌, get_or, true, ltb, sym, �
 use Rattle.std.specs.List.{list_all}
 use Rattle.argus_actions.specs.declared.action_id.ActionId.{ActionId}
 use Rattle.argus_contents.specs.Content.{plain_option}
-use Rattle.argus_objects.specs.declared.version.Version.{Version}
-use Rattle.argus_objects.specs.Object.{versions_newest_first, holders}
-use Rattle.argus_objects.proofs.InOrder.{any_default}
+use Rattle.argus_objects.specs.{declared.version.Version.Version, Object.{versions_newest_first, holders}}
+use Rattle.argus_objects.proofs.{InOrder.any_default, versions.put_version.Goals.else-held-gt0-via-else-held-gt0}
 use Rattle.argus_objects.proofs.Stacks.{same_id, version_set, version_pushed, all_lower, none_lower}
-use Rattle.argus_objects.proofs.versions.put_version.Goals as goal
 use Rattle.argus_objects.proofs.versions.put_version.Goals.{else-held-gt0-via-then-held-gt0+else-index-a}
-use Rattle.argus_objects.proofs.versions.put_version.Goals.{else-held-gt0-via-else-held-gt0}
+use Rattle.argus_objects.proofs.versions.put_version.Goals as goal
 
 pub returns-then-index-a-clause-versions : goal.returns-then-index-a-clause-versions
 returns-then-index-a-clause-versions c =

@@ -2,9 +2,7 @@
 use Rattle.std.proofs.Common.{◌≡◌, ◌+◌, ◌++◌, Err, Ok, Some, ap, arith, drop, false, rules, suc, sym, take, ◌∙◌}
 use Rattle.std.proofs.lemmas.List.Sorted.{answers_always}
 use Rattle.argus_contents.specs.Content.{plain_option}
-use Rattle.argus_objects.specs.declared.version.Version.{Version}
-use Rattle.argus_objects.specs.CellChanges.{has_version}
-use Rattle.argus_objects.specs.Object.{versions_newest_first}
+use Rattle.argus_objects.specs.{declared.version.Version.Version, CellChanges.has_version, Object.versions_newest_first}
 use Rattle.argus_objects.proofs.Searched.{IsVersionAt, version_searched}
 use Rattle.argus_objects.proofs.Stacks.{removed_here, version_here, version_of_none, without_none}
 use Rattle.argus_objects.proofs.versions.remove_version.Goals as goal

@@ -1,6 +1,5 @@
 -- One more character is escaped, or none is left.
-use Rattle.std.proofs.Common.{ap, string_bytes, sym, ◌++◌, ◌∙◌}
-use Rattle.std.proofs.lemmas.Str.{IsUtf8-past_char}
+use Rattle.std.proofs.{Common.{ap, string_bytes, sym, ◌++◌, ◌∙◌}, lemmas.Str.IsUtf8-past_char}
 use Rattle.std.specs.Str.Iter.{chars_rest}
 use Rattle.argus_picture.specs.Escaping.{escaped}
 use Rattle.argus_picture.proofs.Escapes.{escaped_end, escaped_step}

@@ -1,6 +1,5 @@
 -- The journal lacks the next object, has it with another shape, or has it with the same.
-use Rattle.std.proofs.Common.{arith, sym, ◌∙◌}
-use Rattle.std.proofs.lemmas.Bool.{false≢true}
+use Rattle.std.proofs.{Common.{arith, sym, ◌∙◌}, lemmas.Bool.false≢true}
 use Rattle.argus_picture.proofs.Agreeing.{all_there, next_agrees, next_differs, next_missing}
 use Rattle.argus_picture.proofs.naming.names_fault.Goals as goal
 

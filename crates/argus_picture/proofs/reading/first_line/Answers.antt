@@ -1,6 +1,5 @@
 -- The first line ends at the first line feed.
-use Rattle.std.proofs.Common.{sym, ◌+◌}
-use Rattle.std.proofs.lemmas.List.{take_rest}
+use Rattle.std.proofs.{Common.{sym, ◌+◌}, lemmas.List.take_rest}
 use Rattle.argus_picture.proofs.ReadLines.{first_part, one_part}
 use Rattle.argus_picture.proofs.reading.first_line.Goals as goal
 

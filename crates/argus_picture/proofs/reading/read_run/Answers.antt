@@ -1,6 +1,5 @@
 -- The lines before the faulty one are a listing's.
-use Rattle.std.proofs.Common.{arith, inl, inr}
-use Rattle.std.proofs.lemmas.List.{nil_from_length}
+use Rattle.std.proofs.{Common.{arith, inl, inr}, lemmas.List.nil_from_length}
 use Rattle.argus_picture.specs.RunPlace.{place_of}
 use Rattle.argus_picture.proofs.ReadLines.{read_more, read_none, read_refused, read_torn, read_whole}
 use Rattle.argus_picture.proofs.reading.read_run.Goals as goal

@@ -1,12 +1,10 @@
 -- The place, the blank behind it, or the operation stops.
-use Rattle.std.proofs.lemmas.Result.{err_from_is_err_and}
+use Rattle.std.proofs.{lemmas.Result.err_from_is_err_and, Common.{sym, subst}}
 use Rattle.argus_texts.proofs.Exits.{passed}
-use Rattle.std.proofs.Common.{sym, subst}
 use Rattle.argus_texts.specs.Language.{Stops}
 use Rattle.std.specs.Prelude.{codes}
-use Rattle.argus_reading.proofs.Words.{first_ends, joint_lacks, second_ends}
+use Rattle.argus_reading.proofs.{Words.{first_ends, joint_lacks, second_ends}, Calls.alter_joint}
 use Rattle.argus_reading.specs.Calls.{Alters}
-use Rattle.argus_reading.proofs.Calls.{alter_joint}
 use Rattle.argus_reading.proofs.call_reading.alter.Goals as goal
 
 pub returns-in_err-a-clause-stops : goal.returns-in_err-a-clause-stops

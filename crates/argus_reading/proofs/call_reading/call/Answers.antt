@@ -1,16 +1,12 @@
 -- No shape comes behind its word, or none of the ways to go on does.
-use Rattle.std.proofs.Common.{[], subst, sym}
-use Rattle.std.proofs.lemmas.Result.{err_from_is_err_and}
+use Rattle.std.proofs.{Common.{[], subst, sym}, lemmas.Result.err_from_is_err_and}
 use Rattle.std.specs.Prelude.{codes}
 use Rattle.argus_texts.specs.Languages.{Word}
 use Rattle.argus_texts.proofs.Stops.{stops_behind}
-use Rattle.argus_reading.specs.Calls.{ActionCalls, CallParts, Calls, ObjectCalls}
-use Rattle.argus_reading.specs.Combined.{Either}
+use Rattle.argus_reading.specs.{Calls.{ActionCalls, CallParts, Calls, ObjectCalls}, Combined.Either}
 use Rattle.argus_reading.specs.Line.{Declares, Lacks}
-use Rattle.argus_reading.proofs.CallParts.{call_parts, shape_part}
-use Rattle.argus_reading.proofs.Lacks.{from_part, handed_on, lacks_now}
-use Rattle.argus_reading.proofs.Shaped.{parts_shaped}
-use Rattle.argus_reading.proofs.Unions.{latter}
+use Rattle.argus_reading.proofs.{CallParts.{call_parts, shape_part}, Lacks.{from_part, handed_on, lacks_now}}
+use Rattle.argus_reading.proofs.{Shaped.parts_shaped, Unions.latter}
 use Rattle.argus_reading.proofs.call_reading.call.Goals as goal
 
 pub returns-in_err-shape-in-Ok-clause-stops : goal.returns-in_err-shape-in-Ok-clause-stops

@@ -1,9 +1,7 @@
 -- Reading stops where the last of the ways to go on stops.
-use Rattle.argus_reading.proofs.Unions.{latter}
-use Rattle.argus_texts.proofs.Exits.{passed}
-use Rattle.argus_texts.proofs.Stops.{stops_behind}
+use Rattle.argus_reading.proofs.{Unions.latter, Parts.{covered, changes}}
+use Rattle.argus_texts.proofs.{Exits.passed, Stops.stops_behind}
 use Rattle.std.proofs.Common.{[]}
-use Rattle.argus_reading.proofs.Parts.{covered, changes}
 use Rattle.argus_reading.specs.Operations.{ChangeParts, Changes}
 use Rattle.argus_reading.proofs.change_reading.change.Goals as goal
 

@@ -1,13 +1,9 @@
 -- The call, the blank behind it, or the reply stops.
-use Rattle.std.proofs.lemmas.Result.{err_from_is_err_and}
-use Rattle.std.proofs.Common.{[], sym, subst, refl}
+use Rattle.std.proofs.{lemmas.Result.err_from_is_err_and, Common.{[], sym, subst, refl}}
 use Rattle.argus_texts.specs.Language.{Stops}
-use Rattle.argus_reading.specs.Calls.{Calls}
-use Rattle.argus_reading.specs.Line.{Declares, Entries}
-use Rattle.argus_reading.proofs.Lacks.{from_part, handed_on, lacks_in}
-use Rattle.argus_reading.proofs.Shaped.{call_shaped}
-use Rattle.argus_reading.proofs.Whole.{call_part, entry_joint}
-use Rattle.argus_reading.proofs.Words.{first_ends, joint_lacks, second_ends}
+use Rattle.argus_reading.specs.{Calls.Calls, Line.{Declares, Entries}}
+use Rattle.argus_reading.proofs.{Lacks.{from_part, handed_on, lacks_in}, Shaped.call_shaped}
+use Rattle.argus_reading.proofs.{Whole.{call_part, entry_joint}, Words.{first_ends, joint_lacks, second_ends}}
 use Rattle.argus_reading.proofs.entry_reading.entry.Goals as goal
 
 pub returns-in_err-call-clause-stops : goal.returns-in_err-call-clause-stops

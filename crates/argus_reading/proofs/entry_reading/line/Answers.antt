@@ -1,13 +1,11 @@
 -- The number, the blank behind it, or the entry stops.
-use Rattle.std.proofs.lemmas.Result.{err_from_is_err_and}
-use Rattle.std.proofs.Common.{[], ◌∷◌, ◌++◌, sym, subst}
+use Rattle.std.proofs.{lemmas.Result.err_from_is_err_and, Common.{[], ◌∷◌, ◌++◌, sym, subst}}
 use Rattle.std.specs.Fmt.{decimal}
 use Rattle.argus_texts.specs.Language.{Stops}
 use Rattle.argus_texts.proofs.Stops.{pair_whole}
 use Rattle.argus_reading.specs.Line.{Declares, DeclaresAt, Entries, Lines, Ordinals}
-use Rattle.argus_reading.proofs.Lacks.{from_part, handed_on, lacks_in}
+use Rattle.argus_reading.proofs.{Lacks.{from_part, handed_on, lacks_in}, Whole.{entry_part, line_joint, numbered}}
 use Rattle.argus_reading.proofs.Shaped.{blank_shaped, entry_shaped, number_shaped}
-use Rattle.argus_reading.proofs.Whole.{entry_part, line_joint, numbered}
 use Rattle.argus_reading.proofs.Words.{first_ends, joint_lacks, second_ends}
 use Rattle.argus_reading.proofs.entry_reading.line.Goals as goal
 

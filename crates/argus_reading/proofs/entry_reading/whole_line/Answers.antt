@@ -1,8 +1,7 @@
 -- The fault of the whole text.
 use Rattle.std.proofs.lemmas.Result.{err_from_is_err_and}
 use Rattle.argus_entries.specs.Entry.{plain_entry}
-use Rattle.argus_reading.proofs.Lacks.{handed_on}
-use Rattle.argus_reading.proofs.Shaped.{line_shaped, no_line}
+use Rattle.argus_reading.proofs.{Lacks.handed_on, Shaped.{line_shaped, no_line}}
 use Rattle.argus_reading.proofs.Whole.{line_lacks, line_left_behind, line_stopped}
 use Rattle.argus_reading.proofs.entry_reading.whole_line.Goals as goal
 

@@ -1,7 +1,6 @@
 -- A line is told from every other, and has no fault.
 use Rattle.std.proofs.Common.{◌≡◌, ℕ, ◌<◌, ◌^◌, refl, sym}
-use Rattle.argus_entries.specs.Entry.{PlainEntry}
-use Rattle.argus_entries.specs.EntrySpelling.{entry_spelling}
+use Rattle.argus_entries.specs.{Entry.PlainEntry, EntrySpelling.entry_spelling}
 use Rattle.argus_entries.proofs.Lines.{one_line}
 use Rattle.argus_reading.specs.Line.{IsEntryLine, IsReadable, Tells}
 use Rattle.argus_reading.specs.declared.read_entry_error.ReadEntryError.{ReadEntryError}

@@ -1,6 +1,5 @@
 -- The text is neither `absent` nor a content.
-use Rattle.std.proofs.lemmas.Result.{err_from_is_err_and}
-use Rattle.std.proofs.lemmas.Slice.Eq.{bytes_eq-Decides}
+use Rattle.std.proofs.{lemmas.Result.err_from_is_err_and, lemmas.Slice.Eq.bytes_eq-Decides}
 use Rattle.std.specs.Prelude.{codes}
 use Rattle.argus_contents.specs.Content.{plain_content}
 use Rattle.argus_texts.proofs.Exits.{passed}

@@ -1,6 +1,5 @@
 -- A number or the blank is missing, or something comes after: the text isn't a first line.
-use Rattle.std.proofs.Common.{arith}
-use Rattle.std.proofs.lemmas.Result.{err_from_is_err_and}
+use Rattle.std.proofs.{Common.arith, lemmas.Result.err_from_is_err_and}
 use Rattle.argus_texts.proofs.Exits.{passed}
 use Rattle.argus_reading.proofs.OpeningParts.{folded_between, folded_first, folded_left, folded_second, folded_whole}
 use Rattle.argus_reading.proofs.opening_reading.folded_numbers.Goals as goal

@@ -1,6 +1,5 @@
 -- The text doesn't begin with the word and a number after it.
-use Rattle.std.proofs.lemmas.Result.{err_from_is_err_and}
-use Rattle.std.proofs.Common.{arith}
+use Rattle.std.proofs.{lemmas.Result.err_from_is_err_and, Common.arith}
 use Rattle.argus_reading.proofs.Words.{word_ends, word_lacks}
 use Rattle.argus_texts.proofs.Exits.{passed}
 use Rattle.argus_texts.specs.Languages.{Numbers}

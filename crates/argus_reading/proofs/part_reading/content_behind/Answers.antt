@@ -1,9 +1,8 @@
 -- The word, or what has to come behind it, stops.
-use Rattle.std.proofs.lemmas.Result.{err_from_is_err_and}
+use Rattle.std.proofs.{lemmas.Result.err_from_is_err_and, Common.{[]}}
 use Rattle.argus_texts.proofs.Exits.{passed}
 use Rattle.argus_texts.specs.Languages.{Contents}
 use Rattle.argus_contents.specs.Content.{rec}
-use Rattle.std.proofs.Common.{[]}
 use Rattle.argus_reading.proofs.Words.{word_lacks, word_ends}
 use Rattle.argus_reading.proofs.part_reading.content_behind.Goals as goal
 

@@ -1,9 +1,8 @@
 -- The word, or what has to come behind it, stops.
-use Rattle.std.proofs.lemmas.Result.{err_from_is_err_and}
+use Rattle.std.proofs.{lemmas.Result.err_from_is_err_and, Common.arith}
 use Rattle.argus_texts.proofs.Exits.{passed}
 use Rattle.argus_texts.specs.Languages.{Ints}
 use Rattle.std.specs.Prelude.{pos}
-use Rattle.std.proofs.Common.{arith}
 use Rattle.argus_reading.proofs.Words.{word_lacks, word_ends}
 use Rattle.argus_reading.proofs.part_reading.int_behind.Goals as goal
 

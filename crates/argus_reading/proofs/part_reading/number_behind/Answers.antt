@@ -1,8 +1,7 @@
 -- The word, or what has to come behind it, stops.
-use Rattle.std.proofs.lemmas.Result.{err_from_is_err_and}
+use Rattle.std.proofs.{lemmas.Result.err_from_is_err_and, Common.arith}
 use Rattle.argus_texts.proofs.Exits.{passed}
 use Rattle.argus_texts.specs.Languages.{Numbers}
-use Rattle.std.proofs.Common.{arith}
 use Rattle.argus_reading.proofs.Words.{word_lacks, word_ends}
 use Rattle.argus_reading.proofs.part_reading.number_behind.Goals as goal
 

@@ -1,11 +1,9 @@
 -- Each of the two parts, or the blank between them, stops.
-use Rattle.std.proofs.lemmas.Result.{err_from_is_err_and}
+use Rattle.std.proofs.{lemmas.Result.err_from_is_err_and, Common.{sym, subst}}
 use Rattle.argus_texts.proofs.Exits.{passed}
-use Rattle.std.proofs.Common.{sym, subst}
 use Rattle.argus_texts.specs.Language.{Stops}
-use Rattle.argus_reading.proofs.Words.{first_ends, joint_lacks, second_ends}
+use Rattle.argus_reading.proofs.{Words.{first_ends, joint_lacks, second_ends}, Joints.place_joint}
 use Rattle.argus_reading.specs.Calls.{Places}
-use Rattle.argus_reading.proofs.Joints.{place_joint}
 use Rattle.argus_reading.proofs.part_reading.place.Goals as goal
 
 pub returns-in_err-action-clause-stops : goal.returns-in_err-action-clause-stops

@@ -1,11 +1,9 @@
 -- Each of the two parts, or the blank between them, stops.
-use Rattle.std.proofs.lemmas.Result.{err_from_is_err_and}
+use Rattle.std.proofs.{lemmas.Result.err_from_is_err_and, Common.{sym, subst}}
 use Rattle.argus_texts.proofs.Exits.{passed}
-use Rattle.std.proofs.Common.{sym, subst}
 use Rattle.argus_texts.specs.Language.{Stops}
-use Rattle.argus_reading.proofs.Words.{first_ends, joint_lacks, second_ends}
+use Rattle.argus_reading.proofs.{Words.{first_ends, joint_lacks, second_ends}, Joints.ints_joint}
 use Rattle.argus_reading.specs.Operations.{TwoInts}
-use Rattle.argus_reading.proofs.Joints.{ints_joint}
 use Rattle.argus_reading.proofs.part_reading.two_ints.Goals as goal
 
 pub returns-in_err-one-clause-stops : goal.returns-in_err-one-clause-stops

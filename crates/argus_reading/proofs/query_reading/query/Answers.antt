@@ -1,9 +1,7 @@
 -- Reading stops where the last of the ways to go on stops.
-use Rattle.argus_reading.proofs.Unions.{latter}
-use Rattle.argus_texts.proofs.Exits.{passed}
-use Rattle.argus_texts.proofs.Stops.{stops_behind}
+use Rattle.argus_reading.proofs.{Unions.latter, Parts.{covered, queries}}
+use Rattle.argus_texts.proofs.{Exits.passed, Stops.stops_behind}
 use Rattle.std.proofs.Common.{[]}
-use Rattle.argus_reading.proofs.Parts.{covered, queries}
 use Rattle.argus_reading.specs.Operations.{QueryParts, Queries}
 use Rattle.argus_reading.proofs.query_reading.query.Goals as goal
 

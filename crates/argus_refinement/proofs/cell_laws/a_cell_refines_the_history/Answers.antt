@@ -4,11 +4,8 @@ use Rattle.std.specs.Prelude.{Option, map}
 use Rattle.argus_actions.specs.declared.action_id.ActionId.{ActionId}
 use Rattle.argus_contents.specs.Content.{PlainContent}
 use Rattle.argus_journal.proofs.Legal.{lawful}
-use Rattle.argus_journal.specs.Events.{history}
-use Rattle.argus_journal.specs.Numbering.{all_in_program}
-use Rattle.argus_journal.specs.JournalFacts.{visible_to}
-use Rattle.argus_refinement.proofs.CellHolders.{may_read_is}
-use Rattle.argus_refinement.proofs.CellOrder.{stack_is, told_is}
+use Rattle.argus_journal.specs.{Events.history, Numbering.all_in_program, JournalFacts.visible_to}
+use Rattle.argus_refinement.proofs.{CellHolders.may_read_is, CellOrder.{stack_is, told_is}}
 use Rattle.argus_refinement.proofs.CellSeen.{may_write_is, visible_is}
 use Rattle.argus_refinement.proofs.cell_laws.a_cell_refines_the_history.Goals as goal
 use Rattle.argus_refinement.specs.CellRefinement.{history_numbers}

@@ -1,21 +1,15 @@
 -- The proof of what a tree tells.
 use Rattle.std.proofs.Common.{List, None, Option, Some, ap, arith, cond, refl, sym, true, ℕ, ◌+◌, ◌-◌, ◌∙◌, ◌≡◌}
-use Rattle.std.specs.Option.{option_map}
 use Rattle.std.proofs.lemmas.Bool.{ne_eqb}
-use Rattle.argus_actions.specs.Rows.{under_at}
-use Rattle.argus_actions.specs.Tree.{Tree, parent_of}
-use Rattle.argus_actions.specs.declared.action_id.ActionId.{ActionId}
+use Rattle.std.specs.Option.{option_map}
+use Rattle.argus_actions.specs.{Rows.under_at, Tree.{Tree, parent_of}, declared.action_id.ActionId.ActionId}
 use Rattle.argus_entries.specs.Entry.{PlainEntry}
 use Rattle.argus_journal.proofs.Legal.{lawful}
-use Rattle.argus_journal.specs.Events.{history}
-use Rattle.argus_journal.specs.Legal.{Legal}
-use Rattle.argus_journal.specs.Numbering.{unless_base}
-use Rattle.argus_journal.specs.Opening.{Opening}
+use Rattle.argus_journal.specs.{Events.history, Legal.Legal, Numbering.unless_base, Opening.Opening}
 use Rattle.argus_journal.specs.JournalFacts.{begun_by_in, parent_in}
 use Rattle.argus_refinement.proofs.CellHolders.{orderly}
 use Rattle.argus_refinement.proofs.TreeAnswers.{ancestor_is, child_is, creator_is, depth_of_is, live_is, next_is}
-use Rattle.argus_refinement.proofs.TreeAnswers.{no_parent_is, parent_is}
-use Rattle.argus_refinement.proofs.TreeAnswers.{status_is, under_is, under_none_is}
+use Rattle.argus_refinement.proofs.TreeAnswers.{no_parent_is, parent_is, status_is, under_is, under_none_is}
 use Rattle.argus_refinement.proofs.tree_laws.a_tree_refines_the_history.Goals as goal
 use Rattle.argus_refinement.specs.TreeRefinement.{IsTree}
 use Rattle.argus_model.proofs.Standing.{Orderly}

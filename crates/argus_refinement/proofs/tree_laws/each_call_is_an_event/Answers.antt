@@ -1,9 +1,8 @@
 -- The proof that each call of a tree is an event.
 use Rattle.argus_journal.proofs.Legal.{lawful}
 use Rattle.argus_journal.specs.Events.{history}
-use Rattle.argus_refinement.proofs.CellHolders.{orderly}
+use Rattle.argus_refinement.proofs.{CellHolders.orderly, TreeSteps.start_tree}
 use Rattle.argus_refinement.proofs.TreeSteps.{abort_others_tree, abort_tree, begin_tree, commit_tree, same_tree}
-use Rattle.argus_refinement.proofs.TreeSteps.{start_tree}
 use Rattle.argus_refinement.proofs.tree_laws.each_call_is_an_event.Goals as goal
 
 pub returns : goal.returns

@@ -2,9 +2,7 @@
 use Rattle.std.specs.Prelude.{List}
 use Rattle.argus_entries.specs.Entry.{PlainEntry}
 use Rattle.argus_journal.proofs.Legal.{lawful}
-use Rattle.argus_journal.specs.Events.{history}
-use Rattle.argus_journal.specs.Legal.{Legal}
-use Rattle.argus_journal.specs.Opening.{Opening}
+use Rattle.argus_journal.specs.{Events.history, Legal.Legal, Opening.Opening}
 use Rattle.argus_refinement.proofs.CellHolders.{orderly}
 use Rattle.argus_refinement.proofs.TreeRefusals.{abort_is, commit_is, nested_is, others_is, sub_is, top_is}
 use Rattle.argus_refinement.proofs.tree_laws.refusals_agree.Goals as goal

@@ -1,7 +1,6 @@
 -- What the strip of a slice says of bytes.
 use Rattle.std.proofs.Common.{IfSome, List, ◌++◌, ◌≡◌, ◌≢◌, ℕ, Bor, Option, Some, None}
-use Rattle.std.proofs.lemmas.Bool.Decides.{Decides-eqb}
-use Rattle.std.proofs.lemmas.Slice.Eq.{strip_prefix_is}
+use Rattle.std.proofs.{lemmas.Bool.Decides.Decides-eqb, lemmas.Slice.Eq.strip_prefix_is}
 use Rattle.std.specs.Prelude.{MatchOption}
 use Rattle.argus_resume.proofs.frequent_line.behind.Goals as goal
 

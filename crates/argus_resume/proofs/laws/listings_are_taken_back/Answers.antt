@@ -1,6 +1,5 @@
 -- Nothing is left, the journals are the same, and a sound opening is its own sound front.
-use Rattle.argus_resume.proofs.NextLines.{taken_back}
-use Rattle.argus_resume.proofs.Stages.{front_same}
+use Rattle.argus_resume.proofs.{NextLines.taken_back, Stages.front_same}
 use Rattle.argus_resume.proofs.laws.listings_are_taken_back.Goals as goal
 
 pub returns-clause-taken : goal.returns-clause-taken

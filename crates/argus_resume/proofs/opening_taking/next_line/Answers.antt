@@ -1,12 +1,8 @@
 -- The line says no object, or one that can't be the next; or the opening has one object more.
-use Rattle.std.proofs.Common.{ap, length, sym, ◌+◌, ◌∙◌}
-use Rattle.std.proofs.lemmas.Bool.{false≢true}
+use Rattle.std.proofs.{Common.{ap, length, sym, ◌+◌, ◌∙◌}, lemmas.Bool.false≢true, lemmas.List.length-map}
 use Rattle.argus_contents.specs.Content.{plain_option}
-use Rattle.std.proofs.lemmas.List.{length-map}
-use Rattle.argus_resume.specs.Stage.{object_read, opening_read}
-use Rattle.argus_resume.specs.declared.opened_object.OpenedObject.{OpenedObject}
-use Rattle.argus_resume.proofs.ObjectAdded.{added_ends, added_readable, added_text}
-use Rattle.argus_resume.proofs.Openings.{no_adding, no_object}
+use Rattle.argus_resume.specs.{Stage.{object_read, opening_read}, declared.opened_object.OpenedObject.OpenedObject}
+use Rattle.argus_resume.proofs.{ObjectAdded.{added_ends, added_readable, added_text}, Openings.{no_adding, no_object}}
 use Rattle.argus_resume.proofs.opening_taking.next_line.Goals as goal
 
 pub returns-in-Err-Left-clause-fault : goal.returns-in-Err-Left-clause-fault

@@ -1,10 +1,8 @@
 -- One object after another is copied.
 use Rattle.std.proofs.Common.{IfOk, ap, subst, sym, true, ◌∙◌, ◌≡◌}
 use Rattle.std.specs.Prelude.{Option}
-use Rattle.argus_contents.specs.Content.{PlainContent, plain_option}
-use Rattle.argus_contents.specs.Shape.{PlainShape}
-use Rattle.argus_journal.specs.Journal.{opening_of}
-use Rattle.argus_journal.specs.Opening.{Opening, is_sound}
+use Rattle.argus_contents.specs.{Content.{PlainContent, plain_option}, Shape.PlainShape}
+use Rattle.argus_journal.specs.{Journal.opening_of, Opening.{Opening, is_sound}}
 use Rattle.argus_resume.proofs.Copied.{copied_all, copied_more}
 use Rattle.argus_resume.proofs.rebuilding.reopened.Goals as goal
 

@@ -1,7 +1,6 @@
 -- The copies so far are those of the opening's objects so far.
 use Rattle.std.proofs.Common.{length, map, take, ◌-◌, ◌≡◌, ◌≤◌}
-use Rattle.argus_journal.specs.Journal.{opening_of}
-use Rattle.argus_journal.specs.Opening.{plain_object}
+use Rattle.argus_journal.specs.{Journal.opening_of, Opening.plain_object}
 use Rattle.argus_resume.proofs.rebuilding.reopened.Given as goal
 
 abbrev pub invariant-loop-shape : goal.invariant-loop-shape

@@ -1,9 +1,7 @@
 -- One more of the oldest entries is made again.
 use Rattle.std.proofs.Common.{Some, ap, arith, drop, length, ◌+◌, ◌-◌, ◌∙◌, ◌≡◌}
-use Rattle.argus_entries.specs.Call.{PlainCall}
-use Rattle.argus_entries.specs.Entry.{plain_entry}
-use Rattle.argus_journal.specs.Journal.{entries_of, opening_of}
-use Rattle.argus_journal.specs.JournalView.{after}
+use Rattle.argus_entries.specs.{Call.PlainCall, Entry.plain_entry}
+use Rattle.argus_journal.specs.{Journal.{entries_of, opening_of}, JournalView.after}
 use Rattle.argus_resume.proofs.Rebuilt.{entry_missing, entry_there, rebuilt_all, rebuilt_next, some_entries}
 use Rattle.argus_resume.proofs.rebuilding.without_newest.Goals as goal
 

@@ -1,10 +1,8 @@
 -- The longest sound front is sound, and no longer than all objects.
 use Rattle.std.proofs.Common.{arith, length, subst, sym, true, ◌≡◌}
 use Rattle.argus_journal.specs.Opening.{is_sound}
-use Rattle.argus_resume.specs.SoundFront.{opening_front}
-use Rattle.argus_resume.specs.Stage.{opening_read}
-use Rattle.argus_resume.proofs.Ends.{front_shorter}
-use Rattle.argus_resume.proofs.Sound.{count_sound, count_within}
+use Rattle.argus_resume.specs.{SoundFront.opening_front, Stage.opening_read}
+use Rattle.argus_resume.proofs.{Ends.front_shorter, Sound.{count_sound, count_within}}
 use Rattle.argus_resume.proofs.resuming.guardian_of.Goals as goal
 
 pub guardian-requires-clause-within : goal.guardian-requires-clause-within

@@ -1,11 +1,9 @@
 -- The listing is longer by the entry's line.
 use Rattle.std.proofs.Common.{ap, sym, ◌∙◌, ◌≡◌}
-use Rattle.argus_entries.specs.Entry.{plain_entry}
-use Rattle.argus_entries.specs.EntrySpelling.{entry_spelling}
+use Rattle.argus_entries.specs.{Entry.plain_entry, EntrySpelling.entry_spelling}
 use Rattle.argus_journal.specs.JournalView.{JournalView, with_entry}
 use Rattle.argus_resume.specs.Stage.{journal_taken, opened_alone, opening_read, taken_by}
-use Rattle.argus_resume.proofs.Stages.{on_ok}
-use Rattle.argus_resume.proofs.Texts.{line_text}
+use Rattle.argus_resume.proofs.{Stages.on_ok, Texts.line_text}
 use Rattle.argus_resume.proofs.staging.take_entry_line.Goals as goal
 
 pub returns-in-Entries-clause-text : goal.returns-in-Entries-clause-text

@@ -1,9 +1,7 @@
 -- The opening is sound if as many objects as there are make a sound front.
-use Rattle.std.proofs.Common.{arith, length, subst, sym, true, ◌≡◌}
-use Rattle.std.proofs.lemmas.List.{length-map}
+use Rattle.std.proofs.{Common.{arith, length, subst, sym, true, ◌≡◌}, lemmas.List.length-map}
 use Rattle.argus_journal.specs.Opening.{is_sound}
-use Rattle.argus_resume.specs.SoundFront.{opening_front}
-use Rattle.argus_resume.specs.Stage.{object_read, opening_read}
+use Rattle.argus_resume.specs.{SoundFront.opening_front, Stage.{object_read, opening_read}}
 use Rattle.argus_resume.proofs.Sound.{all_sound}
 use Rattle.argus_resume.proofs.staging.take_first.Goals as goal
 

@@ -1,15 +1,10 @@
 -- The line of a frequent entry is the first one of the text.
-use Rattle.std.proofs.Common.{[], ap, arith, subst, sym, ◌++◌, ◌∙◌, ◌∷◌}
-use Rattle.std.proofs.lemmas.Result.{err_from_is_err_and}
-use Rattle.argus_entries.specs.Call.{plain_call}
-use Rattle.argus_entries.specs.EntrySpelling.{entry_spelling}
-use Rattle.argus_entries.specs.Reply.{plain_reply}
+use Rattle.std.proofs.{Common.{[], ap, arith, subst, sym, ◌++◌, ◌∙◌, ◌∷◌}, lemmas.Result.err_from_is_err_and}
+use Rattle.argus_entries.specs.{Call.plain_call, EntrySpelling.entry_spelling, Reply.plain_reply}
 use Rattle.argus_journal.specs.JournalView.{JournalView}
-use Rattle.argus_resume.specs.FrontLine.{HasFrontLine, IsFrontError, entry_with}
-use Rattle.argus_resume.specs.JournalText.{journal_text}
+use Rattle.argus_resume.specs.{FrontLine.{HasFrontLine, IsFrontError, entry_with}, JournalText.journal_text}
 use Rattle.argus_resume.specs.Stage.{journal_taken, taken_by}
-use Rattle.argus_resume.proofs.FrontLines.{line_error, line_first, line_taken}
-use Rattle.argus_resume.proofs.Texts.{line_text}
+use Rattle.argus_resume.proofs.{FrontLines.{line_error, line_first, line_taken}, Texts.line_text}
 use Rattle.argus_resume.proofs.staging.take_frequent.Goals as goal
 
 pub returns-in_err-take_call-clause-fault : goal.returns-in_err-take_call-clause-fault

@@ -3,8 +3,8 @@ use Rattle.std.proofs.Common.{ap, rules, string_bytes, subst, ◌∙◌}
 use Rattle.std.specs.Str.{IsUtf8}
 use Rattle.argus_contents.specs.Value.{listed, plain_list, plain_value}
 use Rattle.argus_resume.specs.WellFormed.{AreWellFormedValues, IsWellFormedValue}
-use Rattle.argus_resume.proofs.WellFormedValues.{all_formed, atomic_formed, bool_formed, choice_formed, fields_formed, int_formed, null_formed}
-use Rattle.argus_resume.proofs.WellFormedValues.{more_formed, sequence_formed, text_formed}
+use Rattle.argus_resume.proofs.WellFormedValues.{all_formed, atomic_formed, bool_formed, choice_formed, fields_formed}
+use Rattle.argus_resume.proofs.WellFormedValues.{int_formed, null_formed, more_formed, sequence_formed, text_formed}
 use Rattle.argus_resume.proofs.well_formed_values.+well_formed.Goals as goal
 
 pub value_is_well_formed-returns : goal.value_is_well_formed-returns

@@ -1,10 +1,8 @@
 -- Where the begin of an arm stops, its state is a beginning of what the begin of all comes to.
-use Rattle.std.proofs.Common.{arith, rules}
-use Rattle.std.proofs.lemmas.Grind.{common_steps}
+use Rattle.std.proofs.{Common.{arith, rules}, lemmas.Grind.common_steps}
 use Rattle.argus_language.specs.PlainStep.{plain_steps}
 use Rattle.argus_runs.specs.Running.{begin_all}
-use Rattle.argus_runs.proofs.StoppedRuns.{begins_early, on_err}
-use Rattle.argus_runs.proofs.Growth.{ExtendingCalls}
+use Rattle.argus_runs.proofs.{StoppedRuns.{begins_early, on_err}, Growth.ExtendingCalls}
 use Rattle.argus_runs.proofs.beginning.begin_arms.Goals as goal
 
 pub returns-in_err-action-clause-early : goal.returns-in_err-action-clause-early

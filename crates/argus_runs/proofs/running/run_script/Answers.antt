@@ -1,11 +1,8 @@
 -- Where a step stops, its state is a beginning of what the whole script comes to.
-use Rattle.std.proofs.Common.{arith, rules, sym, ◌∙◌}
-use Rattle.std.proofs.lemmas.Grind.{common_steps}
-use Rattle.argus_language.specs.PlainStep.{plain_step}
-use Rattle.argus_language.specs.Script.{plain_script}
+use Rattle.std.proofs.{Common.{arith, rules, sym, ◌∙◌}, lemmas.Grind.common_steps}
+use Rattle.argus_language.specs.{PlainStep.plain_step, Script.plain_script}
 use Rattle.argus_runs.specs.Running.{run_script}
-use Rattle.argus_runs.proofs.StoppedRuns.{declaration_early, on_err, top_early, tops_early}
-use Rattle.argus_runs.proofs.Growth.{ExtendingCalls}
+use Rattle.argus_runs.proofs.{StoppedRuns.{declaration_early, on_err, top_early, tops_early}, Growth.ExtendingCalls}
 use Rattle.argus_runs.proofs.running.run_script.Goals as goal
 
 pub returns-in_err-declare-clause-early : goal.returns-in_err-declare-clause-early

@@ -1,7 +1,6 @@
 -- The run of the script is the run of the steps that are left, from the state so far.
 use Rattle.std.proofs.Common.{drop, true, ◌≡◌}
-use Rattle.argus_language.specs.PlainStep.{plain_steps}
-use Rattle.argus_language.specs.Script.{plain_script}
+use Rattle.argus_language.specs.{PlainStep.plain_steps, Script.plain_script}
 use Rattle.argus_runs.specs.Running.{run_script, run_tops}
 use Rattle.argus_runs.proofs.running.run_script.Given as goal
 

@@ -1,6 +1,5 @@
 -- The test tells where the entry's call is the receipt's.
-use Rattle.argus_entries.specs.Decided.{call_answered}
-use Rattle.argus_entries.specs.Call.{plain_call}
+use Rattle.argus_entries.specs.{Decided.call_answered, Call.plain_call}
 use Rattle.argus_sharing.proofs.checking.has_call.Goals as goal
 
 pub returns : goal.returns

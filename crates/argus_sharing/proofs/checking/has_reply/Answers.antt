@@ -1,6 +1,5 @@
 -- The test tells where the entry's reply is the receipt's.
-use Rattle.argus_entries.specs.Decided.{reply_answered}
-use Rattle.argus_entries.specs.Reply.{plain_reply}
+use Rattle.argus_entries.specs.{Decided.reply_answered, Reply.plain_reply}
 use Rattle.argus_sharing.proofs.checking.has_reply.Goals as goal
 
 pub returns : goal.returns

@@ -1,8 +1,7 @@
 -- One object more is copied, until all that are declared are.
 use Rattle.std.proofs.Common.{ap, arith, map, ◌≡◌, ◌∙◌}
 use Rattle.std.specs.List.{range_with_len}
-use Rattle.argus_journal.specs.Objects.{declared}
-use Rattle.argus_journal.specs.JournalFacts.{base_of}
+use Rattle.argus_journal.specs.{Objects.declared, JournalFacts.base_of}
 use Rattle.argus_sharing.proofs.Bases.{one_more}
 use Rattle.argus_sharing.proofs.sharing_start.bases_of.Goals as goal
 

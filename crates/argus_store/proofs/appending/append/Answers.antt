@@ -1,12 +1,7 @@
 use Rattle.std.proofs.Common.{◌≡◌, ◌≢◌, refl, sym, subst, ◌∙◌, arith, rules, to_z-of_z}
-use Rattle.sqlite.specs.Tree.{Trees}
-use Rattle.sqlite.specs.Effect.{Database}
-use Rattle.sqlite.specs.State.{HasCleanDisk, Survives}
-use Rattle.sqlite.specs.Held.{state}
-use Rattle.sqlite.proofs.StateLemmas.{survives_then}
-use Rattle.sqlite.proofs.Callers.{survives_begin}
-use Rattle.argus_store.specs.Journal.{Batch}
-use Rattle.argus_store.specs.Appending.{Appends, IsSettled}
+use Rattle.sqlite.specs.{Tree.Trees, Effect.Database, State.{HasCleanDisk, Survives}, Held.state}
+use Rattle.sqlite.proofs.{StateLemmas.survives_then, Callers.survives_begin}
+use Rattle.argus_store.specs.{Journal.Batch, Appending.{Appends, IsSettled}}
 use Rattle.argus_store.proofs.appending.append.Goals as goal
 
 pub returns-clause-both : goal.returns-clause-both

@@ -1,9 +1,6 @@
 use Rattle.std.proofs.Common.{◌≡◌, subst, arith, rules, to_z-of_z}
-use Rattle.sqlite.specs.State.{HasCleanDisk}
-use Rattle.sqlite.specs.Held.{state}
-use Rattle.argus_store.specs.Tables.{no_schema}
-use Rattle.argus_store.specs.Journal.{new_journal}
-use Rattle.argus_store.specs.Store.{HasLog}
+use Rattle.sqlite.specs.{State.HasCleanDisk, Held.state}
+use Rattle.argus_store.specs.{Tables.no_schema, Journal.new_journal, Store.HasLog}
 use Rattle.argus_store.proofs.Makes.{makes, has_new_log}
 use Rattle.argus_store.proofs.making.make.Goals as goal
 

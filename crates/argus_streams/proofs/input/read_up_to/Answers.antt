@@ -1,6 +1,5 @@
 -- What a read adds is within the limit.
-use Rattle.std.proofs.Common.{arith, take, ◌++◌}
-use Rattle.std.proofs.lemmas.Grind.{common_steps}
+use Rattle.std.proofs.{Common.{arith, take, ◌++◌}, lemmas.Grind.common_steps}
 use Rattle.argus_streams.proofs.input.read_up_to.Goals as goal
 
 pub loop-chunk-preserved : goal.loop-chunk-preserved

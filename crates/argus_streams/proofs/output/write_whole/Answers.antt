@@ -1,7 +1,5 @@
 -- Each write goes on where the one before it stopped.
-use Rattle.std.proofs.lemmas.Grind.{common_steps}
-use Rattle.std.proofs.Common.{length-drop, arith}
-use Rattle.std.proofs.lemmas.List.{take_rest}
+use Rattle.std.proofs.{lemmas.Grind.common_steps, Common.{length-drop, arith}, lemmas.List.take_rest}
 use Rattle.argus_streams.proofs.Bytes.{appends_more}
 use Rattle.argus_streams.specs.FailStop.{inner_of}
 use Rattle.argus_streams.proofs.output.write_whole.Goals as goal

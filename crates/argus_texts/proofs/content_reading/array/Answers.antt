@@ -1,11 +1,7 @@
 -- Where each part of an array stops.
-use Rattle.std.proofs.lemmas.Grind.{common_steps}
-use Rattle.std.proofs.Common.{sym, subst, arith, rules}
-use Rattle.std.proofs.lemmas.Result.{err_from_is_err_and}
-use Rattle.argus_texts.specs.Language.{Stops}
-use Rattle.argus_texts.specs.Languages.{Contents}
-use Rattle.argus_texts.proofs.Contents.{neither, low_stops, bracket_stops, items_stops}
-use Rattle.argus_texts.proofs.Exits.{passed}
+use Rattle.std.proofs.{lemmas.Grind.common_steps, Common.{sym, subst, arith, rules}, lemmas.Result.err_from_is_err_and}
+use Rattle.argus_texts.specs.{Language.Stops, Languages.Contents}
+use Rattle.argus_texts.proofs.{Contents.{neither, low_stops, bracket_stops, items_stops}, Exits.passed}
 use Rattle.argus_texts.proofs.content_reading.array.Goals as goal
 
 pub returns-in_err-low-clause-stops : goal.returns-in_err-low-clause-stops

@@ -1,10 +1,7 @@
 -- Where a record stops.
-use Rattle.std.proofs.Common.{[], ◌∷◌}
-use Rattle.std.proofs.lemmas.Result.{err_from_is_err_and}
+use Rattle.std.proofs.{Common.{[], ◌∷◌}, lemmas.Result.err_from_is_err_and}
 use Rattle.argus_texts.specs.Languages.{Contents, Insides}
-use Rattle.argus_texts.proofs.Contents.{record_brace}
-use Rattle.argus_texts.proofs.Exits.{passed}
-use Rattle.argus_texts.proofs.Stops.{stops_in}
+use Rattle.argus_texts.proofs.{Contents.record_brace, Exits.passed, Stops.stops_in}
 use Rattle.argus_texts.proofs.content_reading.one_content.Goals as goal
 
 pub returns-in_err-fields-clause-stops : goal.returns-in_err-fields-clause-stops

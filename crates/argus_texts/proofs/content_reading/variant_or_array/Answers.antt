@@ -1,10 +1,7 @@
 -- Where a variant stops.
-use Rattle.std.proofs.Common.{[], ◌∷◌}
-use Rattle.std.proofs.lemmas.Result.{err_from_is_err_and}
+use Rattle.std.proofs.{Common.{[], ◌∷◌}, lemmas.Result.err_from_is_err_and}
 use Rattle.argus_texts.specs.Languages.{Choices, Contents}
-use Rattle.argus_texts.proofs.Contents.{variant_angle}
-use Rattle.argus_texts.proofs.Exits.{passed}
-use Rattle.argus_texts.proofs.Stops.{stops_in}
+use Rattle.argus_texts.proofs.{Contents.variant_angle, Exits.passed, Stops.stops_in}
 use Rattle.argus_texts.proofs.content_reading.variant_or_array.Goals as goal
 
 pub returns-in_err-tag-clause-stops : goal.returns-in_err-tag-clause-stops

@@ -1,11 +1,8 @@
 -- The fault of the whole text.
 use Rattle.std.proofs.lemmas.Result.{err_from_is_err_and}
 use Rattle.argus_contents.specs.Content.{plain_content}
-use Rattle.argus_texts.specs.Fault.{IsContentText}
-use Rattle.argus_texts.specs.Languages.{Contents}
-use Rattle.argus_texts.proofs.Contents.{contents_clear, content_texts}
-use Rattle.argus_texts.proofs.Exits.{passed}
-use Rattle.argus_texts.proofs.Faults.{stopped, left_behind}
+use Rattle.argus_texts.specs.{Fault.IsContentText, Languages.Contents}
+use Rattle.argus_texts.proofs.{Contents.{contents_clear, content_texts}, Exits.passed, Faults.{stopped, left_behind}}
 use Rattle.argus_texts.proofs.content_reading.whole_content.Goals as goal
 
 pub returns-in_err-content-clause-stops : goal.returns-in_err-content-clause-stops

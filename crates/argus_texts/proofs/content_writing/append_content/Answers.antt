@@ -1,9 +1,7 @@
 -- A tag and its value were appended.
-use Rattle.std.proofs.lemmas.Grind.{common_steps}
-use Rattle.std.proofs.Common.{◌++◌, string_bytes, ap, sym, ◌∙◌, arith, rules}
+use Rattle.std.proofs.{lemmas.Grind.common_steps, Common.{◌++◌, string_bytes, ap, sym, ◌∙◌, arith, rules}}
 use Rattle.std.proofs.lemmas.Result.{IfOk-equal}
-use Rattle.argus_contents.specs.Content.{plain_content}
-use Rattle.argus_contents.specs.Value.{plain_value}
+use Rattle.argus_contents.specs.{Content.plain_content, Value.plain_value}
 use Rattle.argus_texts.specs.ContentSpelling.{content_spelling}
 use Rattle.argus_texts.proofs.Grown.{choice_step}
 use Rattle.argus_texts.proofs.content_writing.append_content.Goals as goal

@@ -1,8 +1,6 @@
 -- The items of both pieces were appended.
-use Rattle.std.proofs.lemmas.Grind.{common_steps}
-use Rattle.std.proofs.Common.{◌++◌, ◌∷◌, string_bytes, ap, sym, ◌∙◌, arith, rules}
-use Rattle.std.proofs.lemmas.List.{map-append}
-use Rattle.std.proofs.lemmas.Result.{IfOk-equal}
+use Rattle.std.proofs.{lemmas.Grind.common_steps, Common.{◌++◌, ◌∷◌, string_bytes, ap, sym, ◌∙◌, arith, rules}}
+use Rattle.std.proofs.{lemmas.List.map-append, lemmas.Result.IfOk-equal}
 use Rattle.argus_contents.specs.Value.{listed, plain_list, plain_value}
 use Rattle.argus_texts.specs.Spelling.{inside}
 use Rattle.argus_texts.proofs.Grown.{items_step}

@@ -1,6 +1,5 @@
 -- Answered outright, so that nothing is searched for.
-use Rattle.std.proofs.Common.{arith, rules}
-use Rattle.std.proofs.lemmas.Grind.{common_steps}
+use Rattle.std.proofs.{Common.{arith, rules}, lemmas.Grind.common_steps}
 use Rattle.argus_texts.proofs.content_writing.append_more.Goals as goal
 
 pub loop-value-init : goal.loop-value-init

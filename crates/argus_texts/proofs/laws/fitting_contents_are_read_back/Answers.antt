@@ -1,6 +1,5 @@
 -- What fits is as deep as the reader takes it, and is read back as such.
-use Rattle.argus_texts.proofs.Contents.{read_back}
-use Rattle.argus_texts.proofs.Fitting.{fitting_depth}
+use Rattle.argus_texts.proofs.{Contents.read_back, Fitting.fitting_depth}
 use Rattle.argus_texts.proofs.laws.fitting_contents_are_read_back.Goals as goal
 
 pub returns : goal.returns

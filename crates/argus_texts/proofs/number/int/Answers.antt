@@ -1,10 +1,7 @@
 -- An integer stops where its digits do.
-use Rattle.std.proofs.Common.{◌≢◌, [], ◌∷◌}
-use Rattle.std.proofs.lemmas.Result.{err_from_is_err_and}
+use Rattle.std.proofs.{Common.{◌≢◌, [], ◌∷◌}, lemmas.Result.err_from_is_err_and}
 use Rattle.argus_texts.specs.Languages.{Numbers, Ints}
-use Rattle.argus_texts.proofs.Digits.{minus, plain}
-use Rattle.argus_texts.proofs.Exits.{passed}
-use Rattle.argus_texts.proofs.Stops.{stops_in, stops_among}
+use Rattle.argus_texts.proofs.{Digits.{minus, plain}, Exits.passed, Stops.{stops_in, stops_among}}
 use Rattle.argus_texts.proofs.number.int.Goals as goal
 
 pub returns-in_err-number-clause-stops : goal.returns-in_err-number-clause-stops

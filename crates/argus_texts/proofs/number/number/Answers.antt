@@ -1,8 +1,7 @@
 -- Where a number stops.
 use Rattle.std.proofs.Common.{◌++◌, length, ap, sym, ◌∙◌, subst, inl, inr, arith}
 use Rattle.std.specs.Fmt.{decimal}
-use Rattle.argus_texts.specs.Language.{First, Stops}
-use Rattle.argus_texts.specs.Languages.{Numbers}
+use Rattle.argus_texts.specs.{Language.{First, Stops}, Languages.Numbers}
 use Rattle.argus_texts.proofs.Digits.{NoFirst, number_first_stops, number_digit_stops, one_digit, grown_step}
 use Rattle.argus_texts.proofs.Digits.{ascii_no_first}
 use Rattle.argus_texts.proofs.number.number.Goals as goal

@@ -1,7 +1,6 @@
 -- The digits passed so far are the number.
 use Rattle.std.proofs.Common.{◌≡◌, ◌≤◌, ◌++◌, length}
-use Rattle.std.specs.Fmt.{decimal}
-use Rattle.std.specs.Str.{IsUtf8}
+use Rattle.std.specs.{Fmt.decimal, Str.IsUtf8}
 use Rattle.argus_texts.proofs.number.number.Given as goal
 
 abbrev pub invariant-loop-next : goal.invariant-loop-next

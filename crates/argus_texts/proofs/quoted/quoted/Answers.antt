@@ -1,14 +1,9 @@
 -- What was read so far stands between the opening quote and the rest.
-use Rattle.std.proofs.lemmas.Grind.{common_steps}
-use Rattle.std.proofs.Common.{◌++◌, ◌∷◌, string_bytes, sym, ap, ◌∙◌, subst, arith, rules}
-use Rattle.std.proofs.lemmas.Result.{err_from_is_err_and}
-use Rattle.std.proofs.lemmas.Str.{IsUtf8-string_bytes}
-use Rattle.argus_texts.specs.Language.{Stops}
-use Rattle.argus_texts.specs.Languages.{Quoted}
-use Rattle.argus_texts.specs.Spelling.{escaped}
-use Rattle.argus_texts.proofs.Exits.{passed}
+use Rattle.std.proofs.{lemmas.Grind.common_steps, Common.{◌++◌, ◌∷◌, string_bytes, sym, ap, ◌∙◌, subst, arith, rules}}
+use Rattle.std.proofs.{lemmas.Result.err_from_is_err_and, lemmas.Str.IsUtf8-string_bytes}
+use Rattle.argus_texts.specs.{Language.Stops, Languages.Quoted, Spelling.escaped}
+use Rattle.argus_texts.proofs.{Exits.passed, Quotes.feed_here}
 use Rattle.argus_texts.proofs.Quotes.{feed_stops, escape_stops, quoted_reads, read_plain, read_escape, ends_here}
-use Rattle.argus_texts.proofs.Quotes.{feed_here}
 use Rattle.argus_texts.proofs.quoted.quoted.Goals as goal
 
 pub returns-in_default-clause-stops : goal.returns-in_default-clause-stops

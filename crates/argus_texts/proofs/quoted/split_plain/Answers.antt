@@ -1,6 +1,5 @@
 -- One more byte that is written as it is.
-use Rattle.std.proofs.lemmas.Grind.{common_steps}
-use Rattle.std.proofs.Common.{◌≡◌, ◌<◌, ◌∷◌, [], length, get_or, subst, arith, rules}
+use Rattle.std.proofs.{lemmas.Grind.common_steps, Common.{◌≡◌, ◌<◌, ◌∷◌, [], length, get_or, subst, arith, rules}}
 use Rattle.argus_texts.specs.Spelling.{escape}
 use Rattle.argus_texts.proofs.Quotes.{plain_step}
 use Rattle.argus_texts.proofs.quoted.split_plain.Goals as goal

@@ -1,18 +1,15 @@
 -- Where each part of a value stops.
 use Rattle.std.proofs.Common.{◌-◌, [], ◌∷◌, length, sym, ap, ◌∙◌, subst, inl, inr}
-use Rattle.std.specs.Prelude.{codes}
 use Rattle.std.proofs.lemmas.Result.{err_from_is_err_and, IfErr-weaker}
+use Rattle.std.specs.Prelude.{codes}
 use Rattle.argus_contents.specs.Value.{plain_value, plain_list}
 use Rattle.argus_texts.specs.Language.{First, Stops}
-use Rattle.argus_texts.specs.Languages.{BeginsInt, Choices, Ints, Insides, Numbers, Quoted, Values}
-use Rattle.argus_texts.specs.Languages.{Word}
-use Rattle.argus_texts.proofs.Choices.{tag_stops, colon_stops, part_stops, angle_stops}
-use Rattle.argus_texts.proofs.Exits.{passed}
+use Rattle.argus_texts.specs.Languages.{BeginsInt, Choices, Ints, Insides, Numbers, Quoted, Values, Word}
+use Rattle.argus_texts.proofs.{Choices.{tag_stops, colon_stops, part_stops, angle_stops}, Exits.passed}
 use Rattle.argus_texts.proofs.Items.{NoEnd, first_stops, comma_stops, no_end_stops, no_ascii_end, inside_stops}
-use Rattle.argus_texts.proofs.Items.{deep_stops, closes, goes_on, one_more}
-use Rattle.argus_texts.proofs.Stops.{stops_in, stops_among}
-use Rattle.argus_texts.proofs.Values.{null_word, true_word, false_word, quote, at_sign, integer, bracket}
-use Rattle.argus_texts.proofs.Values.{brace, angle, first_other, other_stops, no_ascii_other}
+use Rattle.argus_texts.proofs.{Items.{deep_stops, closes, goes_on, one_more}, Stops.{stops_in, stops_among}}
+use Rattle.argus_texts.proofs.Values.{null_word, true_word, false_word, quote, at_sign, integer, bracket, brace, angle}
+use Rattle.argus_texts.proofs.Values.{first_other, other_stops, no_ascii_other}
 use Rattle.argus_texts.proofs.reading.+reading.Goals as goal
 
 pub choice-returns-in_err-tag-clause-stops : goal.choice-returns-in_err-tag-clause-stops

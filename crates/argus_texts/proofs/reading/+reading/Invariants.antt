@@ -2,8 +2,7 @@
 use Rattle.std.proofs.Common.{ℕ, ◌+◌, ◌*◌, length}
 use Rattle.std.specs.Str.{IsUtf8}
 use Rattle.argus_contents.specs.Value.{plain_list}
-use Rattle.argus_texts.specs.Language.{Stops}
-use Rattle.argus_texts.specs.Languages.{Items}
+use Rattle.argus_texts.specs.{Language.Stops, Languages.Items}
 use Rattle.argus_texts.proofs.Items.{Going}
 use Rattle.argus_texts.proofs.reading.+reading.Given as goal
 

@@ -1,12 +1,8 @@
 -- The fault of the whole text.
 use Rattle.std.proofs.lemmas.Result.{err_from_is_err_and}
 use Rattle.argus_contents.specs.Value.{plain_value}
-use Rattle.argus_texts.specs.Fault.{IsValueText}
-use Rattle.argus_texts.specs.Languages.{Values}
-use Rattle.argus_texts.proofs.Accepted.{value_texts}
-use Rattle.argus_texts.proofs.Exits.{passed}
-use Rattle.argus_texts.proofs.Faults.{stopped, left_behind}
-use Rattle.argus_texts.proofs.Forms.{values_clear}
+use Rattle.argus_texts.specs.{Fault.IsValueText, Languages.Values}
+use Rattle.argus_texts.proofs.{Accepted.value_texts, Exits.passed, Faults.{stopped, left_behind}, Forms.values_clear}
 use Rattle.argus_texts.proofs.reading.whole_value.Goals as goal
 
 pub returns-in_err-value-clause-stops : goal.returns-in_err-value-clause-stops

@@ -1,6 +1,5 @@
 -- A text may be cut behind an ASCII byte.
-use Rattle.std.proofs.Common.{length, get_or, sym, ap, ◌∙◌, arith}
-use Rattle.std.proofs.lemmas.Str.{IsCharBoundary-after_ascii}
+use Rattle.std.proofs.{Common.{length, get_or, sym, ap, ◌∙◌, arith}, lemmas.Str.IsCharBoundary-after_ascii}
 use Rattle.argus_texts.proofs.scan.split_ascii.Goals as goal
 
 pub range_from-requires : goal.range_from-requires

@@ -1,9 +1,7 @@
 -- The text leaves the word.
-use Rattle.std.proofs.lemmas.Grind.{common_steps}
-use Rattle.std.proofs.Common.{◌<◌, length, get_or, subst, sym, ap, arith, rules}
+use Rattle.std.proofs.{lemmas.Grind.common_steps, Common.{◌<◌, length, get_or, subst, sym, ap, arith, rules}}
 use Rattle.argus_texts.specs.Language.{IsNot}
-use Rattle.argus_texts.proofs.Lists.{ascii_at, no_ascii_not}
-use Rattle.argus_texts.proofs.Stops.{word_stops}
+use Rattle.argus_texts.proofs.{Lists.{ascii_at, no_ascii_not}, Stops.word_stops}
 use Rattle.argus_texts.proofs.scan.word.Goals as goal
 
 pub returns-in_default-clause-stops : goal.returns-in_default-clause-stops

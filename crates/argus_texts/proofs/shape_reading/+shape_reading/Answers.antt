@@ -1,11 +1,9 @@
 -- Where no type, no field and no list comes, and what is read of a list.
-use Rattle.std.proofs.Common.{◌-◌, ◌∷◌, map, inl, refl, ap, ◌∙◌, subst, sym, arith, rules}
-use Rattle.std.proofs.lemmas.List.{map-append}
+use Rattle.std.proofs.{Common.{◌-◌, ◌∷◌, map, inl, refl, ap, ◌∙◌, subst, sym, arith, rules}, lemmas.List.map-append}
 use Rattle.std.proofs.lemmas.Result.{err_from_is_err_and}
 use Rattle.argus_contents.specs.Ty.{plain_field, plain_ty}
 use Rattle.argus_texts.specs.Language.{First}
-use Rattle.argus_texts.proofs.Exits.{refused}
-use Rattle.argus_texts.proofs.Items.{NoEnd, no_ascii_end}
+use Rattle.argus_texts.proofs.{Exits.refused, Items.{NoEnd, no_ascii_end}}
 use Rattle.argus_texts.proofs.ShapeParts.{not_closed, no_name_no_field, no_ty_no_field, no_field_no_list}
 use Rattle.argus_texts.proofs.ShapeParts.{no_end_no_list, no_more, comma_goes_on, goes_on, closes}
 use Rattle.argus_texts.proofs.shape_reading.+shape_reading.Goals as goal

@@ -1,10 +1,8 @@
 -- How far down the calls go, and what was read so far.
 use Rattle.std.proofs.Common.{◌+◌, ◌-◌, ◌*◌, map}
 use Rattle.std.specs.Str.{IsUtf8}
-use Rattle.argus_contents.specs.Ty.{plain_field}
-use Rattle.argus_contents.specs.declared.limits.TheConstants.{MAX_NAMES}
-use Rattle.argus_texts.specs.Language.{Starts}
-use Rattle.argus_texts.specs.ShapeLanguages.{IsList, Lists}
+use Rattle.argus_contents.specs.{Ty.plain_field, declared.limits.TheConstants.MAX_NAMES}
+use Rattle.argus_texts.specs.{Language.Starts, ShapeLanguages.{IsList, Lists}}
 use Rattle.argus_texts.proofs.ShapeParts.{Going}
 use Rattle.argus_texts.proofs.shape_reading.+shape_reading.Given as goal
 

@@ -1,6 +1,5 @@
 -- Where no name comes.
-use Rattle.std.proofs.lemmas.Grind.{common_steps}
-use Rattle.std.proofs.Common.{Some, None, Err, ap, lit<, arith, rules}
+use Rattle.std.proofs.{lemmas.Grind.common_steps, Common.{Some, None, Err, ap, lit<, arith, rules}}
 use Rattle.std.proofs.lemmas.Str.Pattern.{split_parts}
 use Rattle.argus_texts.proofs.ShapeParts.{no_name, bad_name}
 use Rattle.argus_texts.proofs.shape_reading.one_name.Goals as goal

@@ -1,10 +1,7 @@
 -- Where no shape comes.
-use Rattle.std.proofs.Common.{◌++◌, codes, ap, ◌∙◌, rules}
-use Rattle.std.proofs.lemmas.Result.{err_from_is_err_and}
-use Rattle.argus_contents.specs.Shape.{rec, arr, var}
-use Rattle.argus_contents.specs.Ty.{plain_fields, plain_ty}
-use Rattle.argus_texts.proofs.Exits.{refused}
-use Rattle.argus_texts.proofs.ShapeParts.{no_record, no_array, no_variant, no_word, at_fault}
+use Rattle.std.proofs.{Common.{◌++◌, codes, ap, ◌∙◌, rules}, lemmas.Result.err_from_is_err_and}
+use Rattle.argus_contents.specs.{Shape.{rec, arr, var}, Ty.{plain_fields, plain_ty}}
+use Rattle.argus_texts.proofs.{Exits.refused, ShapeParts.{no_record, no_array, no_variant, no_word, at_fault}}
 use Rattle.argus_texts.proofs.shape_reading.one_shape.Goals as goal
 
 pub returns-in_err-fields-clause-refused : goal.returns-in_err-fields-clause-refused

@@ -1,7 +1,6 @@
 -- Where the whole text is no shape's.
 use Rattle.std.proofs.lemmas.Result.{err_from_is_err_and}
-use Rattle.argus_texts.proofs.Exits.{refused}
-use Rattle.argus_texts.proofs.ShapeParts.{no_shape_text, more_than_shape}
+use Rattle.argus_texts.proofs.{Exits.refused, ShapeParts.{no_shape_text, more_than_shape}}
 use Rattle.argus_texts.proofs.shape_reading.whole_shape.Goals as goal
 
 pub returns-in_err-shape-clause-refused : goal.returns-in_err-shape-clause-refused

@@ -1,8 +1,7 @@
 -- What is left completes the text.
 use Rattle.std.proofs.Common.{◌≡◌, ◌++◌, drop, string_bytes}
 use Rattle.argus_contents.specs.Ty.{plain_fields}
-use Rattle.argus_texts.specs.Grown.{Grew}
-use Rattle.argus_texts.specs.ShapeSpelling.{names_behind, names_inside}
+use Rattle.argus_texts.specs.{Grown.Grew, ShapeSpelling.{names_behind, names_inside}}
 use Rattle.argus_texts.proofs.shape_writing.+shape_writing.Given as goal
 
 abbrev pub invariant-append_names-loop-name : goal.invariant-append_names-loop-name

@@ -1,6 +1,5 @@
 -- A tag and its value were appended.
-use Rattle.std.proofs.Common.{◌++◌, string_bytes, ap, sym, ◌∙◌}
-use Rattle.std.proofs.lemmas.Result.{IfOk-equal}
+use Rattle.std.proofs.{Common.{◌++◌, string_bytes, ap, sym, ◌∙◌}, lemmas.Result.IfOk-equal}
 use Rattle.argus_contents.specs.Value.{plain_value, choice}
 use Rattle.argus_contents.proofs.Levels.{plain_value-Choice}
 use Rattle.argus_texts.specs.Spelling.{spelling}

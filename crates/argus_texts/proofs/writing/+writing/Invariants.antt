@@ -1,8 +1,7 @@
 -- What is left completes the text.
 use Rattle.std.proofs.Common.{◌≡◌, ◌++◌, drop, string_bytes}
 use Rattle.argus_contents.specs.Value.{listed, plain_list}
-use Rattle.argus_texts.specs.Spelling.{inside, behind}
-use Rattle.argus_texts.specs.Grown.{Grew}
+use Rattle.argus_texts.specs.{Spelling.{inside, behind}, Grown.Grew}
 use Rattle.argus_texts.proofs.writing.+writing.Given as goal
 
 abbrev pub invariant-append_inside-loop-value : goal.invariant-append_inside-loop-value

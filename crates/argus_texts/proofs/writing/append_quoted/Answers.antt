@@ -1,6 +1,5 @@
 -- A plain piece and an escape were appended.
-use Rattle.std.proofs.lemmas.Grind.{common_steps}
-use Rattle.std.proofs.Common.{◌++◌, ◌∷◌, [], string_bytes, ap, ◌∙◌, arith, rules}
+use Rattle.std.proofs.{lemmas.Grind.common_steps, Common.{◌++◌, ◌∷◌, [], string_bytes, ap, ◌∙◌, arith, rules}}
 use Rattle.argus_texts.specs.Spelling.{escaped}
 use Rattle.argus_texts.proofs.Grown.{grew_more, quoted_step}
 use Rattle.argus_texts.proofs.writing.append_quoted.Goals as goal

@@ -1,8 +1,7 @@
 -- What is left completes the text.
 use Rattle.std.proofs.Common.{◌≡◌, ◌++◌, ◌∷◌, [], length, string_bytes}
 use Rattle.std.specs.Str.{IsUtf8}
-use Rattle.argus_texts.specs.Grown.{Grew}
-use Rattle.argus_texts.specs.Spelling.{escaped}
+use Rattle.argus_texts.specs.{Grown.Grew, Spelling.escaped}
 use Rattle.argus_texts.proofs.writing.append_quoted.Given as goal
 
 abbrev pub invariant-loop-first : goal.invariant-loop-first

@@ -1,6 +1,5 @@
 -- Answered outright, so that nothing is searched for.
-use Rattle.std.proofs.Common.{arith, rules}
-use Rattle.std.proofs.lemmas.Grind.{common_steps}
+use Rattle.std.proofs.{Common.{arith, rules}, lemmas.Grind.common_steps}
 use Rattle.argus_texts.proofs.writing.append_tag.Goals as goal
 
 pub returns-in_err-append-clause-grew : goal.returns-in_err-append-clause-grew

@@ -1,8 +1,6 @@
 -- What clap's matches of the words are, and their faults.
-use Rattle.std.proofs.Common.{ap, ap₂, codes, map, rules, string_bytes}
-use Rattle.std.proofs.Common.{subst, sym, ◌∙◌, ◌∷◌, ◌≡◌}
-use Rattle.clap.specs.Words.{HasKind, fault_of, first_of, found_of, is_simple}
-use Rattle.clap.specs.Words.{is_simple_and_free, matches_of, rows_of}
+use Rattle.std.proofs.Common.{ap, ap₂, codes, map, rules, string_bytes, subst, sym, ◌∙◌, ◌∷◌, ◌≡◌}
+use Rattle.clap.specs.Words.{HasKind, fault_of, first_of, found_of, is_simple, is_simple_and_free, matches_of, rows_of}
 use Rattle.argus_usage.specs.ScriptOption.{script_program}
 use Rattle.argus_usage.proofs.Free.{script_program_is_free, script_program_is_simple}
 use Rattle.clap.proofs.WalkLemmas.{first_value-rows}

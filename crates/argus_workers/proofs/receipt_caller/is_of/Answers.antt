@@ -1,6 +1,5 @@
 -- The test tells where the receipt's call is this call.
-use Rattle.argus_entries.specs.Call.{plain_call}
-use Rattle.argus_entries.specs.Decided.{call_answered}
+use Rattle.argus_entries.specs.{Call.plain_call, Decided.call_answered}
 use Rattle.argus_workers.proofs.receipt_caller.is_of.Goals as goal
 
 pub returns : goal.returns

@@ -1,8 +1,6 @@
 -- Which sharing this is.
-use Rattle.argus_guardian.specs.Keeper.{history_of, next_right_of}
-use Rattle.argus_journal.specs.Opening.{content_in}
-use Rattle.argus_guardian.specs.Following.{journal_bases, journal_effects}
-use Rattle.argus_journal.specs.JournalView.{next_entry}
+use Rattle.argus_guardian.specs.{Keeper.{history_of, next_right_of}, Following.{journal_bases, journal_effects}}
+use Rattle.argus_journal.specs.{Opening.content_in, JournalView.next_entry}
 use Rattle.guardian_tests.proofs.sharing.share.Given as goal
 
 abbrev pub ghosts-share_as-N-Ledger : goal.ghosts-share_as-N-Ledger

@@ -1,12 +1,8 @@
 -- All below a live sibling are Aborted.
-use Rattle.std.proofs.Common.{◌≡◌, List, length, true, subst, sym, ap, arith}
-use Rattle.std.proofs.lemmas.List.{with_items_is}
-use Rattle.argus_actions.specs.declared.node.Node.{Node}
-use Rattle.argus_actions.specs.declared.status.Status.TheVariants.{Aborted}
+use Rattle.std.proofs.{Common.{◌≡◌, List, length, true, subst, sym, ap, arith}, lemmas.List.with_items_is}
+use Rattle.argus_actions.specs.{declared.node.Node.Node, declared.status.Status.TheVariants.Aborted, Nodes.rows_of}
 use Rattle.argus_actions.specs.Rows.{mark, has_ancestor, is_live_at, is_live_sibling_of}
-use Rattle.argus_actions.specs.Nodes.{rows_of}
-use Rattle.argus_actions.proofs.Accepted.{accepted_live, none_first}
-use Rattle.argus_actions.proofs.InStep.{ancestor_down, in_step_aborted}
+use Rattle.argus_actions.proofs.{Accepted.{accepted_live, none_first}, InStep.{ancestor_down, in_step_aborted}}
 use Rattle.argus_actions.proofs.action_tree.ActionTree.abort_others_ready.Goals as goal
 
 pub abort_siblings-requires-clause-live : goal.abort_siblings-requires-clause-live

@@ -1,12 +1,8 @@
 -- Who may end was begun, and is not folded.
-use Rattle.std.proofs.Common.{◌≡◌, List, length, subst, ap, arith}
-use Rattle.std.proofs.lemmas.List.{with_items_is}
-use Rattle.argus_actions.specs.declared.node.Node.{Node}
-use Rattle.argus_actions.specs.declared.status.Status.TheVariants.{Aborted}
+use Rattle.std.proofs.{Common.{◌≡◌, List, length, subst, ap, arith}, lemmas.List.with_items_is}
+use Rattle.argus_actions.specs.{declared.node.Node.Node, declared.status.Status.TheVariants.Aborted, Nodes.rows_of}
 use Rattle.argus_actions.specs.Rows.{is_above, mark}
-use Rattle.argus_actions.specs.Nodes.{rows_of}
-use Rattle.argus_actions.proofs.InStep.{above_down, in_step_aborted}
-use Rattle.argus_actions.proofs.NodesLemmas.{length-rows_of}
+use Rattle.argus_actions.proofs.{InStep.{above_down, in_step_aborted}, NodesLemmas.length-rows_of}
 use Rattle.argus_actions.proofs.Accepted.{live_is_begun}
 use Rattle.argus_actions.proofs.action_tree.ActionTree.abort_ready.Goals as goal
 

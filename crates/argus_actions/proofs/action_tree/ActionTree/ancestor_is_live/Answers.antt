@@ -1,10 +1,7 @@
 -- The law, from what is so of all rows.
 use Rattle.std.proofs.Common.{subst}
-use Rattle.argus_actions.specs.Rows.{AreInStep}
-use Rattle.argus_actions.specs.Tree.{Tree}
-use Rattle.argus_actions.specs.Nodes.{AreLinked}
-use Rattle.argus_actions.proofs.InStep.{live_above}
-use Rattle.argus_actions.proofs.Accepted.{live_status, status_live}
+use Rattle.argus_actions.specs.{Rows.AreInStep, Tree.Tree, Nodes.AreLinked}
+use Rattle.argus_actions.proofs.{InStep.live_above, Accepted.{live_status, status_live}}
 use Rattle.argus_actions.proofs.action_tree.ActionTree.ancestor_is_live.Goals as goal
 
 pub returns : goal.returns

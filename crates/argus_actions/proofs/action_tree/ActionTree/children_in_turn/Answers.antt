@@ -1,12 +1,9 @@
 -- Each link leads to the greatest number below.
 use Rattle.std.proofs.Common.{Option, sym, subst, ◌∙◌, ap}
 use Rattle.std.specs.Option.{option_and_then}
-use Rattle.argus_actions.specs.declared.action_id.ActionId.{ActionId}
-use Rattle.argus_actions.specs.Row.{Row, under_of, is_begun_under}
-use Rattle.argus_actions.specs.Rows.{newest_child_below, is_child_of}
-use Rattle.argus_actions.specs.Tree.{next, named, IsGreatestBelow}
-use Rattle.argus_actions.proofs.Newest.{came_row, newest_where_greatest}
-use Rattle.argus_actions.proofs.Siblings.{comes_under}
+use Rattle.argus_actions.specs.{declared.action_id.ActionId.ActionId, Row.{Row, under_of, is_begun_under}}
+use Rattle.argus_actions.specs.{Rows.{newest_child_below, is_child_of}, Tree.{next, named, IsGreatestBelow}}
+use Rattle.argus_actions.proofs.{Newest.{came_row, newest_where_greatest}, Siblings.comes_under}
 use Rattle.argus_actions.proofs.action_tree.ActionTree.children_in_turn.Goals as goal
 
 pub returns-clause-newest : goal.returns-clause-newest

@@ -1,12 +1,8 @@
 -- Who may end was begun, and is not folded.
-use Rattle.std.proofs.Common.{◌≡◌, List, length, eqb, subst, ap, arith}
-use Rattle.std.proofs.lemmas.List.{with_items_is}
-use Rattle.argus_actions.specs.declared.node.Node.{Node}
-use Rattle.argus_actions.specs.declared.status.Status.TheVariants.{Committed}
-use Rattle.argus_actions.specs.Rows.{mark}
+use Rattle.std.proofs.{Common.{◌≡◌, List, length, eqb, subst, ap, arith}, lemmas.List.with_items_is}
+use Rattle.argus_actions.specs.{declared.node.Node.Node, declared.status.Status.TheVariants.Committed, Rows.mark}
 use Rattle.argus_actions.specs.Nodes.{rows_of}
-use Rattle.argus_actions.proofs.InStep.{in_step_committed}
-use Rattle.argus_actions.proofs.NodesLemmas.{length-rows_of}
+use Rattle.argus_actions.proofs.{InStep.in_step_committed, NodesLemmas.length-rows_of}
 use Rattle.argus_actions.proofs.Accepted.{none_first, live_is_begun, commit_accepted}
 use Rattle.argus_actions.proofs.action_tree.ActionTree.commit_ready.Goals as goal
 

@@ -1,9 +1,7 @@
 -- The count of ancestors is the node's; an action is one of its own.
 use Rattle.std.proofs.Common.{◌≡◌, ◌≤◌, ℕ, Option, Some, None, IfSome, refl, subst, sym, rules}
 use Rattle.std.specs.Option.{option_map}
-use Rattle.argus_actions.specs.Row.{Row}
-use Rattle.argus_actions.specs.Rows.{depth_at}
-use Rattle.argus_actions.specs.Tree.{Tree, depth_of, row_of}
+use Rattle.argus_actions.specs.{Row.Row, Rows.depth_at, Tree.{Tree, depth_of, row_of}}
 use Rattle.argus_actions.proofs.RowsLemmas.{depth_at_least}
 use Rattle.argus_actions.proofs.action_tree.ActionTree.depth.Goals as goal
 

@@ -1,6 +1,5 @@
 -- Who was not begun, or is folded, has no ancestor.
-use Rattle.std.proofs.Common.{sym, ◌∙◌, arith}
-use Rattle.std.proofs.lemmas.Bool.{le-ltb}
+use Rattle.std.proofs.{Common.{sym, ◌∙◌, arith}, lemmas.Bool.le-ltb}
 use Rattle.argus_actions.specs.Nodes.{rows_of}
 use Rattle.argus_actions.proofs.RowsLemmas.{is_above_past, is_above_low}
 use Rattle.argus_actions.proofs.action_tree.ActionTree.is_ancestor.Goals as goal

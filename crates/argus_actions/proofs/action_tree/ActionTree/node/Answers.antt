@@ -1,13 +1,9 @@
 -- The node of an action, and where its links lead; an action that wasn't begun, or is folded, has none.
 use Rattle.std.proofs.Common.{◌+◌, ◌-◌, length, None, Some, subst, sym, ap, ◌∙◌, arith, inl, inr}
 use Rattle.std.specs.Option.{option_and_then}
-use Rattle.argus_actions.specs.declared.node.Node.{Node}
-use Rattle.argus_actions.specs.Row.{Row, at_parent, under_of}
-use Rattle.argus_actions.specs.Rows.{newest_below, newest_child_below}
-use Rattle.argus_actions.specs.Tree.{named}
-use Rattle.argus_actions.specs.Nodes.{row_of_node, rows_of, IsNode}
-use Rattle.argus_actions.proofs.RowsLemmas.{numbered_low}
-use Rattle.argus_actions.proofs.NodesLemmas.{length-rows_of, row_at, no_row_at}
+use Rattle.argus_actions.specs.{declared.node.Node.Node, Row.{Row, at_parent, under_of}, Tree.named}
+use Rattle.argus_actions.specs.{Rows.{newest_below, newest_child_below}, Nodes.{row_of_node, rows_of, IsNode}}
+use Rattle.argus_actions.proofs.{RowsLemmas.numbered_low, NodesLemmas.{length-rows_of, row_at, no_row_at}}
 use Rattle.argus_actions.proofs.Begun.{live_count_none, newest_below_none, newest_child_none}
 use Rattle.argus_actions.proofs.Links.{newest_end, older_end, newest_child_end, older_child_end}
 use Rattle.argus_actions.proofs.action_tree.ActionTree.node.Goals as goal

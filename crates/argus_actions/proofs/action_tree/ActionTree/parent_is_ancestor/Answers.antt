@@ -1,7 +1,6 @@
 -- The law, from what is so of all nodes.
 use Rattle.std.proofs.Common.{◌≡◌, Some, sym, subst}
-use Rattle.argus_actions.specs.Nodes.{rows_of}
-use Rattle.argus_actions.specs.Tree.{Tree, parent_of}
+use Rattle.argus_actions.specs.{Nodes.rows_of, Tree.{Tree, parent_of}}
 use Rattle.argus_actions.proofs.Parents.{parent_above}
 use Rattle.argus_actions.proofs.action_tree.ActionTree.parent_is_ancestor.Goals as goal
 

@@ -1,13 +1,10 @@
 -- Each link leads to the greatest number below.
 use Rattle.std.proofs.Common.{Option, None, sym, subst, ◌∙◌, ap}
 use Rattle.std.specs.Option.{option_and_then}
-use Rattle.argus_actions.specs.declared.action_id.ActionId.{ActionId}
-use Rattle.argus_actions.specs.declared.origin.Origin.{Origin}
-use Rattle.argus_actions.specs.Row.{Row, at_parent, is_sub_of}
-use Rattle.argus_actions.specs.Rows.{newest_below, is_sub_at}
+use Rattle.argus_actions.specs.{declared.action_id.ActionId.ActionId, declared.origin.Origin.Origin}
+use Rattle.argus_actions.specs.{Row.{Row, at_parent, is_sub_of}, Rows.{newest_below, is_sub_at}}
 use Rattle.argus_actions.specs.Tree.{next, named, IsGreatestBelow}
-use Rattle.argus_actions.proofs.Newest.{came_row, newest_where_greatest}
-use Rattle.argus_actions.proofs.Walks.{sub_of}
+use Rattle.argus_actions.proofs.{Newest.{came_row, newest_where_greatest}, Walks.sub_of}
 use Rattle.argus_actions.proofs.action_tree.ActionTree.subs_in_turn.Goals as goal
 
 pub returns-clause-newest : goal.returns-clause-newest

@@ -1,6 +1,5 @@
 -- What was linked is kept.
-use Rattle.std.proofs.Common.{arith, length, reverse, subst, sym, ◌≡◌}
-use Rattle.std.proofs.lemmas.List.{with_items_is}
+use Rattle.std.proofs.{Common.{arith, length, reverse, subst, sym, ◌≡◌}, lemmas.List.with_items_is}
 use Rattle.argus_audit.specs.Writes.{AreHeads, AreLinks}
 use Rattle.argus_journal.specs.Journal.{entries_of}
 use Rattle.argus_audit.proofs.writes.Writes.of.Goals as goal

@@ -2,15 +2,12 @@
 use Rattle.std.proofs.Common.{[], ap, refl, sym, ◌++◌, ◌∙◌, ◌∷◌, ◌≡◌}
 use Rattle.left_right.specs.Sides.{view}
 use Rattle.argus_contents.specs.Effect.{plain_effect}
-use Rattle.argus_board.specs.HistoryPrefix.{line_of}
-use Rattle.argus_board.specs.Published.{effects_in, shown_effects, unseen}
+use Rattle.argus_board.specs.{HistoryPrefix.line_of, Published.{effects_in, shown_effects, unseen}}
 use Rattle.argus_board.specs.declared.board_change.BoardChange.TheVariants.{Leaves}
-use Rattle.argus_board.proofs.Changes.{leaf_some, leaf_whole}
-use Rattle.argus_board.proofs.Prefixes.{begins_more}
+use Rattle.argus_board.proofs.{Changes.{leaf_some, leaf_whole}, Prefixes.begins_more}
 use Rattle.argus_board.proofs.Tables.{none_of, some_of, tables_kept}
+use Rattle.argus_board.proofs.board_writer.BoardWriter.append.Goals.{in-None, in-Some+in_ok-append_change-in-Some}
 use Rattle.argus_board.proofs.board_writer.BoardWriter.append.Goals as goal
-use Rattle.argus_board.proofs.board_writer.BoardWriter.append.Goals.{in-None}
-use Rattle.argus_board.proofs.board_writer.BoardWriter.append.Goals.{in-Some+in_ok-append_change-in-Some}
 
 pub invariant_of-self-2 : goal.invariant_of-self-2
 invariant_of-self-2 g c =

@@ -2,12 +2,9 @@
 use Rattle.std.proofs.Common.{List, ap, drop, length, sym, ℕ, ◌++◌, ◌∙◌, ◌≡◌}
 use mathlib.Core.List.{IsPrefix}
 use Rattle.argus_contents.specs.Effect.{Effect}
-use Rattle.argus_board.specs.BoardView.{BoardView}
-use Rattle.argus_board.specs.HistoryPrefix.{line_of}
-use Rattle.argus_board.specs.Published.{unseen_effects}
+use Rattle.argus_board.specs.{BoardView.BoardView, HistoryPrefix.line_of, Published.unseen_effects}
 use Rattle.argus_board.specs.declared.history_prefix.HistoryPrefix.{HistoryPrefix}
-use Rattle.argus_board.proofs.Prefixes.{behind, begins_behind, left_behind}
-use Rattle.argus_board.proofs.Tables.{if_err, some_of}
+use Rattle.argus_board.proofs.{Prefixes.{behind, begins_behind, left_behind}, Tables.{if_err, some_of}}
 use Rattle.argus_board.proofs.board_writer.BoardWriter.brief.Goals as goal
 
 former : (before seen known shown : List Effect) (places : ℕ) (board : BoardView) (looker : List Effect)

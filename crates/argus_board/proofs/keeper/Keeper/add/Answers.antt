@@ -2,8 +2,7 @@
 use Rattle.std.proofs.Common.{List, ap, sym, ℕ, ◌++◌, ◌∙◌}
 use Rattle.argus_board.proofs.History.{add_moves, line_adds}
 use Rattle.argus_contents.specs.Effect.{Effect}
-use Rattle.argus_board.specs.declared.page.Page.{Page}
-use Rattle.argus_board.specs.History.{line}
+use Rattle.argus_board.specs.{declared.page.Page.Page, History.line}
 use Rattle.argus_board.proofs.keeper.Keeper.add.Goals as goal
 
 pub compare_exchange-requires : goal.compare_exchange-requires

@@ -1,11 +1,9 @@
 -- While the right is unused, all that anyone saw of the line is a beginning of it.
 use Rattle.std.proofs.Common.{List, ap, subst, sym, ℕ, ◌∙◌}
 use mathlib.Core.List.{IsPrefix}
-use Rattle.argus_board.proofs.History.{hold_moves, line_begins, line_stands}
-use Rattle.argus_board.proofs.Prefixes.{begins_later}
+use Rattle.argus_board.proofs.{History.{hold_moves, line_begins, line_stands}, Prefixes.begins_later}
 use Rattle.argus_contents.specs.Effect.{Effect}
-use Rattle.argus_board.specs.declared.page.Page.{Page}
-use Rattle.argus_board.specs.History.{line}
+use Rattle.argus_board.specs.{declared.page.Page.Page, History.line}
 use Rattle.argus_board.proofs.keeper.Keeper.covers.Goals as goal
 
 pub compare_exchange-requires : goal.compare_exchange-requires

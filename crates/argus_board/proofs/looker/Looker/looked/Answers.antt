@@ -1,10 +1,8 @@
 -- The place sees all that is published, and what was copied is what these effects leave.
 use Rattle.std.proofs.Common.{ap, sym, ◌∙◌, ◌≡◌}
-use Rattle.argus_board.specs.Effects.{contents_after, plain_contents}
-use Rattle.argus_board.specs.HistoryPrefix.{line_of}
+use Rattle.argus_board.specs.{Effects.{contents_after, plain_contents}, HistoryPrefix.line_of}
 use Rattle.argus_board.specs.declared.table.Table.{Table}
-use Rattle.argus_board.proofs.Contents.{looked_up}
-use Rattle.argus_board.proofs.Rule.{looks}
+use Rattle.argus_board.proofs.{Contents.looked_up, Rule.looks}
 use Rattle.argus_board.proofs.looker.Looker.looked.Goals as goal
 
 pub enter_as-requires : goal.enter_as-requires

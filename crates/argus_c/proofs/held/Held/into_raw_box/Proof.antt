@@ -1,14 +1,14 @@
 -- `into_raw_box` moves two fields, and what they own goes with them.
 use Rattle.argus_c.proofs.Boxes.{some_of, guardian_box as E}
-use Rattle.argus_c.proofs.Entering.{at_word}
-use Rattle.argus_c.proofs.Steps.{ !, B, D, Goes-dropped, IsSome, Option, Slot, Stays, [], agg, alloc_all, and_then, box_typed}
-use Rattle.argus_c.proofs.Steps.{by, done, drop, ends_at, enter, fact, fjoin, fld, free_all, fsep, fsplit, ftrue, get, get_in}
-use Rattle.argus_c.proofs.Steps.{heard, id⊢, join, look_at, move, no_more, nothing, of_opd, pass_all, plain, proved_at, qed}
-use Rattle.argus_c.proofs.Steps.{raw, refl, returns, rewrite, says, sets, split, stay_dropped, stop, sub, suffices, sym}
-use Rattle.argus_c.proofs.Steps.{tables, type_at, use1, walk_of, whole, word, yes, ‵, ◌$◌, ◌∵◌, ◌∷◌, ◌⊛◌}
+use Rattle.argus_c.proofs.{Entering.at_word, Steps.{yes, ‵, ◌$◌, ◌∵◌, ◌∷◌, ◌⊛◌}}
+use Rattle.argus_c.proofs.Steps.{!, B, D, Goes-dropped, IsSome, Option, Slot, Stays, [], agg, alloc_all, and_then}
+use Rattle.argus_c.proofs.Steps.{box_typed, by, done, drop, ends_at, enter, fact, fjoin, fld, free_all, fsep, fsplit}
+use Rattle.argus_c.proofs.Steps.{ftrue, get, get_in, heard, id⊢, join, look_at, move, no_more, nothing, of_opd}
+use Rattle.argus_c.proofs.Steps.{pass_all, plain, proved_at, qed, raw, refl, returns, rewrite, says, sets, split}
+use Rattle.argus_c.proofs.Steps.{stay_dropped, stop, sub, suffices, sym, tables, type_at, use1, walk_of, whole, word}
+use Rattle.argus_c.proofs.held.Held.into_raw_box.Statement.{statement}
 use Rattle.argus_c.specs.contracts.held.Held as C
 use Rattle.argus_c.specs.contracts.held.Held.into_raw_box as F
-use Rattle.argus_c.proofs.held.Held.into_raw_box.Statement.{statement}
 use Rattle.argus_c.proofs.held.Held.into_raw_box.Code as code
 
 abbrev From : Slot 0

@@ -1,13 +1,12 @@
 -- `of_raw_box` moves two fields, and what they own goes with them.
 use Rattle.argus_c.proofs.Boxes.{parts_of, guardian_box as E}
-use Rattle.argus_c.proofs.Entering.{at_word}
-use Rattle.argus_c.proofs.Steps.{ !, B, D, Goes-blank, Some, Stays, [], agg, alloc_all, and_then, box_typed, by, done, drop}
-use Rattle.argus_c.proofs.Steps.{emp, ends_at, enter, fjoin, fld, free_all, fsep, fsplit, ftrue, get, get_in, id⊢, join}
-use Rattle.argus_c.proofs.Steps.{look_at, move, no, no_more, nothing, of_opd, pass_all, proved_at, qed, raw, refl, returns}
-use Rattle.argus_c.proofs.Steps.{says, sets, split, stay_dropped, stop, sub, suffices, tables, type_at, use1, walk_of, whole}
-use Rattle.argus_c.proofs.Steps.{word, ‵, ◌$◌, ◌∵◌, ◌∷◌, ◌⊛◌}
-use Rattle.argus_c.specs.contracts.held.Held.of_raw_box as F
+use Rattle.argus_c.proofs.{Entering.at_word, Steps.{walk_of, whole, word, ‵, ◌$◌, ◌∵◌, ◌∷◌, ◌⊛◌}}
+use Rattle.argus_c.proofs.Steps.{!, B, D, Goes-blank, Some, Stays, [], agg, alloc_all, and_then, box_typed, by, done}
+use Rattle.argus_c.proofs.Steps.{drop, emp, ends_at, enter, fjoin, fld, free_all, fsep, fsplit, ftrue, get, get_in, id⊢}
+use Rattle.argus_c.proofs.Steps.{join, look_at, move, no, no_more, nothing, of_opd, pass_all, proved_at, qed, raw, refl}
+use Rattle.argus_c.proofs.Steps.{returns, says, sets, split, stay_dropped, stop, sub, suffices, tables, type_at, use1}
 use Rattle.argus_c.proofs.held.Held.of_raw_box.Statement.{statement}
+use Rattle.argus_c.specs.contracts.held.Held.of_raw_box as F
 use Rattle.argus_c.proofs.held.Held.of_raw_box.Code as code
 
 abbrev stayed : Stays F.ended.signature.params F.ended.kept

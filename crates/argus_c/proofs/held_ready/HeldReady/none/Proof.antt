@@ -1,13 +1,13 @@
 -- `none` makes a closed handle, which owns nothing.
 use Rattle.argus_c.proofs.Boxes.{ready_box as E}
-use Rattle.argus_c.proofs.Steps.{ !, Goes-dropped, Item, List, None, P, RawPtr, Slot, Stays, Val, Valss, WpFn, [], agg}
-use Rattle.argus_c.proofs.Steps.{alloc_all, and_then, and_tt, by, done, drop, emp, ends_at, ent, enter, feq_i, fjoin, fpack}
-use Rattle.argus_c.proofs.Steps.{free_all, fsep, fsplit, ftrue, get, handle_tells, has_ty, id⊢, join, lit, lit<, look_at, move}
-use Rattle.argus_c.proofs.Steps.{no_more, nothing, null_ptr, of_list, owning, pass_all, plain, proved_at, ptr_val, qed, raw}
-use Rattle.argus_c.proofs.Steps.{refl, returns, says, sets, shape, split, stay_dropped, subst, suffices, sym, tables, type_at}
-use Rattle.argus_c.proofs.Steps.{use1, vstruct, walk_of, within, yes, α, ‵, ◌$◌, ◌++◌, ◌∵◌, ◌∷◌, ◌⊛◌}
+use Rattle.argus_c.proofs.Steps.{!, Goes-dropped, Item, List, None, P, RawPtr, Slot, Stays, Val, Valss, WpFn, [], agg}
+use Rattle.argus_c.proofs.Steps.{alloc_all, and_then, and_tt, by, done, drop, emp, ends_at, ent, enter, feq_i, fjoin}
+use Rattle.argus_c.proofs.Steps.{fpack, free_all, fsep, fsplit, ftrue, get, handle_tells, has_ty, id⊢, join, lit, lit<}
+use Rattle.argus_c.proofs.Steps.{look_at, move, no_more, nothing, null_ptr, of_list, owning, pass_all, plain, proved_at}
+use Rattle.argus_c.proofs.Steps.{ptr_val, qed, raw, refl, returns, says, sets, shape, split, stay_dropped, subst}
+use Rattle.argus_c.proofs.Steps.{suffices, sym, tables, type_at, use1, vstruct, walk_of, within, yes, α, ‵, ◌$◌, ◌++◌}
+use Rattle.argus_c.proofs.{Steps.{◌∵◌, ◌∷◌, ◌⊛◌}, held_ready.HeldReady.none.Statement.statement}
 use Rattle.argus_c.specs.contracts.held_ready.HeldReady.none as F
-use Rattle.argus_c.proofs.held_ready.HeldReady.none.Statement.{statement}
 use Rattle.argus_c.proofs.held_ready.HeldReady.none.Code as code
 
 abbrev From : Slot 0

@@ -36,8 +36,7 @@ use denote.Triple.Table.{entered}
 use denote.Triple.Walked.{says, Stays, stay_dropped, walk_of, ends_at, walk_Meets}
 use Rattle.core.proofs.alloc.Calls.{Goes-blank, handle_tells, token}
 use Rattle.std_alloc.specs.Box.Ownership.{box_owns}
-use Rattle.std_alloc.proofs.BoxSteps.Form.{B, Bx, D, P, R, box_typed, word, τ}
-use Rattle.std_alloc.proofs.BoxSteps.Steps.{box_in, box_out}
+use Rattle.std_alloc.proofs.{BoxSteps.Form.{B, Bx, D, P, R, box_typed, word, τ}, BoxSteps.Steps.{box_in, box_out}}
 use Rattle.argus_c.specs.contracts.raw_box.RawBox as parts
 use Rattle.std_alloc.specs.contracts.boxed.Box.into_raw_with_allocator as Ra
 use Rattle.std_alloc.proofs.boxed.Box.into_raw_with_allocator.Symbol as raw_sym

@@ -1,6 +1,5 @@
 -- The test tells where two answers say the same.
-use Rattle.argus_contents.specs.Decided.{answer_decided}
-use Rattle.argus_contents.specs.Answer.{plain_answer}
+use Rattle.argus_contents.specs.{Decided.answer_decided, Answer.plain_answer}
 use Rattle.argus_contents.proofs.answer.AnswerPartialEq.eq.Goals as goal
 
 pub returns : goal.returns

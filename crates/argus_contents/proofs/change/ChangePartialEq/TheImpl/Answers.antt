@@ -1,6 +1,5 @@
 -- An answer that tells where two changes say the same is the test's.
-use Rattle.argus_contents.specs.Decided.{change_answered}
-use Rattle.argus_contents.specs.Change.{plain_change}
+use Rattle.argus_contents.specs.{Decided.change_answered, Change.plain_change}
 use Rattle.argus_contents.proofs.change.ChangePartialEq.TheImpl.Goals as goal
 
 pub eq-tells : goal.eq-tells

@@ -1,6 +1,5 @@
 -- The test tells where two changes say the same.
-use Rattle.argus_contents.specs.Decided.{change_decided}
-use Rattle.argus_contents.specs.Change.{plain_change}
+use Rattle.argus_contents.specs.{Decided.change_decided, Change.plain_change}
 use Rattle.argus_contents.proofs.change.ChangePartialEq.eq.Goals as goal
 
 pub returns : goal.returns

@@ -1,6 +1,5 @@
 -- An answer that tells where two contents say the same is the test's.
-use Rattle.argus_contents.specs.Decided.{content_answered}
-use Rattle.argus_contents.specs.Content.{plain_content}
+use Rattle.argus_contents.specs.{Decided.content_answered, Content.plain_content}
 use Rattle.argus_contents.proofs.content.ContentPartialEq.TheImpl.Goals as goal
 
 pub eq-tells : goal.eq-tells

@@ -1,6 +1,5 @@
 -- The test tells where two contents say the same.
-use Rattle.argus_contents.specs.Decided.{content_decided}
-use Rattle.argus_contents.specs.Content.{plain_content}
+use Rattle.argus_contents.specs.{Decided.content_decided, Content.plain_content}
 use Rattle.argus_contents.proofs.content.ContentPartialEq.eq.Goals as goal
 
 pub returns : goal.returns

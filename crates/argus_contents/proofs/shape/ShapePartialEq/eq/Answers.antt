@@ -1,6 +1,5 @@
 -- The test tells where two shapes say the same.
-use Rattle.argus_contents.specs.Decided.{shape_decided}
-use Rattle.argus_contents.specs.ShapeKind.{plain_kind}
+use Rattle.argus_contents.specs.{Decided.shape_decided, ShapeKind.plain_kind}
 use Rattle.argus_contents.proofs.shape.ShapePartialEq.eq.Goals as goal
 
 pub returns : goal.returns

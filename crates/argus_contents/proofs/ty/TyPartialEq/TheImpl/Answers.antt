@@ -1,6 +1,5 @@
 -- An answer that tells where two tys say the same is the test's.
-use Rattle.argus_contents.specs.Decided.{ty_answered}
-use Rattle.argus_contents.specs.Ty.{plain_ty}
+use Rattle.argus_contents.specs.{Decided.ty_answered, Ty.plain_ty}
 use Rattle.argus_contents.proofs.ty.TyPartialEq.TheImpl.Goals as goal
 
 pub eq-tells : goal.eq-tells

@@ -1,6 +1,5 @@
 -- The test tells where two tys say the same.
-use Rattle.argus_contents.specs.Decided.{ty_decided}
-use Rattle.argus_contents.specs.Ty.{plain_ty}
+use Rattle.argus_contents.specs.{Decided.ty_decided, Ty.plain_ty}
 use Rattle.argus_contents.proofs.ty.TyPartialEq.eq.Goals as goal
 
 pub returns : goal.returns

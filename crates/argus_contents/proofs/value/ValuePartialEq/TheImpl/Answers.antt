@@ -1,6 +1,5 @@
 -- An answer that tells where two values say the same is the test's.
-use Rattle.argus_contents.specs.Decided.{value_answered}
-use Rattle.argus_contents.specs.Value.{plain_value}
+use Rattle.argus_contents.specs.{Decided.value_answered, Value.plain_value}
 use Rattle.argus_contents.proofs.value.ValuePartialEq.TheImpl.Goals as goal
 
 pub eq-tells : goal.eq-tells

@@ -1,6 +1,5 @@
 -- The test tells where two values say the same.
-use Rattle.argus_contents.specs.Decided.{value_decided}
-use Rattle.argus_contents.specs.Value.{plain_value}
+use Rattle.argus_contents.specs.{Decided.value_decided, Value.plain_value}
 use Rattle.argus_contents.proofs.value.ValuePartialEq.eq.Goals as goal
 
 pub returns : goal.returns

@@ -1,8 +1,6 @@
 -- What a granted query is answered, at what the action sees, is the reply that the journal gives.
-use Rattle.std.proofs.Common.{arith, length, ◌∙◌, ◌≡◌}
-use Rattle.std.proofs.lemmas.List.{with_items_is}
-use Rattle.argus_core.proofs.Asks.{ask_free, ask_made, ask_told}
-use Rattle.argus_core.proofs.FreeLocks.{reader_limits}
+use Rattle.std.proofs.{Common.{arith, length, ◌∙◌, ◌≡◌}, lemmas.List.with_items_is}
+use Rattle.argus_core.proofs.{Asks.{ask_free, ask_made, ask_told}, FreeLocks.reader_limits}
 use Rattle.argus_core.proofs.engine.accessing.answer_with_memory.Goals as goal
 
 pub query_answer-requires-clause-low : goal.query_answer-requires-clause-low

@@ -1,18 +1,13 @@
 -- A query is refused as the journal refuses it; else its object is there, and making room changes nothing of that.
 use Rattle.std.proofs.Common.{None, subst, sym, ◌∙◌, ◌≡◌}
 use Rattle.argus_actions.specs.declared.action_id.ActionId.{ActionId}
-use Rattle.argus_contents.specs.declared.obj_id.ObjId.{ObjId}
-use Rattle.argus_contents.specs.declared.query.Query.{Query}
+use Rattle.argus_contents.specs.{declared.obj_id.ObjId.ObjId, declared.query.Query.Query, Fitting.query_suits}
 use Rattle.argus_entries.specs.Call.{ask}
 use Rattle.argus_journal.specs.JournalView.{JournalView, refusal_to}
-use Rattle.argus_core.specs.Accessing.{access_refusal}
-use Rattle.argus_core.specs.GuardianState.{StateInvariant, journal_view_of}
+use Rattle.argus_core.specs.{Accessing.access_refusal, GuardianState.{StateInvariant, journal_view_of}}
 use Rattle.argus_core.specs.declared.engine.guardian_state.GuardianState.{GuardianState}
-use Rattle.argus_core.proofs.Accesses.{access_free, access_refused}
-use Rattle.argus_core.proofs.Asks.{ask_free, asks}
-use Rattle.argus_core.proofs.FreeLocks.{reader_limits}
+use Rattle.argus_core.proofs.{Accesses.{access_free, access_refused}, Asks.{ask_free, asks}, FreeLocks.reader_limits}
 use Rattle.argus_core.proofs.engine.accessing.ask.Goals as goal
-use Rattle.argus_contents.specs.Fitting.{query_suits}
 use Rattle.argus_objects.specs.Rules.{may_read}
 
 -- what isn't refused isn't refused where the journal is the same

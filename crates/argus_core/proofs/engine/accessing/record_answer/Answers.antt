@@ -1,6 +1,5 @@
 -- What a granted query is answered, at what the action sees, is the reply that the journal gives.
-use Rattle.std.proofs.Common.{arith, length, ◌≡◌}
-use Rattle.std.proofs.lemmas.List.{with_items_is}
+use Rattle.std.proofs.{Common.{arith, length, ◌≡◌}, lemmas.List.with_items_is}
 use Rattle.argus_contents.specs.SmallAnswer.{plain_small}
 use Rattle.argus_core.proofs.Asks.{ask_free, ask_made, ask_told}
 use Rattle.argus_core.proofs.engine.accessing.record_answer.Goals as goal

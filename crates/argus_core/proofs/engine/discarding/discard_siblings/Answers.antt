@@ -1,8 +1,7 @@
 -- When no sibling is left, all that stand under a live one were ended.
 use Rattle.std.proofs.Common.{ap, arith, eqb, length, not, subst, sym, ◌<◌, ◌∙◌}
 use Rattle.std.proofs.lemmas.Bool.{and_from, and_left, and_right, eq-eqb, ne_eqb}
-use Rattle.argus_actions.specs.Rows.{is_live_at}
-use Rattle.argus_actions.specs.declared.action_id.ActionId.{ActionId}
+use Rattle.argus_actions.specs.{Rows.is_live_at, declared.action_id.ActionId.ActionId}
 use Rattle.argus_core.proofs.Sweeps.{covered_more, ended_lawful, there_less}
 use Rattle.argus_core.proofs.SweepSiblings.{IsSwung, first_left, sibling_here, swing_done, swing_end, swing_fewer}
 use Rattle.argus_core.proofs.SweepSiblings.{swing_next, swing_pass, swing_start, swing_step}

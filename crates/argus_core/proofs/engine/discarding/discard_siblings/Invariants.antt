@@ -1,6 +1,5 @@
 -- In the midst of the loop the live siblings so far were ended.
-use Rattle.argus_core.proofs.SweepSiblings.{IsSwung}
-use Rattle.argus_core.proofs.Sweeps.{steps_left}
+use Rattle.argus_core.proofs.{SweepSiblings.IsSwung, Sweeps.steps_left}
 use Rattle.argus_core.proofs.engine.discarding.discard_siblings.Given as goal
 
 abbrev pub invariant-loop-child : goal.invariant-loop-child

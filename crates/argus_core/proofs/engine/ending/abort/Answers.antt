@@ -1,8 +1,6 @@
 -- The tree refuses an abort as the journal does, or all that the ended actions hold is discarded.
-use Rattle.std.proofs.Common.{arith, length, sym, ◌∙◌, ◌≡◌}
-use Rattle.std.proofs.lemmas.List.{with_items_is}
-use Rattle.argus_core.proofs.Ends.{abort_stands, kept_abort}
-use Rattle.argus_core.proofs.OfState.{aborts, covers, end_refused, end_right}
+use Rattle.std.proofs.{Common.{arith, length, sym, ◌∙◌, ◌≡◌}, lemmas.List.with_items_is}
+use Rattle.argus_core.proofs.{Ends.{abort_stands, kept_abort}, OfState.{aborts, covers, end_refused, end_right}}
 use Rattle.argus_core.proofs.engine.ending.abort.Goals as goal
 use Rattle.argus_journal.specs.LegalJournal.{entries_in, opening_in}
 

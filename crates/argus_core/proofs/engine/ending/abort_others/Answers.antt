@@ -1,8 +1,6 @@
 -- The tree refuses an abort of all live siblings as the journal does, or all that they hold is discarded.
-use Rattle.std.proofs.Common.{arith, length, sym, ◌∙◌, ◌≡◌}
-use Rattle.std.proofs.lemmas.List.{with_items_is}
-use Rattle.argus_core.proofs.Ends.{kept_others}
-use Rattle.argus_core.proofs.OfState.{aborts_others, covers, end_refused, end_right}
+use Rattle.std.proofs.{Common.{arith, length, sym, ◌∙◌, ◌≡◌}, lemmas.List.with_items_is}
+use Rattle.argus_core.proofs.{Ends.kept_others, OfState.{aborts_others, covers, end_refused, end_right}}
 use Rattle.argus_core.proofs.engine.ending.abort_others.Goals as goal
 use Rattle.argus_journal.specs.LegalJournal.{entries_in, opening_in}
 

@@ -1,9 +1,6 @@
 -- After a subaction's commit, by which its parent has what it held, the parts are what the longer journal says.
-use Rattle.std.proofs.Common.{arith, length, refl, ◌≡◌}
-use Rattle.std.proofs.lemmas.List.{with_items_is}
-use Rattle.argus_core.proofs.Ends.{kept_sub, parent_other}
-use Rattle.argus_core.proofs.FreeLocks.{listed_held}
-use Rattle.argus_core.proofs.OfState.{commits, end_right}
+use Rattle.std.proofs.{Common.{arith, length, refl, ◌≡◌}, lemmas.List.with_items_is}
+use Rattle.argus_core.proofs.{Ends.{kept_sub, parent_other}, FreeLocks.listed_held, OfState.{commits, end_right}}
 use Rattle.argus_core.proofs.engine.ending.inherit.Goals as goal
 use Rattle.argus_journal.specs.LegalJournal.{entries_in, opening_in}
 

@@ -1,8 +1,6 @@
 -- After a topaction's commit, whose versions are the bases, the parts are what the longer journal says.
-use Rattle.std.proofs.Common.{arith, length, refl, ◌≡◌}
-use Rattle.std.proofs.lemmas.List.{with_items_is}
-use Rattle.argus_core.proofs.Ends.{kept_top}
-use Rattle.argus_core.proofs.OfState.{commits, end_right}
+use Rattle.std.proofs.{Common.{arith, length, refl, ◌≡◌}, lemmas.List.with_items_is}
+use Rattle.argus_core.proofs.{Ends.kept_top, OfState.{commits, end_right}}
 use Rattle.argus_core.proofs.engine.ending.settle.Goals as goal
 use Rattle.argus_journal.specs.LegalJournal.{entries_in, opening_in}
 

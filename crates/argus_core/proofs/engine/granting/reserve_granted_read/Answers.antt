@@ -1,8 +1,6 @@
 -- Room for a lock changes nothing that the journal speaks of.
-use Rattle.std.proofs.Common.{arith, length, ◌≡◌}
-use Rattle.std.proofs.lemmas.List.{with_items_is}
-use Rattle.argus_core.proofs.Accessed.{kept_locks}
-use Rattle.argus_core.proofs.FreeLocks.{listed_held}
+use Rattle.std.proofs.{Common.{arith, length, ◌≡◌}, lemmas.List.with_items_is}
+use Rattle.argus_core.proofs.{Accessed.kept_locks, FreeLocks.listed_held}
 use Rattle.argus_core.proofs.engine.granting.reserve_granted_read.Goals as goal
 use Rattle.argus_journal.specs.LegalJournal.{entries_in, opening_in}
 

@@ -1,19 +1,14 @@
 -- The next object is new on the parent's list exactly if the parent doesn't hold it.
 use Rattle.std.proofs.Common.{Bool, List, ap, arith, cond, false, get_or, inl, inr, length, refl, subst, sym, take}
-use Rattle.std.proofs.Common.{true}
-use Rattle.std.proofs.Common.{◌+◌, ◌<◌, ◌≤◌, ◌||◌, ◌∙◌, ◌≡◌, ◌≢◌}
-use Rattle.std.specs.List.{IsDistinct}
-use Rattle.std.specs.Prelude.{not, ◌==◌}
-use Rattle.std.proofs.lemmas.Bool.{cases_eq, eq-eqb, ne_eqb}
+use Rattle.std.proofs.{Common.{true, ◌+◌, ◌<◌, ◌≤◌, ◌||◌, ◌∙◌, ◌≡◌, ◌≢◌}, lemmas.Bool.{cases_eq, eq-eqb, ne_eqb}}
+use Rattle.std.specs.{List.IsDistinct, Prelude.{not, ◌==◌}}
 use Rattle.argus_actions.specs.declared.action_id.ActionId.{ActionId}
 use Rattle.argus_contents.specs.declared.obj_id.ObjId.{ObjId}
 use Rattle.argus_core.specs.Moving.{is_listed}
-use Rattle.argus_core.proofs.Changes.{listed_at}
-use Rattle.argus_core.proofs.Noted.{listed_yet, passed_more}
+use Rattle.argus_core.proofs.{Changes.listed_at, Noted.{listed_yet, passed_more}}
 use Rattle.argus_core.proofs.engine.inheriting.note_missing.Goals as goal
-use Rattle.argus_objects.specs.CellChanges.{has_version, is_reader}
+use Rattle.argus_objects.specs.{CellChanges.{has_version, is_reader}, declared.holdings.Holdings.Holdings}
 use Rattle.argus_objects.specs.Holdings.{Lists, TakesOnePlace, holdings_room_of, noted, objects_held_by, passed}
-use Rattle.argus_objects.specs.declared.holdings.Holdings.{Holdings}
 
 -- the list of another action is as it was
 other_list : (old new : Holdings) (p a : ActionId) (list : List ObjId) → Lists old p list new → a.0 ≢ p.0

@@ -1,13 +1,9 @@
 -- The journal refuses the test likewise, or says no with nothing changed, or yes with the lock taken.
-use Rattle.std.proofs.Common.{arith, false, length, refl, sym, true, ◌∙◌, ◌≡◌}
-use Rattle.std.proofs.lemmas.List.{with_items_is}
+use Rattle.std.proofs.{Common.{arith, false, length, refl, sym, true, ◌∙◌, ◌≡◌}, lemmas.List.with_items_is}
 use Rattle.argus_contents.specs.Answer.{flag}
-use Rattle.argus_entries.specs.Call.{test_read}
-use Rattle.argus_entries.specs.Reply.{answered}
+use Rattle.argus_entries.specs.{Call.test_read, Reply.answered}
 use Rattle.argus_journal.specs.JournalView.{entry_with}
-use Rattle.argus_core.proofs.Accesses.{access_refused}
-use Rattle.argus_core.proofs.FreeLocks.{said_free}
-use Rattle.argus_core.proofs.MadeAccesses.{made_read}
+use Rattle.argus_core.proofs.{Accesses.access_refused, FreeLocks.said_free, MadeAccesses.made_read}
 use Rattle.argus_core.proofs.Tests.{reads, test_low, test_right, test_still, tests}
 use Rattle.argus_core.proofs.engine.testing.test_read.Goals as goal
 

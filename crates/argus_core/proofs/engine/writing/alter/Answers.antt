@@ -1,12 +1,8 @@
 -- A change is refused as the journal refuses it, or made where the journal grants it, with its answer.
-use Rattle.std.proofs.Common.{None, Some, ap, arith, length, sym, ◌∙◌, ◌≡◌}
-use Rattle.std.proofs.lemmas.List.{with_items_is}
-use Rattle.argus_contents.specs.Answer.{done_or}
-use Rattle.argus_contents.specs.Change.{plain_change}
-use Rattle.argus_core.proofs.Accessed.{kept_locks}
-use Rattle.argus_core.proofs.Accesses.{access_refused}
+use Rattle.std.proofs.{Common.{None, Some, ap, arith, length, sym, ◌∙◌, ◌≡◌}, lemmas.List.with_items_is}
+use Rattle.argus_contents.specs.{Answer.done_or, Change.plain_change}
+use Rattle.argus_core.proofs.{Accessed.kept_locks, Accesses.access_refused, FreeLocks.{listed_held, writer_limits}}
 use Rattle.argus_core.proofs.Alters.{alter_free, alter_made, alter_still, alters}
-use Rattle.argus_core.proofs.FreeLocks.{listed_held, writer_limits}
 use Rattle.argus_core.proofs.engine.writing.alter.Goals as goal
 use Rattle.argus_journal.specs.LegalJournal.{entries_in, opening_in}
 

@@ -1,20 +1,14 @@
 -- A granted change is answered at what the action sees, as the journal answers it, and then made.
-use Rattle.std.proofs.Common.{None, arith, length, ◌∙◌, ◌≡◌}
-use Rattle.std.proofs.lemmas.List.{with_items_is}
+use Rattle.std.proofs.{Common.{None, arith, length, ◌∙◌, ◌≡◌}, lemmas.List.with_items_is}
 use Rattle.argus_actions.specs.declared.action_id.ActionId.{ActionId}
-use Rattle.argus_contents.specs.Change.{PlainChange, plain_change}
-use Rattle.argus_contents.specs.Fitting.{change_suits}
-use Rattle.argus_contents.specs.declared.obj_id.ObjId.{ObjId}
+use Rattle.argus_contents.specs.{Change.{PlainChange, plain_change}, Fitting.change_suits, declared.obj_id.ObjId.ObjId}
 use Rattle.argus_entries.specs.Call.{alter}
-use Rattle.argus_core.specs.Accessing.{access_refusal}
-use Rattle.argus_core.specs.GuardianState.{StateInvariant, journal_view_of}
+use Rattle.argus_core.specs.{Accessing.access_refusal, GuardianState.{StateInvariant, journal_view_of}}
 use Rattle.argus_core.specs.declared.engine.guardian_state.GuardianState.{GuardianState}
-use Rattle.argus_core.proofs.Accessed.{kept_locks}
-use Rattle.argus_core.proofs.Alters.{alter_free, alter_made, alter_still, alters}
+use Rattle.argus_core.proofs.{Accessed.kept_locks, Alters.{alter_free, alter_made, alter_still, alters}}
 use Rattle.argus_core.proofs.FreeLocks.{listed_held, writer_limits, writer_reads}
 use Rattle.argus_core.proofs.engine.writing.alter_with_value.Goals as goal
-use Rattle.argus_journal.specs.JournalView.{refusal_to}
-use Rattle.argus_journal.specs.LegalJournal.{entries_in, opening_in}
+use Rattle.argus_journal.specs.{JournalView.refusal_to, LegalJournal.{entries_in, opening_in}}
 use Rattle.argus_objects.specs.Rules.{may_write}
 
 -- what the journal doesn't refuse isn't refused

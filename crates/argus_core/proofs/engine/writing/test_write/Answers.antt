@@ -1,18 +1,11 @@
 -- The journal refuses the test likewise, or says no with nothing changed, or yes with the lock taken.
-use Rattle.std.proofs.Common.{arith, false, length, refl, sym, true, ◌∙◌, ◌≡◌}
-use Rattle.std.proofs.lemmas.List.{with_items_is}
-use Rattle.argus_contents.specs.Answer.{flag}
-use Rattle.argus_contents.specs.Change.{touch}
-use Rattle.argus_entries.specs.Call.{test_write}
-use Rattle.argus_entries.specs.Reply.{answered}
-use Rattle.argus_core.proofs.Accessed.{kept_locks}
-use Rattle.argus_core.proofs.Accesses.{access_refused}
-use Rattle.argus_core.proofs.FreeLocks.{listed_held, writer_limits}
-use Rattle.argus_core.proofs.MadeAccesses.{made_change}
-use Rattle.argus_core.proofs.Tests.{test_free, test_low, test_right, tests, writes}
+use Rattle.std.proofs.{Common.{arith, false, length, refl, sym, true, ◌∙◌, ◌≡◌}, lemmas.List.with_items_is}
+use Rattle.argus_contents.specs.{Answer.flag, Change.touch}
+use Rattle.argus_entries.specs.{Call.test_write, Reply.answered}
+use Rattle.argus_core.proofs.{Accessed.kept_locks, Accesses.access_refused, FreeLocks.{listed_held, writer_limits}}
+use Rattle.argus_core.proofs.{MadeAccesses.made_change, Tests.{test_free, test_low, test_right, tests, writes}}
 use Rattle.argus_core.proofs.engine.writing.test_write.Goals as goal
-use Rattle.argus_journal.specs.JournalView.{entry_with}
-use Rattle.argus_journal.specs.LegalJournal.{entries_in, opening_in}
+use Rattle.argus_journal.specs.{JournalView.entry_with, LegalJournal.{entries_in, opening_in}}
 
 pub refuse-requires-clause-right : goal.refuse-requires-clause-right
 refuse-requires-clause-right c =

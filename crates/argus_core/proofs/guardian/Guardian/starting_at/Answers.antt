@@ -1,6 +1,5 @@
 -- The copies stand to the opening as the objects that were handed in.
-use Rattle.std.proofs.Common.{ap, map, subst, sym, ◌∙◌, ◌≤◌}
-use Rattle.std.proofs.lemmas.List.{length-map}
+use Rattle.std.proofs.{Common.{ap, map, subst, sym, ◌∙◌, ◌≤◌}, lemmas.List.length-map}
 use Rattle.argus_contents.specs.declared.limits.TheConstants.{MAX_OBJECTS}
 use Rattle.argus_core.proofs.Started.{kept_started}
 use Rattle.argus_core.proofs.guardian.Guardian.starting_at.Goals as goal

@@ -3,8 +3,7 @@ use Rattle.std.proofs.Common.{Some, ap, map, sym, ◌∙◌, ◌≡◌}
 use Rattle.argus_core.proofs.Told.{cell_there, in_order, there}
 use Rattle.argus_core.proofs.guardian.Guardian.versions.Goals as goal
 use Rattle.argus_core.specs.Objects.{version_pair}
-use Rattle.argus_journal.specs.LegalJournal.{entries_in, opening_in}
-use Rattle.argus_journal.specs.JournalFacts.{versions_of}
+use Rattle.argus_journal.specs.{LegalJournal.{entries_in, opening_in}, JournalFacts.versions_of}
 use Rattle.argus_refinement.specs.CellRefinement as laws
 
 pub returns-in-Some : goal.returns-in-Some

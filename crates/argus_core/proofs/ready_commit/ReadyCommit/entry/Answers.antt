@@ -1,18 +1,14 @@
 -- The step that is ready says how the journal answers the commit.
 use Rattle.std.proofs.Common.{None, ap, inl, inr, rules, subst, sym, ◌∙◌, ◌≡◌, ◌⊎◌}
-use Rattle.argus_actions.specs.Refusals.{commit_refusal}
-use Rattle.argus_actions.specs.declared.action_id.ActionId.{ActionId}
+use Rattle.argus_actions.specs.{Refusals.commit_refusal, declared.action_id.ActionId.ActionId}
 use Rattle.argus_core.proofs.OfState.{commits, end_right}
-use Rattle.argus_core.proofs.ready_commit.ReadyCommit.entry.Goals as goal
 use Rattle.argus_core.proofs.ready_commit.ReadyCommit.entry.Goals.{in-Inherit, in-Refused}
-use Rattle.argus_core.specs.CommitStep.{CanCommit}
-use Rattle.argus_core.specs.GuardianState.{journal_view_of}
-use Rattle.argus_core.specs.ReadyCommit.{Committing}
+use Rattle.argus_core.proofs.ready_commit.ReadyCommit.entry.Goals as goal
+use Rattle.argus_core.specs.{CommitStep.CanCommit, GuardianState.journal_view_of, ReadyCommit.Committing}
 use Rattle.argus_core.specs.declared.engine.commit_step.CommitStep.{CommitStep}
-use Rattle.argus_core.specs.declared.engine.commit_step.CommitStep.TheVariants as step
 use Rattle.argus_core.specs.declared.engine.guardian_state.GuardianState.{GuardianState}
-use Rattle.argus_entries.specs.Call.{commit}
-use Rattle.argus_entries.specs.Reply.{plain_reply}
+use Rattle.argus_core.specs.declared.engine.commit_step.CommitStep.TheVariants as step
+use Rattle.argus_entries.specs.{Call.commit, Reply.plain_reply}
 use Rattle.argus_journal.specs.JournalView.{entry_of, entry_with, reply_to}
 
 -- nothing refuses a commit that is ready to be made

@@ -1,5 +1,4 @@
-use Rattle.std.proofs.Common.{List, [], ap, arith, length, map, subst, sym, ◌∙◌, ◌≡◌}
-use Rattle.std.proofs.lemmas.List.{length-map}
+use Rattle.std.proofs.{Common.{List, [], ap, arith, length, map, subst, sym, ◌∙◌, ◌≡◌}, lemmas.List.length-map}
 use Rattle.argus_embed.specs.CallEach.{IsEnd, after_nexts, with_end, with_lines, with_outcomes}
 use Rattle.argus_embed.specs.declared.listed_call.ListedCall.{ListedCall}
 use Rattle.argus_journal.specs.Reply.{PlainReply, plain_reply}

@@ -1,8 +1,6 @@
-use Rattle.std.proofs.Common.{[], ap, arith, map, ◌++◌, ◌+◌, ◌∙◌, sym, ◌∷◌}
-use Rattle.std.proofs.lemmas.List.{length_push}
+use Rattle.std.proofs.{Common.{[], ap, arith, map, ◌++◌, ◌+◌, ◌∙◌, sym, ◌∷◌}, lemmas.List.length_push}
 use Rattle.argus_embed.specs.CallEach.{are_met}
-use Rattle.argus_journal.specs.JournalView.{reply_to}
-use Rattle.argus_journal.specs.Reply.{plain_reply}
+use Rattle.argus_journal.specs.{JournalView.reply_to, Reply.plain_reply}
 use Rattle.argus_embed.proofs.Next.{next_made}
 use Rattle.argus_embed.proofs.embedded.Embedded.call_listed.Goals as goal
 

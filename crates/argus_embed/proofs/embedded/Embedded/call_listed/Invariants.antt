@@ -1,7 +1,6 @@
 -- So many calls stand for those that were made, each as demanded.
 use Rattle.std.proofs.Common.{List, [], length, map, true, ◌≡◌, ◌≤◌}
-use Rattle.argus_journal.specs.Call.{PlainCall}
-use Rattle.argus_journal.specs.Reply.{plain_reply}
+use Rattle.argus_journal.specs.{Call.PlainCall, Reply.plain_reply}
 use Rattle.argus_embed.specs.CallEach.{SayEach, after_nexts, are_met, replies_to}
 use Rattle.argus_embed.proofs.embedded.Embedded.call_listed.Given as goal
 

@@ -1,11 +1,9 @@
 -- There is its demand, and the call that it stands for; only memory was wanting.
 use Rattle.std.proofs.Common.{List, None, Some, ap, inr, map, rules, subst, sym, ◌∙◌, ◌≡◌, ◌≢◌}
-use Rattle.argus_journal.specs.Call.{plain_call}
-use Rattle.argus_journal.specs.Reply.{PlainReply, plain_reply}
+use Rattle.argus_journal.specs.{Call.plain_call, Reply.{PlainReply, plain_reply}}
 use Rattle.argus_embed.specs.CallEach.{IsUnreadAfter, IsUnreadWith, action_by, demand_of}
 use Rattle.argus_embed.specs.declared.embed_error.EmbedError.TheVariants as error
-use Rattle.argus_embed.proofs.Listed.{unread_for_memory}
-use Rattle.argus_embed.proofs.Listings.{call_read}
+use Rattle.argus_embed.proofs.{Listed.unread_for_memory, Listings.call_read}
 use Rattle.argus_embed.proofs.embedded.Embedded.call_next.Goals as goal
 
 pub returns-in_err-reply-clause-unread : goal.returns-in_err-reply-clause-unread

@@ -1,6 +1,5 @@
 use Rattle.std.proofs.Common.{ap, refl, take, ◌∙◌}
-use Rattle.argus_embed.proofs.JournalLines.{lines_put}
-use Rattle.argus_embed.proofs.KeptObjects.{count_read}
+use Rattle.argus_embed.proofs.{JournalLines.lines_put, KeptObjects.count_read}
 use Rattle.argus_embed.proofs.embedded.Embedded.lines.Goals as goal
 
 pub returns-clause-lines : goal.returns-clause-lines

@@ -1,6 +1,5 @@
 use Rattle.argus_embed.proofs.Granted.{yes_where}
-use Rattle.argus_journal.specs.Call.{test_read}
-use Rattle.argus_journal.specs.JournalView.{reply_to}
+use Rattle.argus_journal.specs.{Call.test_read, JournalView.reply_to}
 use Rattle.argus_embed.proofs.embedded.Embedded.may_read.Goals as goal
 
 pub returns : goal.returns

@@ -1,6 +1,5 @@
 use Rattle.argus_embed.proofs.Granted.{yes_where}
-use Rattle.argus_journal.specs.Call.{test_write}
-use Rattle.argus_journal.specs.JournalView.{reply_to}
+use Rattle.argus_journal.specs.{Call.test_write, JournalView.reply_to}
 use Rattle.argus_embed.proofs.embedded.Embedded.may_write.Goals as goal
 
 pub returns : goal.returns

@@ -1,8 +1,7 @@
 use Rattle.std.proofs.Common.{ap, take, ◌++◌, ◌∙◌, ◌≡◌}
 use Rattle.argus_guardian.specs.JournalText.{journal_text}
 use Rattle.argus_journal.specs.JournalView.{JournalView}
-use Rattle.argus_embed.specs.Embedded.{EmbeddedState}
-use Rattle.argus_embed.specs.Kept.{kept_text}
+use Rattle.argus_embed.specs.{Embedded.EmbeddedState, Kept.kept_text}
 use Rattle.argus_embed.proofs.Told.{told_end, told_same}
 use Rattle.argus_embed.proofs.embedded.Embedded.resume.Goals as goal
 

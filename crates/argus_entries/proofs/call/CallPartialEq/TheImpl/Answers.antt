@@ -1,6 +1,5 @@
 -- An answer that tells where two calls say the same is the test's.
-use Rattle.argus_entries.specs.Call.{plain_call}
-use Rattle.argus_entries.specs.Decided.{call_answered}
+use Rattle.argus_entries.specs.{Call.plain_call, Decided.call_answered}
 use Rattle.argus_entries.proofs.call.CallPartialEq.TheImpl.Goals as goal
 
 pub eq-tells : goal.eq-tells

@@ -1,6 +1,5 @@
 -- The test tells where two calls say the same.
-use Rattle.argus_entries.specs.Call.{plain_call}
-use Rattle.argus_entries.specs.Decided.{call_decided}
+use Rattle.argus_entries.specs.{Call.plain_call, Decided.call_decided}
 use Rattle.argus_entries.proofs.call.CallPartialEq.eq.Goals as goal
 
 pub returns : goal.returns

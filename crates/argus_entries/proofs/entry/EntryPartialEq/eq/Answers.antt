@@ -1,6 +1,5 @@
 -- The test tells where two entries say the same.
-use Rattle.argus_entries.specs.Entry.{plain_entry}
-use Rattle.argus_entries.specs.Decided.{entry_decided}
+use Rattle.argus_entries.specs.{Entry.plain_entry, Decided.entry_decided}
 use Rattle.argus_entries.proofs.entry.EntryPartialEq.eq.Goals as goal
 
 pub returns : goal.returns

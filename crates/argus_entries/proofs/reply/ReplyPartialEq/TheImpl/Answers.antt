@@ -1,6 +1,5 @@
 -- An answer that tells where two replies say the same is the test's.
-use Rattle.argus_entries.specs.Reply.{plain_reply}
-use Rattle.argus_entries.specs.Decided.{reply_answered}
+use Rattle.argus_entries.specs.{Reply.plain_reply, Decided.reply_answered}
 use Rattle.argus_entries.proofs.reply.ReplyPartialEq.TheImpl.Goals as goal
 
 pub eq-tells : goal.eq-tells

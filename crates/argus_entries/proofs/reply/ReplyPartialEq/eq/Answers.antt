@@ -1,6 +1,5 @@
 -- The test tells where two replies say the same.
-use Rattle.argus_entries.specs.Reply.{plain_reply}
-use Rattle.argus_entries.specs.Decided.{reply_decided}
+use Rattle.argus_entries.specs.{Reply.plain_reply, Decided.reply_decided}
 use Rattle.argus_entries.proofs.reply.ReplyPartialEq.eq.Goals as goal
 
 pub returns : goal.returns

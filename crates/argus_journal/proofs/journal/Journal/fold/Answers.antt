@@ -1,6 +1,5 @@
 -- The fold of a legal journal is an opening as it has to be.
-use Rattle.std.proofs.Common.{ap, subst, sym, true, ◌∙◌, ◌≡◌, ◌≤◌, rules}
-use Rattle.std.proofs.lemmas.List.{length-map}
+use Rattle.std.proofs.{Common.{ap, subst, sym, true, ◌∙◌, ◌≡◌, ◌≤◌, rules}, lemmas.List.length-map}
 use Rattle.argus_contents.specs.declared.limits.TheConstants.{MAX_OBJECTS}
 use Rattle.argus_journal.specs.Journal.{entries_of, opening_of}
 use Rattle.argus_journal.specs.Opening.{KeepsNumbers, is_sound, opening_with, plain_object}

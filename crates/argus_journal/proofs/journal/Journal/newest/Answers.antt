@@ -1,7 +1,6 @@
 -- The newest of some entries is the last of those in the chunks.
 use Rattle.std.proofs.Common.{arith, length, subst, suc, take, ◌-◌, ◌<◌, ◌≡◌}
-use Rattle.argus_journal.specs.Chunks.{chunked}
-use Rattle.argus_journal.specs.Journal.{IsNewest, newest_first, plain_entry_found}
+use Rattle.argus_journal.specs.{Chunks.chunked, Journal.{IsNewest, newest_first, plain_entry_found}}
 use Rattle.argus_journal.proofs.Newest.{is_there, newest_taken}
 use Rattle.argus_journal.proofs.journal.Journal.newest.Goals as goal
 

@@ -1,8 +1,6 @@
 -- One name more, in the map with its number, keeps map and lists in step.
 use Rattle.std.proofs.Common.{◌≡◌, ◌∙◌, ap, subst, ◌∷◌, [], ◌++◌, length, Some, rules}
-use Rattle.std.specs.BTreeMap.{UpdatesBy}
-use Rattle.std.specs.Cmp.Lexicographic.{slice_cmp}
-use Rattle.std.specs.Ordering.{nat_cmp}
+use Rattle.std.specs.{BTreeMap.UpdatesBy, Cmp.Lexicographic.slice_cmp, Ordering.nat_cmp}
 use Rattle.argus_language.specs.Objects.{number_of}
 use Rattle.argus_language.proofs.Naming.{indexed-more}
 use Rattle.argus_language.proofs.objects.Objects.declare.Goals as goal

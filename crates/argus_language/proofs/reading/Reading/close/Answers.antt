@@ -1,6 +1,5 @@
 -- A block that ended is one step more of the block around it; to the lines so far comes its end.
-use Rattle.std.proofs.Common.{arith, rules}
-use Rattle.std.proofs.lemmas.Grind.{common_steps}
+use Rattle.std.proofs.{Common.{arith, rules}, lemmas.Grind.common_steps}
 use Rattle.argus_language.proofs.Growing.{close-lines, close-sound}
 use Rattle.argus_language.proofs.reading.Reading.close.Goals as goal
 

@@ -1,6 +1,5 @@
 -- With one shape more that can be made, all can be made.
-use Rattle.std.proofs.lemmas.Grind.{common_steps}
-use Rattle.std.proofs.Common.{◌∙◌, ap, arith, rules}
+use Rattle.std.proofs.{lemmas.Grind.common_steps, Common.{◌∙◌, ap, arith, rules}}
 use Rattle.argus_language.specs.Objects.{AllMakeable}
 use Rattle.argus_language.proofs.Growing.{makeable-more, on-ok}
 use Rattle.argus_language.proofs.reading.Reading.declare.Goals as goal

@@ -1,11 +1,7 @@
 -- A line that passes no limit has room for what it says.
-use Rattle.std.proofs.lemmas.Grind.{common_steps}
-use Rattle.std.proofs.Common.{◌≡◌, sym, ◌∙◌, subst, rules, arith}
-use Rattle.argus_language.specs.Command.{command_of}
-use Rattle.argus_language.specs.Fault.{position_at}
-use Rattle.argus_language.specs.Lines.{line_text}
+use Rattle.std.proofs.{lemmas.Grind.common_steps, Common.{◌≡◌, sym, ◌∙◌, subst, rules, arith}}
+use Rattle.argus_language.specs.{Command.command_of, Fault.position_at, Lines.line_text, PlainLine.plain_line}
 use Rattle.argus_language.specs.Reading.{IsWithinLimits, levels_of}
-use Rattle.argus_language.specs.PlainLine.{plain_line}
 use Rattle.argus_language.proofs.Rooms.{has_room}
 use Rattle.argus_language.proofs.reading.Reading.take.Goals as goal
 

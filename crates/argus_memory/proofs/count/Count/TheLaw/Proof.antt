@@ -8,8 +8,7 @@ use denote.Struct.Laws.{RawPtr-copy}
 use denote.Struct.Lending.{of_Lends}
 use Rattle.argus_memory.specs.Count.{lasts}
 use Rattle.argus_memory.specs.contracts.count.Count as C
-use Rattle.argus_memory.proofs.Lasting.{lasts_twice, lasts_lends}
-use Rattle.argus_memory.proofs.count.Count.TheLaw.Statement.{statement}
+use Rattle.argus_memory.proofs.{Lasting.{lasts_twice, lasts_lends}, count.Count.TheLaw.Statement.statement}
 
 pub shares : statement
 shares = of_Lends C.struct C.the_codes C.the_heap C.the_lent

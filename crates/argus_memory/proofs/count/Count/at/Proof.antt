@@ -1,6 +1,5 @@
 -- `at` keeps what a `&'static` to a word holds. Assumes `Logic`.
-use Rattle.std.proofs.Common.{ℕ, [], ◌∷◌, refl}
-use Rattle.std.proofs.raw_atomic.Walks.{proved}
+use Rattle.std.proofs.{Common.{ℕ, [], ◌∷◌, refl}, raw_atomic.Walks.proved}
 use mir.Syntax.{static}
 use types.Kit.{‵, raw, ◌⊛◌, ◌$◌, ◌∵◌, !, qed, move, keep, drop, use1, split, fsplit, fjoin, group, suffices, done}
 use types.Run.{enter, addr, stop, and_then, no_more, returns}
@@ -18,9 +17,8 @@ use denote.Triple.Walked.{Stays, walk_of, stay_dropped, Goes-dropped, ends_at}
 use Rattle.std.specs.contracts.sync.atomic.AtomicU64.{the_row as word}
 use Rattle.argus_memory.specs.contracts.count.Count as C
 use Rattle.argus_memory.specs.contracts.count.Count.at as f
-use Rattle.argus_memory.proofs.count.Count.at.Statement.{statement}
+use Rattle.argus_memory.proofs.{count.Count.at.Statement.statement, Lasting.{count_val, count_made}}
 use Rattle.argus_memory.proofs.count.Count.at.Code as code
-use Rattle.argus_memory.proofs.Lasting.{count_val, count_made}
 
 abbrev stayed : Stays f.ended.signature.params f.ended.kept
 stayed = (stay_dropped _ yes, tt)

@@ -1,6 +1,5 @@
 -- `word` follows the pointer, which lasts. Assumes `Logic`.
-use Rattle.std.proofs.Common.{ℕ, ◌+◌, List, [], ◌∷◌, refl, sym}
-use Rattle.std.proofs.raw_atomic.Walks.{proved}
+use Rattle.std.proofs.{Common.{ℕ, ◌+◌, List, [], ◌∷◌, refl, sym}, raw_atomic.Walks.proved}
 use mir.Val.{Val, vptr}
 use mir.Syntax.{named, ty_ptr}
 use base.Logic.{SProp, id⊢}
@@ -22,9 +21,8 @@ use denote.Triple.Walked.{Stays, walk_of, stay_dropped, Goes-dropped, ends_at}
 use Rattle.argus_memory.specs.Count.{lasts}
 use Rattle.argus_memory.specs.contracts.count.Count as C
 use Rattle.argus_memory.specs.contracts.count.Count.word as f
-use Rattle.argus_memory.proofs.count.Count.word.Statement.{statement}
+use Rattle.argus_memory.proofs.{count.Count.word.Statement.statement, Lasting.{pointer_in, pointer_out}}
 use Rattle.argus_memory.proofs.count.Count.word.Code as code
-use Rattle.argus_memory.proofs.Lasting.{pointer_in, pointer_out}
 
 abbrev stayed : Stays f.ended.signature.params f.ended.kept
 stayed = (stay_dropped _ yes, tt)

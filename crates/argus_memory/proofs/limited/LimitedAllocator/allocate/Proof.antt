@@ -1,6 +1,7 @@
 -- It refuses where the budget is spent, and else answers what the inner allocator answers. Assumes `Logic`.
-use Rattle.std.proofs.Common.{◌≡◌, ℕ, Bool, true, false, [], ◌∷◌, refl, w64}
-use Rattle.std.proofs.raw_atomic.Walks.{proved}
+use Rattle.std.proofs.{Common.{◌≡◌, ℕ, Bool, true, false, [], ◌∷◌, refl, w64}, raw_atomic.Walks.proved}
+use Rattle.std.proofs.alloc.Calls.{Al, token, Answer, answer_val, Answer-typed, Takes, at_takes, Answered, Takes-goes}
+use Rattle.std.proofs.{alloc.Calls.{Takes-gives, answers}, alloc.Resizes.{result_of, result_own}, alloc.Shapes.after}
 use seplogic.Ra.Ura.{Ura}
 use mir.Syntax.{Fn}
 use mir.Val.{vint}
@@ -29,10 +30,6 @@ use denote.Triple.Statement.{Contract}
 use denote.Triple.Table.{framed}
 use denote.Triple.Walked.{walk_of, ends_at}
 use Rattle.std.specs.Allocator.{block_if_ok}
-use Rattle.std.proofs.alloc.Calls.{Al, token, Answer, answer_val, Answer-typed}
-use Rattle.std.proofs.alloc.Calls.{Takes, at_takes, Answered, Takes-goes, Takes-gives, answers}
-use Rattle.std.proofs.alloc.Resizes.{result_of, result_own}
-use Rattle.std.proofs.alloc.Shapes.{after}
 use Rattle.argus_memory.proofs.limited.Calling.{arguments, dropped, each_goes, inner_at, parts, spends}
 use Rattle.argus_memory.specs.contracts.limited.LimitedAllocator.allocate as F
 use Rattle.argus_memory.specs.contracts.limited.LimitedAllocator.allocate.Key as key

@@ -1,6 +1,6 @@
 -- It gives the block back to the inner allocator. Assumes `Logic`.
-use Rattle.std.proofs.Common.{◌≡◌, ℕ, List, [], ◌∷◌, refl, w64}
-use Rattle.std.proofs.raw_atomic.Walks.{proved}
+use Rattle.std.proofs.{Common.{◌≡◌, ℕ, List, [], ◌∷◌, refl, w64}, raw_atomic.Walks.proved}
+use Rattle.std.proofs.alloc.Calls.{Al, token, Gives, at_gives, Gives-goes, Gives-Gives}
 use mir.Syntax.{Fn}
 use mir.Val.{Val, vint, vunit}
 use mir.MapTy.{inst_fn}
@@ -26,7 +26,6 @@ use denote.Triple.Call.{calls_at}
 use denote.Triple.Clauses.{Ended}
 use denote.Triple.Table.{framed}
 use denote.Triple.Walked.{walk_of, ends_at}
-use Rattle.std.proofs.alloc.Calls.{Al, token, Gives, at_gives, Gives-goes, Gives-Gives}
 use Rattle.argus_memory.proofs.limited.Calling.{arguments, dropped, each_goes, inner_at, parts}
 use Rattle.argus_memory.specs.contracts.limited.LimitedAllocator.deallocate as F
 use Rattle.argus_memory.specs.contracts.limited.LimitedAllocator.deallocate.Key as key

@@ -1,5 +1,6 @@
 -- It refuses where the budget is spent, and else answers what the inner allocator answers. Assumes `Logic`.
-use Rattle.std.proofs.Common.{[], ◌∷◌, false, refl}
+use Rattle.std.proofs.{Common.{[], ◌∷◌, false, refl}, alloc.Calls.{Al, Answer-typed}, alloc.Shapes.after}
+use Rattle.std.proofs.alloc.Resizes.{Grows}
 use mir.Syntax.{Fn}
 use mir.MapTy.{inst_fn}
 use types.Kit.{at_ret, ◌$◌, !, drop, move}
@@ -9,11 +10,7 @@ use types.ByLocal.{alloc_all, pass_all, free_all, look_at, get, through, sets, l
 use contract.Running.{tables}
 use denote.RawPtr.{block_ptr}
 use denote.RattleType.{RattleType}
-use Rattle.std.proofs.alloc.Calls.{Al, Answer-typed}
-use Rattle.std.proofs.alloc.Shapes.{after}
-use Rattle.std.proofs.alloc.Resizes.{Grows}
-use Rattle.argus_memory.proofs.limited.Calling.{spends}
-use Rattle.argus_memory.proofs.limited.Resizing.{arguments, Returned, resizes, ends, resized}
+use Rattle.argus_memory.proofs.{limited.Calling.spends, limited.Resizing.{arguments, Returned, resizes, ends, resized}}
 use Rattle.argus_memory.specs.contracts.limited.LimitedAllocator.grow.Key as key
 use Rattle.argus_memory.proofs.limited.LimitedAllocator.grow.Statement as stated
 use Rattle.argus_memory.proofs.limited.LimitedAllocator.grow.Code as code

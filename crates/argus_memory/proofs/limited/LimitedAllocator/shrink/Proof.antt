@@ -1,13 +1,11 @@
 -- It answers what the inner allocator answers. Assumes `Logic`.
-use Rattle.std.proofs.Common.{refl}
+use Rattle.std.proofs.{Common.refl, alloc.Calls.{Al, Answer-typed}, alloc.Resizes.Shrinks}
 use mir.Syntax.{Fn}
 use mir.MapTy.{inst_fn}
 use types.Kit.{◌$◌, !, drop}
 use types.Run.{stop, fld, addr, no_more, and_then, returns, enter}
 use types.ByLocal.{alloc_all, pass_all, free_all, look_at, get, through, sets, lands_as}
 use denote.RattleType.{RattleType}
-use Rattle.std.proofs.alloc.Calls.{Al, Answer-typed}
-use Rattle.std.proofs.alloc.Resizes.{Shrinks}
 use Rattle.argus_memory.proofs.limited.Resizing.{arguments, resizes, ends, resized}
 use Rattle.argus_memory.specs.contracts.limited.LimitedAllocator.shrink.Key as key
 use Rattle.argus_memory.proofs.limited.LimitedAllocator.shrink.Statement as stated

@@ -1,15 +1,11 @@
 -- A write holder below all holders keeps the cell in order and lawful, and changes what it sees.
 use Rattle.std.proofs.Common.{◌≡◌, true, refl, sym, subst}
 use Rattle.std.specs.Prelude.{OnOk, IfOk}
-use Rattle.argus_contents.specs.Answer.{done_or}
-use Rattle.argus_contents.specs.Change.{plain_change, outcome}
-use Rattle.argus_contents.specs.Content.{KeepsLimits, plain_option}
-use Rattle.argus_objects.specs.Object.{Object, versions_newest_first}
-use Rattle.argus_objects.specs.Rules.{is_lawful, may_write}
+use Rattle.argus_contents.specs.{Answer.done_or, Change.{plain_change, outcome}, Content.{KeepsLimits, plain_option}}
+use Rattle.argus_objects.specs.{Object.{Object, versions_newest_first}, Rules.{is_lawful, may_write}}
 use Rattle.argus_objects.specs.CellChanges.{changed_top, newest_content, with_version}
 use Rattle.argus_contents.proofs.Kept.{outcome_keeps}
-use Rattle.argus_objects.proofs.Changes.{on_ok, seen_by_writer, writers_up_to}
-use Rattle.argus_objects.proofs.Lawful.{Kept, kept_change}
+use Rattle.argus_objects.proofs.{Changes.{on_ok, seen_by_writer, writers_up_to}, Lawful.{Kept, kept_change}}
 use Rattle.argus_objects.proofs.cell.Cell.grant_change_by_reference.Goals as goal
 
 pub change_version_by_reference-requires-clause-newest : goal.change_version_by_reference-requires-clause-newest

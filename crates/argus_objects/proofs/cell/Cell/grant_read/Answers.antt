@@ -1,7 +1,6 @@
 -- A reader whose ancestors are all holders of versions keeps the cell in order and lawful.
 use Rattle.std.proofs.Common.{◌≡◌, true, refl, sym, subst}
-use Rattle.argus_objects.specs.Object.{Object}
-use Rattle.argus_objects.specs.Rules.{is_lawful, may_read}
+use Rattle.argus_objects.specs.{Object.Object, Rules.{is_lawful, may_read}}
 use Rattle.argus_objects.proofs.Lawful.{Kept, kept_read}
 use Rattle.argus_objects.proofs.cell.Cell.grant_read.Goals as goal
 

@@ -1,11 +1,9 @@
 -- A write holder below all holders keeps the cell in order and lawful.
 use Rattle.std.proofs.Common.{◌≡◌, true, refl, sym, subst}
 use Rattle.argus_contents.specs.Content.{plain_option}
-use Rattle.argus_objects.specs.Object.{Object}
-use Rattle.argus_objects.specs.Rules.{is_lawful, may_write}
-use Rattle.argus_objects.proofs.Lawful.{Kept, kept_write}
+use Rattle.argus_objects.specs.{Object.Object, Rules.{is_lawful, may_write}}
+use Rattle.argus_objects.proofs.{Lawful.{Kept, kept_write}, Changes.writers_up_to}
 use Rattle.argus_objects.proofs.cell.Cell.grant_write.Goals as goal
-use Rattle.argus_objects.proofs.Changes.{writers_up_to}
 
 pub put_version-requires-clause-newest : goal.put_version-requires-clause-newest
 put_version-requires-clause-newest c =

@@ -1,8 +1,7 @@
 -- Each list by itself.
 use Rattle.std.proofs.Common.{◌≡◌, ◌||◌, eqb, sym, ◌∙◌, ap, subst}
 use Rattle.std.specs.List.{list_any}
-use Rattle.argus_objects.specs.declared.version.Version.{Version}
-use Rattle.argus_objects.specs.Object.{Object, versions_newest_first}
+use Rattle.argus_objects.specs.{declared.version.Version.Version, Object.{Object, versions_newest_first}}
 use Rattle.argus_objects.specs.CellChanges.{has_version, is_reader}
 use Rattle.argus_objects.proofs.Stacks.{has_newest}
 use Rattle.argus_objects.proofs.cell.Cell.has_holder.Goals as goal

@@ -1,7 +1,6 @@
 -- A cell whose locks and versions go to the parent stays in order and lawful.
 use Rattle.std.proofs.Common.{◌≡◌, true, sym, subst}
-use Rattle.argus_objects.specs.Object.{Object}
-use Rattle.argus_objects.specs.Rules.{is_lawful}
+use Rattle.argus_objects.specs.{Object.Object, Rules.is_lawful}
 use Rattle.argus_objects.proofs.Lawful.{Kept, kept_inherit}
 use Rattle.argus_objects.proofs.cell.Cell.inherit.Goals as goal
 

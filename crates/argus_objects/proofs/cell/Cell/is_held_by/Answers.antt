@@ -1,14 +1,10 @@
 -- Of the versions the newest decides, since no holder is past an action that may read.
-use Rattle.std.proofs.Common.{◌≡◌, ◌||◌, Bool, List, true, eqb, sym, ◌∙◌, ap, subst}
+use Rattle.std.proofs.{Common.{◌≡◌, ◌||◌, Bool, List, true, eqb, sym, ◌∙◌, ap, subst}, Math.Bool.{or-false, or-true}}
 use Rattle.std.specs.List.{list_any}
-use Rattle.std.proofs.Math.Bool.{or-false, or-true}
 use Rattle.argus_actions.specs.declared.action_id.ActionId.{ActionId}
-use Rattle.argus_objects.specs.declared.version.Version.{Version}
-use Rattle.argus_objects.specs.Object.{Object, versions_newest_first, writers}
-use Rattle.argus_objects.specs.Rules.{are_up_to, may_read}
-use Rattle.argus_objects.specs.CellChanges.{has_version, is_reader}
-use Rattle.argus_objects.proofs.Changes.{holders_up_to}
-use Rattle.argus_objects.proofs.Stacks.{has_newest}
+use Rattle.argus_objects.specs.{declared.version.Version.Version, Object.{Object, versions_newest_first, writers}}
+use Rattle.argus_objects.specs.{Rules.{are_up_to, may_read}, CellChanges.{has_version, is_reader}}
+use Rattle.argus_objects.proofs.{Changes.holders_up_to, Stacks.has_newest}
 use Rattle.argus_objects.proofs.cell.Cell.is_held_by.Goals as goal
 
 pub is_newest-requires-clause-newest : goal.is_newest-requires-clause-newest

@@ -1,11 +1,8 @@
 -- Fewer holders stay in order and lawful.
 use Rattle.std.proofs.Common.{◌≡◌, ◌≤◌, Bool, true, not, eqb, length, sym, subst, ap, arith}
 use Rattle.argus_actions.specs.declared.action_id.ActionId.{ActionId}
-use Rattle.argus_objects.specs.Object.{Object}
-use Rattle.argus_objects.specs.Rules.{is_lawful}
-use Rattle.argus_objects.specs.CellChanges.{without_reader}
-use Rattle.argus_objects.proofs.InOrder.{length_filter_le}
-use Rattle.argus_objects.proofs.Lawful.{Kept, kept_less}
+use Rattle.argus_objects.specs.{Object.Object, Rules.is_lawful, CellChanges.without_reader}
+use Rattle.argus_objects.proofs.{InOrder.length_filter_le, Lawful.{Kept, kept_less}}
 use Rattle.argus_objects.proofs.cell.Cell.settle_top.Goals as goal
 
 kept : (c : goal.After-settle_version) → Kept c.args.tree.now c.remove.new.self.items

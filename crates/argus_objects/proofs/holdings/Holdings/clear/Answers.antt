@@ -1,7 +1,6 @@
 -- The action's place is empty, and who had nothing in its list has nothing still.
 use Rattle.std.proofs.Common.{[], sym, ◌∙◌, ap, arith, refl}
-use Rattle.argus_objects.specs.Holdings.{place_at, placed_objects}
-use Rattle.argus_objects.specs.declared.held_list.HeldList.{HeldList}
+use Rattle.argus_objects.specs.{Holdings.{place_at, placed_objects}, declared.held_list.HeldList.HeldList}
 use Rattle.argus_objects.proofs.Places.{cleared_objects, has_place, holder_read, listed, none_set}
 use Rattle.argus_objects.proofs.holdings.Holdings.clear.Goals as goal
 

@@ -1,7 +1,6 @@
 -- No other action notices, and this one had nothing.
 use Rattle.std.proofs.Common.{◌∙◌, ap, arith, refl}
-use Rattle.argus_objects.specs.Holdings.{place_at, placed_objects}
-use Rattle.argus_objects.specs.declared.held_list.HeldList.{HeldList}
+use Rattle.argus_objects.specs.{Holdings.{place_at, placed_objects}, declared.held_list.HeldList.HeldList}
 use Rattle.argus_objects.proofs.Places.{given_objects, given_rooms}
 use Rattle.argus_objects.proofs.holdings.Holdings.give.Goals as goal
 

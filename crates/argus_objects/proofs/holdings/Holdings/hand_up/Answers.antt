@@ -2,12 +2,10 @@
 use Rattle.std.proofs.Common.{◌≡◌, ℕ, [], length, Option, cond, eqb, set, sym, ◌∙◌, ap, arith, refl}
 use Rattle.std.proofs.lemmas.Bool.{eqb-true}
 use Rattle.argus_actions.specs.declared.action_id.ActionId.{ActionId}
-use Rattle.argus_objects.specs.Holdings.{noted_by, place_at, placed_objects}
-use Rattle.argus_objects.specs.ObjectList.{NotedObjects, passed}
+use Rattle.argus_objects.specs.{Holdings.{noted_by, place_at, placed_objects}, ObjectList.{NotedObjects, passed}}
 use Rattle.argus_objects.specs.declared.held_list.HeldList.{HeldList}
-use Rattle.argus_objects.proofs.Distinct.{passed_to_none}
-use Rattle.argus_objects.proofs.Places.{handed_on, handed_whole, listed, none_handed, none_of_none, noted_read, nothing_handed, objects_handed}
-use Rattle.argus_objects.proofs.Places.{unlisted}
+use Rattle.argus_objects.proofs.{Distinct.passed_to_none, Places.{nothing_handed, objects_handed, unlisted}}
+use Rattle.argus_objects.proofs.Places.{handed_on, handed_whole, listed, none_handed, none_of_none, noted_read}
 use Rattle.argus_objects.proofs.holdings.Holdings.hand_up.Goals as goal
 
 pub returns-then-is_empty-clause-passed : goal.returns-then-is_empty-clause-passed

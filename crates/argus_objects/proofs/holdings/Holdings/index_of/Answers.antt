@@ -1,6 +1,5 @@
 -- What stands in the action's place is the number of its list, if that list is its own.
-use Rattle.std.proofs.Common.{◌≡◌, ◌<◌, ◌≤◌, length, get_or, None, Some, sym, ◌∙◌, ap, rules}
-use Rattle.std.proofs.lemmas.List.{get_or_past}
+use Rattle.std.proofs.{Common.{◌≡◌, ◌<◌, ◌≤◌, length, get_or, None, Some, sym, ◌∙◌, ap, rules}, lemmas.List.get_or_past}
 use Rattle.argus_objects.specs.Holdings.{no_list, owned_index}
 use Rattle.argus_objects.proofs.Places.{owned_is, owned_other, owned_past, place_is}
 use Rattle.argus_objects.proofs.holdings.Holdings.index_of.Goals as goal

@@ -1,7 +1,6 @@
 -- The list under the action's number is the action's, and no other's.
 use Rattle.std.proofs.Common.{sym, ◌∙◌, ap, arith}
-use Rattle.argus_objects.specs.ObjectList.{NotedObjects}
-use Rattle.argus_objects.specs.Holdings.{noted}
+use Rattle.argus_objects.specs.{ObjectList.NotedObjects, Holdings.noted}
 use Rattle.argus_objects.proofs.Places.{holder_read, listed, noted_read, objects_set, rooms_set, unlisted}
 use Rattle.argus_objects.proofs.holdings.Holdings.note.Goals as goal
 

@@ -1,7 +1,6 @@
 -- The list under the action's number is the action's, and no other's.
 use Rattle.std.proofs.Common.{◌≤◌, length, sym, ◌∙◌, ap, arith, []}
-use Rattle.argus_objects.specs.Holdings.{passed}
-use Rattle.argus_objects.specs.ObjectList.{NotedObjects}
+use Rattle.argus_objects.specs.{Holdings.passed, ObjectList.NotedObjects}
 use Rattle.argus_objects.proofs.Places.{holder_read, listed, none_of_none, none_set, noted_read, objects_set, unlisted}
 use Rattle.argus_objects.proofs.holdings.Holdings.note_all.Goals as goal
 

@@ -1,6 +1,5 @@
 -- A list that isn't the one of the action that it names is nobody's.
-use Rattle.std.proofs.Common.{◌≡◌, ◌<◌, true, length, get_or, sym, ◌∙◌, rules}
-use Rattle.std.proofs.lemmas.Option.{cond_some, none-some}
+use Rattle.std.proofs.{Common.{◌≡◌, ◌<◌, true, length, get_or, sym, ◌∙◌, rules}, lemmas.Option.{cond_some, none-some}}
 use Rattle.argus_objects.specs.Holdings.{no_list}
 use Rattle.argus_objects.proofs.Places.{nobody_has}
 use Rattle.argus_objects.proofs.holdings.Holdings.take_unused.Goals as goal

@@ -1,6 +1,5 @@
 -- One object more is noted, in the room that is there.
-use Rattle.std.proofs.Common.{◌≡◌, ◌<◌, ◌+◌, get_or, drop, sym, ◌∙◌, ap, arith, rules}
-use Rattle.std.proofs.lemmas.List.{drop_more}
+use Rattle.std.proofs.{Common.{◌≡◌, ◌<◌, ◌+◌, get_or, drop, sym, ◌∙◌, ap, arith, rules}, lemmas.List.drop_more}
 use Rattle.argus_contents.specs.declared.obj_id.ObjId.{ObjId}
 use Rattle.argus_objects.specs.ObjectList.{noted, passed}
 use Rattle.argus_objects.proofs.object_list.ObjectList.note_all.Goals as goal

@@ -1,13 +1,12 @@
 -- It is the newest reader already, or it is pushed behind the newest.
-use Rattle.std.proofs.Common.{◌≡◌, ◌-◌, ◌<◌, ◌≤◌, true, [], ◌∷◌, ◌++◌, length, drop, get_or, vec_len, sym, ◌∙◌, ap, subst, arith}
+use Rattle.std.proofs.Common.{◌≡◌, ◌-◌, ◌<◌, ◌≤◌, true, [], ◌∷◌, ◌++◌, length, drop, get_or, vec_len, sym, ◌∙◌, ap}
+use Rattle.std.proofs.Common.{subst, arith}
 use Rattle.argus_actions.specs.declared.action_id.ActionId.{ActionId}
-use Rattle.argus_objects.specs.Rules.{is_ascending}
-use Rattle.argus_objects.specs.CellChanges.{with_reader}
-use Rattle.argus_objects.specs.Readers.{ReaderList}
+use Rattle.argus_objects.specs.{Rules.is_ascending, CellChanges.with_reader, Readers.ReaderList}
 use Rattle.argus_objects.proofs.Parted.{at_newest, pushed, seen}
-use Rattle.argus_objects.proofs.readers.Readers.add.Goals as goal
 use Rattle.argus_objects.proofs.readers.Readers.add.Goals.{else-taken-gt0-via-then-taken-gt0+else-index-a}
 use Rattle.argus_objects.proofs.readers.Readers.add.Goals.{else-taken-gt0-via-else-taken-gt0}
+use Rattle.argus_objects.proofs.readers.Readers.add.Goals as goal
 
 pub returns-else-index-a-2-clause-items : goal.returns-else-index-a-2-clause-items
 returns-else-index-a-2-clause-items c =

@@ -1,13 +1,11 @@
 -- An action past the newest reader is none.
 use Rattle.std.proofs.Common.{◌≡◌, ◌-◌, ◌<◌, ◌≤◌, true, false, length, drop, get_or, vec_len, sym, subst, arith}
 use Rattle.argus_actions.specs.declared.action_id.ActionId.{ActionId}
-use Rattle.argus_objects.specs.Rules.{is_ascending}
-use Rattle.argus_objects.specs.CellChanges.{is_reader}
-use Rattle.argus_objects.specs.Readers.{ReaderList}
+use Rattle.argus_objects.specs.{Rules.is_ascending, CellChanges.is_reader, Readers.ReaderList}
 use Rattle.argus_objects.proofs.Parted.{past_newest, seen}
-use Rattle.argus_objects.proofs.readers.Readers.has.Goals as goal
 use Rattle.argus_objects.proofs.readers.Readers.has.Goals.{then-taken-eq0-via-then-taken-eq0}
 use Rattle.argus_objects.proofs.readers.Readers.has.Goals.{then-taken-eq0-via-else-taken-eq0+then-index-a}
+use Rattle.argus_objects.proofs.readers.Readers.has.Goals as goal
 
 pub returns-then-taken-eq0 : goal.returns-then-taken-eq0
 returns-then-taken-eq0 c =

@@ -2,8 +2,7 @@
 use Rattle.std.proofs.Common.{◌<◌, length, not, eqb, sym, ◌∙◌, ap, arith}
 use Rattle.argus_actions.specs.declared.action_id.ActionId.{ActionId}
 use Rattle.argus_objects.specs.CellChanges.{without_reader}
-use Rattle.argus_objects.proofs.InOrder.{fewer_readers}
-use Rattle.argus_objects.proofs.Ascending.{ascending_filter}
+use Rattle.argus_objects.proofs.{InOrder.fewer_readers, Ascending.ascending_filter}
 use Rattle.argus_objects.proofs.readers.Readers.inherit.Goals as goal
 
 pub add-requires-clause-room : goal.add-requires-clause-room

@@ -1,9 +1,8 @@
 -- The action is put in its place behind the front.
-use Rattle.std.proofs.Common.{◌≡◌, ◌+◌, ◌-◌, ◌<◌, ◌≤◌, ◌∷◌, ◌++◌, length, take, drop, vec_len, sym, ◌∙◌, ap, subst, arith, rules}
+use Rattle.std.proofs.Common.{◌≡◌, ◌+◌, ◌-◌, ◌<◌, ◌≤◌, ◌∷◌, ◌++◌, length, take, drop, vec_len, sym, ◌∙◌, ap, subst}
+use Rattle.std.proofs.{Common.{arith, rules}, lemmas.List.length-drop}
 use Rattle.std.specs.Vec.{vec_capacity}
-use Rattle.std.proofs.lemmas.List.{length-drop}
-use Rattle.argus_objects.specs.CellChanges.{with_reader}
-use Rattle.argus_objects.specs.Readers.{ReaderList, GoesTo}
+use Rattle.argus_objects.specs.{CellChanges.with_reader, Readers.{ReaderList, GoesTo}}
 use Rattle.argus_objects.proofs.Moved.{put_between}
 use Rattle.argus_objects.proofs.readers.Readers.put_in.Goals as goal
 

@@ -1,13 +1,11 @@
 -- An action past the newest reader is none, and the newest is the last.
 use Rattle.std.proofs.Common.{◌≡◌, ◌-◌, ◌<◌, ◌≤◌, true, length, drop, take, get_or, vec_len, sym, ◌∙◌, subst, arith}
 use Rattle.argus_actions.specs.declared.action_id.ActionId.{ActionId}
-use Rattle.argus_objects.specs.Rules.{is_ascending}
-use Rattle.argus_objects.specs.CellChanges.{without_reader}
-use Rattle.argus_objects.specs.Readers.{ReaderList}
+use Rattle.argus_objects.specs.{Rules.is_ascending, CellChanges.without_reader, Readers.ReaderList}
 use Rattle.argus_objects.proofs.Parted.{past_newest, popped, seen}
-use Rattle.argus_objects.proofs.readers.Readers.remove.Goals as goal
 use Rattle.argus_objects.proofs.readers.Readers.remove.Goals.{then-taken-eq0-via-then-taken-eq0}
 use Rattle.argus_objects.proofs.readers.Readers.remove.Goals.{then-taken-eq0-via-else-taken-eq0+then-index-a}
+use Rattle.argus_objects.proofs.readers.Readers.remove.Goals as goal
 
 pub returns-then-taken-eq0-clause-items : goal.returns-then-taken-eq0-clause-items
 returns-then-taken-eq0-clause-items c =

@@ -2,10 +2,8 @@
 use Rattle.std.proofs.Common.{◌≡◌, ◌+◌, ◌-◌, ◌<◌, ◌≤◌, length, drop, vec_len, sym, ◌∙◌, ap, subst, arith}
 use Rattle.std.proofs.lemmas.List.{length-drop}
 use Rattle.argus_actions.specs.declared.action_id.ActionId.{ActionId}
-use Rattle.argus_objects.specs.CellChanges.{without_reader}
-use Rattle.argus_objects.specs.Readers.{ReaderList, StandsAt}
-use Rattle.argus_objects.proofs.Moved.{taken_between}
-use Rattle.argus_objects.proofs.Parted.{not_newest}
+use Rattle.argus_objects.specs.{CellChanges.without_reader, Readers.{ReaderList, StandsAt}}
+use Rattle.argus_objects.proofs.{Moved.taken_between, Parted.not_newest}
 use Rattle.argus_objects.proofs.readers.Readers.take_out.Goals as goal
 
 pub invariant_of-self : goal.invariant_of-self

@@ -1,9 +1,7 @@
 -- The number is that of the next entry, or another one.
-use Rattle.std.proofs.Common.{subst, sym, ◌∙◌}
-use Rattle.std.proofs.lemmas.Bool.{false≢true}
+use Rattle.std.proofs.{Common.{subst, sym, ◌∙◌}, lemmas.Bool.false≢true}
 use Rattle.argus_entries.specs.Entry.{plain_entry}
-use Rattle.argus_picture.specs.Listing.{IsNumbered}
-use Rattle.argus_picture.specs.RunPlace.{place_of}
+use Rattle.argus_picture.specs.{Listing.IsNumbered, RunPlace.place_of}
 use Rattle.argus_picture.proofs.Numbered.{entered, refused}
 use Rattle.argus_picture.proofs.run.Run.take_numbered.Goals as goal
 

@@ -1,6 +1,5 @@
 -- The text is that of the opening's next object, or it isn't.
-use Rattle.std.proofs.Common.{sym, ◌∙◌}
-use Rattle.std.proofs.lemmas.Bool.{false≢true}
+use Rattle.std.proofs.{Common.{sym, ◌∙◌}, lemmas.Bool.false≢true}
 use Rattle.argus_contents.specs.Content.{plain_option}
 use Rattle.argus_picture.specs.RunPlace.{place_of}
 use Rattle.argus_picture.proofs.Openings.{adds, no_adding, no_object}

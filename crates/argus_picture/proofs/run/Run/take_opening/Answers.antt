@@ -1,6 +1,5 @@
 -- A line came before, and there is no opening or an entry came before.
-use Rattle.std.proofs.Common.{sym, ◌∙◌}
-use Rattle.std.proofs.lemmas.Bool.{false≢true}
+use Rattle.std.proofs.{Common.{sym, ◌∙◌}, lemmas.Bool.false≢true}
 use Rattle.argus_picture.specs.RunPlace.{place_of}
 use Rattle.argus_picture.proofs.Openings.{no_opening}
 use Rattle.argus_picture.proofs.run.Run.take_opening.Goals as goal

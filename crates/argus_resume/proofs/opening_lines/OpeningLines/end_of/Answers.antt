@@ -1,7 +1,6 @@
 -- The last object of the front tells where its lines end.
 use Rattle.std.proofs.Common.{arith, ap, length, suc, ◌∙◌, ◌-◌, ◌≡◌}
-use Rattle.argus_resume.specs.SoundFront.{opening_front}
-use Rattle.argus_resume.specs.Stage.{lines_of, opening_read}
+use Rattle.argus_resume.specs.{SoundFront.opening_front, Stage.{lines_of, opening_read}}
 use Rattle.argus_resume.specs.declared.opened_object.OpenedObject.{OpenedObject}
 use Rattle.argus_resume.proofs.Ends.{front_end}
 use Rattle.argus_resume.proofs.opening_lines.OpeningLines.end_of.Goals as goal

@@ -1,12 +1,9 @@
 -- The copies are the objects of the front.
-use Rattle.std.proofs.Common.{IfOk, List, ap, subst, sym, take, true, ◌∙◌, ◌≡◌}
-use Rattle.std.proofs.lemmas.List.{take-map}
+use Rattle.std.proofs.{Common.{IfOk, List, ap, subst, sym, take, true, ◌∙◌, ◌≡◌}, lemmas.List.take-map}
 use Rattle.std.specs.Prelude.{Option}
-use Rattle.argus_contents.specs.Content.{PlainContent}
-use Rattle.argus_contents.specs.Shape.{PlainShape}
+use Rattle.argus_contents.specs.{Content.PlainContent, Shape.PlainShape}
 use Rattle.argus_journal.specs.Opening.{is_sound, opening_at}
-use Rattle.argus_resume.specs.Stage.{object_read, objects_read}
-use Rattle.argus_resume.specs.declared.opened_object.OpenedObject.{OpenedObject}
+use Rattle.argus_resume.specs.{Stage.{object_read, objects_read}, declared.opened_object.OpenedObject.OpenedObject}
 use Rattle.argus_resume.proofs.opening_lines.OpeningLines.guardian.Goals as goal
 
 pub starting_at-requires-clause-sound : goal.starting_at-requires-clause-sound

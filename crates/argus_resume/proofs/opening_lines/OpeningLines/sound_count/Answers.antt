@@ -1,6 +1,5 @@
 -- An object that fits stays in the front, and one that doesn't ends it.
-use Rattle.std.proofs.Common.{arith, inl, inr, sym, ◌-◌, ◌∙◌, ◌≡◌}
-use Rattle.std.proofs.lemmas.Bool.{cases_lt}
+use Rattle.std.proofs.{Common.{arith, inl, inr, sym, ◌-◌, ◌∙◌, ◌≡◌}, lemmas.Bool.cases_lt}
 use Rattle.argus_resume.proofs.Sound.{count_found, found_fails, found_fits}
 use Rattle.argus_resume.proofs.opening_lines.OpeningLines.sound_count.Goals as goal
 

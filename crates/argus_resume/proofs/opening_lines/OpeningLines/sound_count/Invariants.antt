@@ -1,10 +1,8 @@
 -- The objects from this one on fit with as many as are left, and no longer front is sound.
 use Rattle.std.proofs.Common.{◌≡◌, ℕ, ◌<◌, ◌≤◌, get_or, length, true}
 use Rattle.std.specs.Prelude.{Option}
-use Rattle.argus_contents.specs.Content.{PlainContent}
-use Rattle.argus_contents.specs.Shape.{PlainShape}
-use Rattle.argus_resume.specs.SoundFront.{sound_count}
-use Rattle.argus_resume.specs.Stage.{objects_read, opening_read}
+use Rattle.argus_contents.specs.{Content.PlainContent, Shape.PlainShape}
+use Rattle.argus_resume.specs.{SoundFront.sound_count, Stage.{objects_read, opening_read}}
 use Rattle.argus_resume.proofs.Sound.{fits_with}
 use Rattle.argus_resume.proofs.opening_lines.OpeningLines.sound_count.Given as goal
 

@@ -1,13 +1,9 @@
 -- What was let go of an opening, and that a legal journal's opening is sound.
 use Rattle.std.proofs.Common.{ap, inr, length, subst, sym, true, ◌∙◌, ◌≡◌}
-use Rattle.argus_journal.specs.JournalView.{JournalView}
-use Rattle.argus_journal.specs.Opening.{is_sound}
-use Rattle.argus_resume.specs.JournalText.{IsReadableJournal}
-use Rattle.argus_resume.specs.SoundFront.{sound_count}
+use Rattle.argus_journal.specs.{JournalView.JournalView, Opening.is_sound}
+use Rattle.argus_resume.specs.{JournalText.IsReadableJournal, SoundFront.sound_count}
 use Rattle.argus_resume.specs.Stage.{IsCounted, StageInvariant, journal_taken, opened_alone, opening_read}
-use Rattle.argus_resume.proofs.Ends.{front_taken}
-use Rattle.argus_resume.proofs.Listable.{taken_calls, taken_opening}
-use Rattle.argus_resume.proofs.Readable.{calls_of_readable}
+use Rattle.argus_resume.proofs.{Ends.front_taken, Listable.{taken_calls, taken_opening}, Readable.calls_of_readable}
 use Rattle.argus_resume.proofs.Stages.{front_same, level_taken}
 use Rattle.argus_resume.proofs.resuming.Resuming.into_guardian.Goals as goal
 

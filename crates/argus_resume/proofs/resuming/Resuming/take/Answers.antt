@@ -1,6 +1,5 @@
 -- One more line was taken.
-use Rattle.std.proofs.Common.{arith, length-drop, rules}
-use Rattle.std.proofs.lemmas.List.{take_rest}
+use Rattle.std.proofs.{Common.{arith, length-drop, rules}, lemmas.List.take_rest}
 use Rattle.argus_resume.specs.JournalText.{journal_text}
 use Rattle.argus_resume.proofs.Feeds.{count_more, text_more}
 use Rattle.argus_resume.proofs.resuming.Resuming.take.Goals as goal

@@ -1,7 +1,6 @@
 -- The listing is longer by the first bytes of the text.
 use Rattle.std.proofs.Common.{length, take, ◌++◌, ◌-◌, ◌≡◌, ◌≤◌}
-use Rattle.argus_resume.specs.JournalText.{journal_text}
-use Rattle.argus_resume.specs.Taking.{line_count}
+use Rattle.argus_resume.specs.{JournalText.journal_text, Taking.line_count}
 use Rattle.argus_resume.proofs.resuming.Resuming.take.Given as goal
 
 abbrev pub invariant-loop-bytes : goal.invariant-loop-bytes

@@ -1,10 +1,8 @@
 -- The first line, up to its line feed.
 use Rattle.std.proofs.Common.{List, ap, drop, subst, sym, take, ℕ, ◌+◌, ◌++◌, ◌∙◌}
 use Rattle.argus_journal.specs.JournalView.{JournalView}
-use Rattle.argus_resume.specs.JournalText.{journal_text}
-use Rattle.argus_resume.specs.FrontLine.{IsFrontError}
-use Rattle.argus_resume.proofs.Feeds.{feed_there, first_line, none_there}
-use Rattle.argus_resume.proofs.FrontLines.{error_ends, text_error}
+use Rattle.argus_resume.specs.{JournalText.journal_text, FrontLine.IsFrontError}
+use Rattle.argus_resume.proofs.{Feeds.{feed_there, first_line, none_there}, FrontLines.{error_ends, text_error}}
 use Rattle.argus_resume.proofs.resuming.Resuming.take_any.Goals as goal
 
 pub returns-in_default-clause-end : goal.returns-in_default-clause-end

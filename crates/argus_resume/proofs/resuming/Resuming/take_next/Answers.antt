@@ -1,8 +1,7 @@
 -- An error of the line at the front ends the taking.
 use Rattle.std.proofs.Common.{subst, sym}
 use Rattle.argus_journal.specs.JournalView.{JournalView}
-use Rattle.argus_resume.specs.FrontLine.{IsFrontError}
-use Rattle.argus_resume.specs.Stage.{journal_taken}
+use Rattle.argus_resume.specs.{FrontLine.IsFrontError, Stage.journal_taken}
 use Rattle.argus_resume.proofs.FrontLines.{error_ends}
 use Rattle.argus_resume.proofs.resuming.Resuming.take_next.Goals as goal
 

@@ -1,16 +1,12 @@
 -- One call more goes on behind those that were made.
-use Rattle.std.proofs.Common.{[], ap, arith, drop, false, length, map, rules, subst, suc, sym, true, ◌++◌, ◌+◌, ◌<◌, ◌∙◌}
-use Rattle.std.proofs.Common.{◌∷◌, ◌≡◌}
-use Rattle.std.proofs.lemmas.List.{append-nil}
-use Rattle.argus_entries.specs.Call.{plain_call}
-use Rattle.argus_entries.specs.Reply.{plain_reply}
-use Rattle.argus_sharing.specs.CallEach.{added_by_calls, after_calls, end_of, is_met, replies_of}
-use Rattle.argus_sharing.specs.Following.{GoesOn}
+use Rattle.std.proofs.Common.{[], ap, arith, drop, false, length, map, rules, subst, suc, sym, true, ◌++◌, ◌+◌, ◌<◌}
+use Rattle.std.proofs.{Common.{◌∙◌, ◌∷◌, ◌≡◌}, lemmas.List.append-nil}
+use Rattle.argus_entries.specs.{Call.plain_call, Reply.plain_reply}
+use Rattle.argus_sharing.specs.{CallEach.{added_by_calls, after_calls, end_of, is_met, replies_of}, Following.GoesOn}
 use Rattle.argus_sharing.specs.Locked.{LockedState}
 use Rattle.argus_sharing.proofs.CallEach.{end_more, goes_on_more, next_call, replies_end, replies_more, some_reply}
-use Rattle.argus_sharing.proofs.Follow.{shared_on, stays}
+use Rattle.argus_sharing.proofs.{Follow.{shared_on, stays}, locked.Locked.call_each.Goals.{in-Ok-false, in-Err}}
 use Rattle.argus_sharing.proofs.locked.Locked.call_each.Goals as goal
-use Rattle.argus_sharing.proofs.locked.Locked.call_each.Goals.{in-Ok-false, in-Err}
 
 pub returns-then-is_err-clause-replies : goal.returns-then-is_err-clause-replies
 returns-then-is_err-clause-replies g c =

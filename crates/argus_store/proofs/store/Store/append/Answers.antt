@@ -1,5 +1,4 @@
-use Rattle.std.proofs.Common.{◌≡◌, inl, Less, int_cmp, to_z-of_z}
-use Rattle.std.proofs.lemmas.Result.{IfOk-weaker}
+use Rattle.std.proofs.{Common.{◌≡◌, inl, Less, int_cmp, to_z-of_z}, lemmas.Result.IfOk-weaker}
 use Rattle.sqlite.specs.Held.{state}
 use Rattle.argus_store.specs.Journal.{Batch, with_batch}
 use Rattle.argus_store.proofs.Logs.{acknowledged, crashes, settled, kept_by, has_entry, elsewhere}

@@ -1,7 +1,6 @@
 use Rattle.std.proofs.Common.{to_z-of_z}
 use Rattle.sqlite.specs.Held.{state}
-use Rattle.argus_store.specs.Journal.{Journal, new_journal}
-use Rattle.argus_store.specs.Store.{HasLog}
+use Rattle.argus_store.specs.{Journal.{Journal, new_journal}, Store.HasLog}
 use Rattle.argus_store.proofs.Logs.{settled}
 use Rattle.argus_store.proofs.store.Store.create.Goals as goal
 

@@ -1,8 +1,7 @@
 -- What all arms tell is what the arms that are left tell behind those so far.
 use Rattle.std.proofs.Common.{drop, ◌≡◌}
 use Rattle.argus_language.specs.PlainStep.{plain_steps}
-use Rattle.argus_workers.specs.RunCheck.{check_arms}
-use Rattle.argus_workers.specs.State.{check_state_of}
+use Rattle.argus_workers.specs.{RunCheck.check_arms, State.check_state_of}
 use Rattle.argus_workers.proofs.outermost_caller.OutermostCallerCaller.arms.Given as goal
 
 abbrev pub invariant-loop-k : goal.invariant-loop-k
