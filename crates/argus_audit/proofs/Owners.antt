@@ -17,8 +17,8 @@ use Rattle.argus_journal.proofs.OwnersByEntries.{held_live, model_owner, owner_i
 use Rattle.argus_model.specs.Ancestors as model
 use Rattle.argus_model.specs.Event as event
 use Rattle.argus_model.specs.{Event.{Accessed, Began}, History.{History, Opened, next_action, ◌▹◌}, Numbers.contains}
-use Rattle.argus_model.specs.{Owner.owner, Status.{is_live, status}}
-use Rattle.argus_model.specs.Status.{IsAborted, IsCommitted, IsFolded, IsLive, has_committed, is_begun, is_doomed}
+use Rattle.argus_model.specs.{Owner.owner, Status.is_doomed}
+use Rattle.argus_model.specs.Status.{status, IsAborted, IsCommitted, IsFolded, IsLive, has_committed, is_begun}
 use Rattle.argus_model.specs.Owner as owners
 use Rattle.argus_model.specs.Status as model_status
 use Rattle.argus_model.proofs.{Ancestors.{folded_next, lineage_old, parent_older}, Lawful.lawful_orderly}

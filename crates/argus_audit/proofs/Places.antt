@@ -1,7 +1,7 @@
 -- One more entry, and all of them.
-use Rattle.std.proofs.Common.{List, None, Some, [], ap, arith, drop, inl, inr, length, reverse, subst, suc, sym, take}
-use Rattle.std.proofs.{Common.{ℕ, ◌++◌, ◌+◌, ◌∙◌, ◌∷◌, ◌≡◌, ◌≤◌}, Math.Seq.take-suc}
-use Rattle.std.proofs.lemmas.List.{length-reverse, reverse-append, reverse-reverse, take-append-drop, take_all}
+use Rattle.std.proofs.Common.{List, None, Some, [], ap, arith, drop, inl, inr, reverse, subst, suc, sym, take, ℕ, ◌++◌}
+use Rattle.std.proofs.{Common.{◌+◌, ◌∙◌, ◌∷◌, ◌≡◌, ◌≤◌}, Math.Seq.take-suc}
+use Rattle.std.proofs.lemmas.List.{reverse-append, reverse-reverse, take-append-drop, take_all}
 use Rattle.std.proofs.lemmas.Option.{get_or_from_slice_get, none-some, slice_get_cases, slice_get_within}
 use Rattle.std.specs.Prelude.{slice_get}
 use Rattle.argus_audit.specs.Places.{first_entries}
@@ -17,12 +17,6 @@ one_more j n e is =
     ∙ ap reverse (take-suc (reverse j) n e (slice_get_within (reverse j) n e is)
     ∙ ap (λ x. take n (reverse j) ++ x ∷ []) (get_or_from_slice_get (reverse j) n e e is))
     ∙ reverse-append (take n (reverse j)) (e ∷ [])
-
--- no more entries, where none is found
-pub all_entries : (j : List PlainEntry) (n : ℕ) → length j ≤ n → first_entries j n ≡ j
-all_entries j n past =
-    let long : length (reverse j) ≤ n = subst (λ k. k ≤ n) (sym (length-reverse j)) past in
-    ap reverse (take_all n (reverse j) long) ∙ reverse-reverse j
 
 pub no_more : (j : List PlainEntry) (n : ℕ) → slice_get (reverse j) n ≡ None → first_entries j (n + 1) ≡ first_entries j n
 no_more j n none =

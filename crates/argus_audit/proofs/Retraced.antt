@@ -1,13 +1,10 @@
 -- A tree in which the calls of a legal journal are made again has the rows of its history.
-use Rattle.std.proofs.Common.{Bool, Err, List, None, Ok, OnErr, OnOk, Option, Result, Some, ap, false, refl, subst, sym}
-use Rattle.std.proofs.Common.{true, ℕ, ◌+◌, ◌∙◌, ◌∷◌, ◌≡◌, ◌≢◌}
-use Rattle.std.specs.{Option.{is_none, option_or}, Result.result_err}
-use Rattle.argus_actions.specs.Refusals.{IsRefusedBy, abort_others_refusal, abort_refusal, begin_nested_refusal}
-use Rattle.argus_actions.specs.Refusals.{begin_sub_refusal, begin_top_refusal, commit_refusal, refused_if}
-use Rattle.argus_actions.specs.{Rows.under_at, declared.action_error.ActionError.ActionError}
+use Rattle.std.proofs.Common.{Bool, List, None, Option, Some, ap, false, refl, subst, sym, true, ℕ, ◌+◌, ◌∙◌, ◌∷◌, ◌≡◌}
+use Rattle.std.proofs.Common.{◌≢◌}
+use Rattle.std.specs.Option.{is_none, option_or}
+use Rattle.argus_actions.specs.Refusals.{abort_others_refusal, abort_refusal, begin_nested_refusal, begin_sub_refusal}
+use Rattle.argus_actions.specs.{Refusals.{begin_top_refusal, commit_refusal, refused_if}, Rows.under_at}
 use Rattle.argus_actions.specs.Tree.{SameActions, Tree, after_abort, after_abort_others, after_begin, after_commit}
-use Rattle.argus_actions.specs.declared.action_error.ActionError.TheVariants.{OutOfMemory}
-use Rattle.argus_actions.specs.declared.action_id.ActionId.{ActionId}
 use Rattle.argus_actions.specs.declared.action_refusal.ActionRefusal.{ActionRefusal}
 use Rattle.argus_actions.specs.declared.action_refusal.ActionRefusal.TheVariants.{NoSiblings}
 use Rattle.argus_actions.specs.declared.origin.Origin.TheVariants.{Nested, Sub, Top}
@@ -27,24 +24,6 @@ use Rattle.argus_refinement.proofs.TreeRefusals.{abort_is, commit_is, nested_is,
 use Rattle.argus_refinement.proofs.TreeSteps.{abort_others_tree, abort_tree, begin_tree, commit_tree, same_tree}
 
 -- what the tree's calls say is a step
-
-same_actions : (t : Tree) → SameActions t t
-same_actions t = record { folded = refl; rows = refl }
-
-same_as : (t u : Tree) → u ≡ t → SameActions t u
-same_as t u e = subst (λ x. SameActions t x) (sym e) (same_actions t)
-
-pub begun_step : (q : Option ActionRefusal) (r : Result ActionId ActionError) (made t u : Tree) → IsRefusedBy q r
-    → OnOk r (SameActions made u) → OnErr r (u ≡ t) → r ≢ Err OutOfMemory → Step q made t u
-begun_step None (Ok a) made t u by ok err n = ok
-begun_step None (Err e) made t u by ok err n = absurd (n (ap Err by))
-begun_step (Some why) (Ok a) made t u by ok err n = absurd (cc)
-begun_step (Some why) (Err e) made t u by ok err n = same_as t u err
-
-pub ended_step : {X : Type 0} (q : Option ActionRefusal) (r : Result X ActionRefusal) (made t u : Tree)
-    → result_err r ≡ q → OnOk r (u ≡ made) → OnErr r (u ≡ t) → Step q made t u
-ended_step q (Ok x) made t u is ok err = subst (λ k. Step k made t u) is (same_as made u ok)
-ended_step q (Err why) made t u is ok err = subst (λ k. Step k made t u) is (same_as t u err)
 
 -- who has a sibling was begun by somebody
 found_under : (q : Option ActionRefusal) (u : Option ℕ) → option_or q (refused_if (is_none u) NoSiblings) ≡ None

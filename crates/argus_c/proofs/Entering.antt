@@ -3,7 +3,7 @@ use Prim.Native.Nat.{ℕ}
 use mir.Syntax.{Fn}
 use prog.Wp.{Calls, Loops}
 use Rattle.core.proofs.alloc.Calls.{Fits}
-use Rattle.argus_c.proofs.Steps.{!, B, Bx, D, Item, List, Logic, SProp, Ura, Val, WpFn, [], box_in, box_out, by, ent}
+use Rattle.argus_c.proofs.Steps.{B, !, Bx, D, Item, List, Logic, SProp, Ura, Val, WpFn, [], box_in, box_out, by, ent}
 use Rattle.argus_c.proofs.Steps.{qed, refl, subst, sym, word, ‵, ◌$◌, ◌++◌, ◌∵◌, ◌∷◌}
 
 pub at_word : {M : Type 1} {𝓤 : Ura M} (𝓛 : Logic 𝓤) (C : Calls 𝓤 𝓛.H) (Λ : Loops 𝓤 𝓛.H) (E : Bx) (v : D E)

@@ -1,8 +1,7 @@
 -- Items and fields that are written, and what a trim leaves.
-use Rattle.std.proofs.Common.{◌≡◌, ℕ, ◌<◌, ℤ, ◌≤ℤ◌, ◌<ℤ◌, List, length, take, drop, Some, true, false, refl, arith}
-use Rattle.std.proofs.{Common.nat_lt, lemmas.List.{map-set, length-map, drop-map}, lemmas.Int.ints}
-use Rattle.std.proofs.lemmas.Bool.Decides.{nat_tests}
-use Rattle.std.specs.{Prelude.int_lt, List.take-map}
+use Rattle.std.proofs.Common.{◌≡◌, ℕ, ◌<◌, ℤ, ◌≤ℤ◌, ◌<ℤ◌, List, length, take, drop, Some, true, refl, arith, nat_lt}
+use Rattle.std.proofs.{lemmas.List.{map-set, length-map, drop-map}, lemmas.Bool.Decides.nat_tests}
+use Rattle.std.specs.List.{take-map}
 use lib.ListN.{set}
 use Rattle.argus_contents.specs.{Value.{plain_value, plain_list}, Content.{rec, arr}, Answer.done, Place.place_of}
 use Rattle.argus_contents.specs.{Change.{array_outcome, store, set_in}, declared.value.Value.Value}
@@ -21,12 +20,6 @@ field_written vs i v h = rw (
   within_true i (length vs) (length (plain_list vs)) (length-map vs plain_value) h,
   map-set plain_value vs i v,
 ) refl
-
-pub below_true : (a b : ℤ) → a <ℤ b → int_lt a b ≡ true
-below_true a b h = grind (arith, ints)
-
-pub below_false : (a b : ℤ) → b ≤ℤ a → int_lt a b ≡ false
-below_false a b h = grind (arith, ints)
 
 -- what is kept of the items, and what it says
 pub kept_items : (vs : List Value) (k m k' m' : ℕ) (dropped kept : List Value) → k ≡ k' → dropped ≡ drop k vs → m ≡ m'

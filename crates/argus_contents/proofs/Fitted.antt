@@ -1,11 +1,8 @@
 -- A content that fits keeps the limits, and so does one that a suitable change creates.
-use Rattle.std.proofs.Common.{◌≡◌, ℕ, ◌≤◌, ℤ, ◌≤ℤ◌, Bool, true, false, not, nat_le, length, Some, refl, arith}
-use Rattle.std.proofs.{lemmas.Bool.and_from, lemmas.Int.ints, lemmas.Bool.Decides.nat_tests}
+use Rattle.std.proofs.{Common.{◌≡◌, ℕ, ◌≤◌, ℤ, ◌≤ℤ◌, Bool, true, false, not, nat_le, refl, arith}, lemmas.Bool.and_from}
+use Rattle.std.proofs.{lemmas.Int.ints, lemmas.Bool.Decides.nat_tests}
 use Rattle.std.specs.Prelude.{int_lt, ◌&&◌}
-use Rattle.argus_contents.specs.Content.{PlainContent, rec, arr, var, KeepsBounds, KeepsLimits, is_within}
-use Rattle.argus_contents.specs.Change.{PlainChange, CreatesWithin, create, set_field, store, addh, addl, remh, reml}
-use Rattle.argus_contents.specs.{Change.{set_low, trim, change_tag, touch}, Fitting.{change_suits, is_fitting}}
-use Rattle.argus_contents.specs.{Place.high_of, Shape.PlainShape}
+use Rattle.argus_contents.specs.{Content.{KeepsBounds, is_within}, Place.high_of}
 use Rattle.argus_contents.specs.declared.limits.TheConstants.{MIN_BOUND, MAX_BOUND, MAX_ITEMS}
 use Rattle.argus_contents.specs.Shape as shape
 
@@ -57,25 +54,3 @@ keeps_within low size k =
     and_from (a && b) (c && d)
     (and_from a b (below_not low MIN_BOUND k.from) (below_not MAX_BOUND low k.to))
     (and_from c d (below_not MAX_BOUND (high_of low size) (omega (arith, ints))) (most_at size MAX_ITEMS k.items))
-
--- the test of a content
-pub fitting_keeps : (s : PlainShape) (n : ℕ) (c : PlainContent) → is_fitting s n c ≡ true → KeepsLimits (Some c)
-fitting_keeps s n (rec vs) e = tt
-fitting_keeps s n (var t v) e = tt
-fitting_keeps (shape.arr t) n (arr low vs) e = within_keeps low (length vs) (both_left _ _ e)
-fitting_keeps (shape.rec fs) n (arr low vs) e = absurd (cc)
-fitting_keeps (shape.var fs) n (arr low vs) e = absurd (cc)
-
--- the test of a change
-pub suiting_keeps : (s : PlainShape) (n : ℕ) (c : PlainChange) → change_suits s n c ≡ true → CreatesWithin c
-suiting_keeps s n (create c) e = fitting_keeps s n c e
-suiting_keeps s n (set_field i v) e = tt
-suiting_keeps s n (store i v) e = tt
-suiting_keeps s n (addh v) e = tt
-suiting_keeps s n (addl v) e = tt
-suiting_keeps s n remh e = tt
-suiting_keeps s n reml e = tt
-suiting_keeps s n (set_low i) e = tt
-suiting_keeps s n (trim from count) e = tt
-suiting_keeps s n (change_tag t v) e = tt
-suiting_keeps s n touch e = tt

@@ -1,9 +1,9 @@
 -- Objects on a list are changed one after another.
 use Rattle.std.proofs.Common.{Bool, List, [], ap, arith, false, inl, inr, length, refl, subst, sym, true, suc, take}
 use Rattle.std.proofs.Common.{get_or, set, zero, ℕ, ◌+◌, ◌<◌, ◌≤◌, ◌∙◌, ◌∷◌, ◌≡◌, ◌≢◌, eqb, ◌||◌}
-use Rattle.std.proofs.{lemmas.Bool.{cases_eq, eq-eqb, eqb-true, ne_eqb, or_from, or_right}, lemmas.Grind.get_or-set_at}
+use Rattle.std.proofs.{lemmas.Bool.{cases_eq, eq-eqb, ne_eqb, or_from, or_right}, lemmas.Grind.get_or-set_at}
 use Rattle.std.proofs.{lemmas.List.{get_or-set_other, length-set}, lemmas.List.Folds.{list_any_at, list_any_more}}
-use Rattle.std.proofs.lemmas.Map.Keys.{IsDistinct-from_apart, apart_from_distinct}
+use Rattle.std.proofs.lemmas.Map.Keys.{apart_from_distinct}
 use Rattle.std.specs.{List.IsDistinct, Prelude.slice_index_or}
 use Rattle.argus_objects.proofs.InOrder.{any_default}
 use Rattle.argus_contents.specs.declared.obj_id.ObjId.{ObjId}
@@ -11,10 +11,6 @@ use Rattle.argus_actions.specs.Tree.{Tree}
 use Rattle.argus_core.specs.Moving.{AreChanged, AreLawful, AreThere, ChangedIf, IsChanged, is_listed}
 use Rattle.argus_core.specs.declared.engine.atomic_object.AtomicObject.{AtomicObject}
 use Rattle.argus_objects.specs.{Object.Object, Rules.is_lawful}
-
--- with nothing on the list nothing is changed
-pub start_changed : (R : Object → Object → Type 0) (objects : List AtomicObject) → AreChanged R [] objects objects
-start_changed R objects = record { count = refl; each = λ o default low. record { shape = refl; cell = refl } }
 
 -- the item of this place is on the list
 pub listed_at : (list : List ObjId) (place : ℕ) (default : ObjId) → place < length list
@@ -138,17 +134,3 @@ module _ (R : Object → Object → Type 0) (list : List ObjId) (place : ℕ) (d
         | inr another ↦ as_before o other low another
       ];
     }
-
--- one object alone
-pub set_changed : (R : Object → Object → Type 0) (o : ObjId) (old : List AtomicObject) (object : AtomicObject)
-    (new : Object) → o.0 < length old → R (get_or old o.0 object).cell new → AreChanged R (o ∷ []) old
-    (set old o.0 (record { shape = (get_or old o.0 object).shape; cell = new }))
-set_changed R o old object new low changed =
-    more_changed R (o ∷ []) 0 o old old object once (omega arith)
-    (λ number listed. subst (λ n. n < length old) (only number listed) low) (start_changed R old) new changed
-  where
-    once : IsDistinct (λ (x y : ObjId). eqb x.0 y.0) (o ∷ [])
-    once = IsDistinct-from_apart (λ x y. eqb x.0 y.0) (o ∷ []) (λ i j d ij jl. absurd (omega (arith, ij, jl)))
-
-    only : (number : ℕ) → (eqb o.0 number || false) ≡ true → o.0 ≡ number
-    only number listed = eqb-true o.0 number (sym (or_false (eqb o.0 number)) ∙ listed)

@@ -135,10 +135,6 @@ entry_itself : (a : PlainEntry) → same_entry a a ≡ true
 entry_itself a = and_from (same_call a.call a.call) (same_reply a.reply a.reply)
     (call_itself a.call) (reply_itself a.reply)
 
--- the test by cases says exactly which queries are equal
-pub query_decided : (a b : Query) → Decides (same_query a b) (a ≡ b)
-query_decided = decided same_query query_told query_itself
-
 -- the test by cases says exactly which calls are equal
 pub call_decided : (a b : PlainCall) → Decides (same_call a b) (a ≡ b)
 call_decided = decided same_call call_told call_itself
@@ -146,10 +142,6 @@ call_decided = decided same_call call_told call_itself
 -- any test of which calls are equal agrees with the test by cases
 pub call_answered : (r : Bool) (a b : PlainCall) → (r ≡ true) ↔ (a ≡ b) → r ≡ same_call a b
 call_answered r a b d = one_answer r (same_call a b) d (call_decided a b)
-
--- the test by cases says exactly which refusals are equal
-pub refusal_decided : (a b : Refusal) → Decides (same_refusal a b) (a ≡ b)
-refusal_decided = decided same_refusal refusal_told refusal_itself
 
 -- the test by cases says exactly which replies are equal
 pub reply_decided : (a b : PlainReply) → Decides (same_reply a b) (a ≡ b)

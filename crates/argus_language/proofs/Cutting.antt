@@ -1,9 +1,8 @@
 -- Bytes that were read already, before the lines and words of what is left.
 use Rattle.std.proofs.Common.{◌≡◌, ◌≢◌, ℕ, ◌+◌, ◌<◌, ◌≤◌, ◌==◌, true, false, cond, List, [], ◌∷◌, ◌++◌, length, take}
-use Rattle.std.proofs.Common.{drop, get_or, reverse, refl, sym, ◌∙◌, ap, subst, append_assoc, add-one, drop-cons, arith}
-use Rattle.std.proofs.lemmas.List.{take_more, reverse-append, reverse-reverse, append-nil}
-use Rattle.std.proofs.{Math.Seq.{take-length, drop-length}, lemmas.Bool.Decides.nat_tests}
-use Rattle.argus_language.specs.Lines.{onto, lines_of, is_blank, word, behind_word, behind_blanks, before_blanks}
+use Rattle.std.proofs.Common.{drop, get_or, refl, sym, ◌∙◌, ap, subst, append_assoc, add-one, drop-cons, arith}
+use Rattle.std.proofs.{lemmas.List.take_more, Math.Seq.{take-length, drop-length}, lemmas.Bool.Decides.nat_tests}
+use Rattle.argus_language.specs.Lines.{onto, lines_of, is_blank, word, behind_word}
 
 -- bytes in front of the first line
 abbrev pub glue : List ℕ → List (List ℕ) → List (List ℕ)
@@ -60,9 +59,6 @@ word_other : (b : ℕ) (bs : List ℕ) → is_blank b ≡ false
     → (word (b ∷ bs) ≡ b ∷ word bs) × (behind_word (b ∷ bs) ≡ behind_word bs)
 word_other b bs e = (ap (λ t. cond t [] (b ∷ word bs)) e, ap (λ t. cond t (b ∷ bs) (behind_word bs)) e)
 
-word_blank : (b : ℕ) (bs : List ℕ) → is_blank b ≡ true → (word (b ∷ bs) ≡ []) × (behind_word (b ∷ bs) ≡ b ∷ bs)
-word_blank b bs e = (ap (λ t. cond t [] (b ∷ word bs)) e, ap (λ t. cond t (b ∷ bs) (behind_word bs)) e)
-
 -- so many bytes stand in the first word, or at its end
 pub record Passed (bs : List ℕ) (i : ℕ) : Type 0 where
   pub word : word bs ≡ take i bs ++ word (drop i bs)
@@ -79,25 +75,6 @@ passed_more bs i h e p =
           ∙ ap (λ t. t ++ word (drop (i + 1) bs)) (sym (take_more bs i 0 h));
       behind = p.behind ∙ ap behind_word here ∙ w.1;
     }
-
-pub passed_word : (bs : List ℕ) (i : ℕ) → i < length bs → is_blank (get_or bs i 0) ≡ true → Passed bs i
-    → (take i bs ≡ word bs) × (drop i bs ≡ behind_word bs)
-passed_word bs i h e p =
-    let here = drop_here bs i h in
-    let w = word_blank (get_or bs i 0) (drop (i + 1) bs) e in (
-      sym (p.word ∙ ap (λ d. take i bs ++ word d) here ∙ ap (λ d. take i bs ++ d) w.0 ∙ append-nil (take i bs)),
-      sym (p.behind ∙ ap behind_word here ∙ w.1 ∙ sym here),
-    )
-
-pub before_blanks-blank : (bs : List ℕ) (b : ℕ) → is_blank b ≡ true → before_blanks (bs ++ b ∷ []) ≡ before_blanks bs
-before_blanks-blank bs b e = ap (λ r. reverse (behind_blanks r)) (reverse-append bs (b ∷ []))
-    ∙ ap (λ t. reverse (cond t (behind_blanks (reverse bs)) (b ∷ reverse bs))) e
-
-pub before_blanks-other : (bs : List ℕ) (b : ℕ) → is_blank b ≡ false → before_blanks (bs ++ b ∷ []) ≡ bs ++ b ∷ []
-before_blanks-other bs b e = ap (λ r. reverse (behind_blanks r)) (reverse-append bs (b ∷ []))
-    ∙ ap (λ t. reverse (cond t (behind_blanks (reverse bs)) (b ∷ reverse bs))) e
-    ∙ ap reverse (sym (reverse-append bs (b ∷ [])))
-    ∙ reverse-reverse (bs ++ b ∷ [])
 
 -- no line feed came: the last line is all
 pub reach_end : (bs : List ℕ) (i : ℕ) → 0 < length bs → length bs ≤ i → i ≤ length bs

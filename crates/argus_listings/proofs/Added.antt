@@ -92,15 +92,6 @@ pub stops_then : (a : Option (List ℕ)) (s : List ℕ) (c : Option (List ℕ)) 
     → Cut a s c (x ++ y)
 stops_then a s c t x y added = left_stops a s c t (x ++ y) y (left_after a s c t x y added)
 
--- all is written where nothing was pending and nothing is
-pub all_written : (a : Option (List ℕ)) (s : List ℕ) (c : Option (List ℕ)) (t : List ℕ) (d : Option (List ℕ))
-    (u x : List ℕ) → s ≡ [] → Added a s c t x → Added c t d u [] → u ≡ [] → Appends a d x
-all_written a s c t d u x e added poured f =
-    let all = added_then a s c t d u x [] added poured in
-    let same : all.0 ≡ x =
-    sym (append-nil all.0) ∙ ap (λ k. all.0 ++ k) (sym f) ∙ sym all.2 ∙ ap (λ k. k ++ (x ++ [])) e ∙ append-nil x in
-    subst (Appends a d) same all.1
-
 -- a front is written where nothing was pending
 pub front_written : (a : Option (List ℕ)) (s : List ℕ) (c : Option (List ℕ)) (x : List ℕ) → s ≡ [] → Cut a s c x
     → (n : ℕ) × Appends a c (take n x)

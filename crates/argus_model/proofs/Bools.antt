@@ -13,17 +13,6 @@ pub or_none : (a : Bool) → a ≡ (a || false)
 or_none true = refl
 or_none false = refl
 
--- the same alternative twice counts once
-pub or_twice : (a r : Bool) → (a || r) ≡ (a || (a || r))
-or_twice true r = refl
-or_twice false r = refl
-
--- two alternatives may change places
-pub or_swap : (a b r : Bool) → (a || (b || r)) ≡ (b || (a || r))
-or_swap true true r = refl
-or_swap true false r = refl
-or_swap false b r = refl
-
 -- equality of numbers goes both ways
 pub eqb_sym : (a b : ℕ) → a == b ≡ b == a
 eqb_sym a b =

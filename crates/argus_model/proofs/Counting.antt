@@ -1,7 +1,7 @@
 -- For whom an action's work counts, as time goes on.
-use Rattle.std.proofs.Common.{Bool, List, None, Option, Some, ap, arith, cond, false, inl, inr, refl, subst, sym, true}
-use Rattle.std.proofs.{Common.{ℕ, ⊎_elim, ◌<◌, ◌∙◌, ◌≡◌, ◌≢◌}, lemmas.Bool.ne_eqb, lemmas.Bool.Decides.nat_tests}
-use Rattle.std.proofs.lemmas.Bool.{and_parts, both_ways, cases_Bool, cases_eq, eqb-true, false_from_ne_true, false≢true}
+use Rattle.std.proofs.Common.{Bool, List, None, Option, Some, ap, arith, cond, false, refl, subst, sym, true, ℕ, ⊎_elim}
+use Rattle.std.proofs.{Common.{◌<◌, ◌∙◌, ◌≡◌, ◌≢◌}, lemmas.Bool.false≢true, lemmas.Bool.Decides.nat_tests}
+use Rattle.std.proofs.lemmas.Bool.{ne_eqb, and_parts, both_ways, cases_Bool, cases_eq, eqb-true, false_from_ne_true}
 use Rattle.std.specs.{List.IsDistinct, Prelude.{◌&&◌, ◌==◌}}
 use Rattle.argus_model.specs.{Ancestors.{is_ancestor, is_under, parent}, History.{History, Opened, next_action, ◌▹◌}}
 use Rattle.argus_model.specs.{Event.{Aborted, Accessed, Began, Committed, Event}, Numbers.contains}

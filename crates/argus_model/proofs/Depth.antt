@@ -1,12 +1,10 @@
 -- The depth that is read off the rows is that of the lineage.
-use Rattle.std.proofs.{lemmas.Bool.Decides.nat_tests, Common.{◌+◌, ◌-◌, ◌∙◌, ◌∷◌, ◌≡◌, ◌≢◌}}
-use Rattle.std.proofs.Common.{Bool, List, [], ap, arith, cond, false, length, refl, suc, sym, true, ℕ, ⊎_elim, inl, inr}
-use Rattle.std.proofs.lemmas.Bool.{cases_eq, eq-eqb, ne_eqb}
-use Rattle.std.specs.{List.list_any, Prelude.{◌==◌, ◌⊎◌}}
-use Rattle.argus_model.specs.{Ancestors.{lineage, to_base}, Event.{Aborted, Accessed, Began, Committed, origin_parent}}
-use Rattle.argus_model.specs.{History.{History, Opened, folded, next_action, ◌▹◌}, OwnerSteps.stands}
-use Rattle.argus_model.specs.Rows.{Row, depth_at, is_above, mark, rows, with_status}
-use Rattle.argus_model.specs.Status.{IsAborted, IsCommitted, Status, is_begun}
+use Rattle.std.proofs.{lemmas.Bool.Decides.nat_tests, Common.{ℕ, ⊎_elim, inl, inr}, lemmas.Bool.cases_eq}
+use Rattle.std.proofs.Common.{◌+◌, ◌-◌, ◌∙◌, ◌∷◌, ◌≡◌, ◌≢◌, Bool, List, [], ap, arith, cond, false, length, refl, true}
+use Rattle.std.specs.Prelude.{◌==◌, ◌⊎◌}
+use Rattle.argus_model.specs.{Ancestors.lineage, Event.{Aborted, Accessed, Began, Committed, origin_parent}}
+use Rattle.argus_model.specs.{History.{History, Opened, folded, ◌▹◌}, OwnerSteps.stands, Status.{Status, is_begun}}
+use Rattle.argus_model.specs.Rows.{Row, depth_at, mark, rows, with_status}
 use Rattle.argus_model.proofs.{Live.{is_begun_from, is_begun_parts}, Rows.{length-mark, rows_length}}
 use Rattle.argus_model.proofs.Standing.{Orderly, stands_begun, stands_unfolded}
 

@@ -1,8 +1,8 @@
 -- The table of what the committed topactions left has the bases, and an event adds at most one effect at the end.
-use Rattle.std.proofs.{lemmas.Bool.Decides.nat_tests, Common.{⊎_elim, ◌++◌, ◌∙◌, ◌∷◌, ◌≡◌, ◌≢◌}}
-use Rattle.std.proofs.Common.{Bool, List, Some, [], ap, append-nil, arith, cond, false, refl, subst, sym, true, ℕ}
-use Rattle.std.proofs.lemmas.Bool.{and_from, and_right, cases_Bool, cases_eq, eq-eqb, false≢true, ne_eqb, or_cases}
-use Rattle.std.proofs.{lemmas.Bool.{or_left, or_right}, lemmas.List.reverse-append}
+use Rattle.std.proofs.{lemmas.Bool.Decides.nat_tests, Common.{false, refl, subst, sym, true, ℕ}}
+use Rattle.std.proofs.Common.{⊎_elim, ◌++◌, ◌∙◌, ◌∷◌, ◌≡◌, ◌≢◌, Bool, List, Some, [], ap, append-nil, arith, cond}
+use Rattle.std.proofs.lemmas.Bool.{cases_Bool, cases_eq, eq-eqb, false≢true, ne_eqb, or_cases, or_left, or_right}
+use Rattle.std.proofs.lemmas.List.{reverse-append}
 use Rattle.std.specs.Prelude.{map, reverse, ◌&&◌, ◌==◌, ◌||◌}
 use Rattle.argus_model.specs.{Ancestors.{is_under, lineage, parent}, Event.{Aborted, Accessed, Began, Committed, Event}}
 use Rattle.argus_model.specs.Effects.{content_by, effect_of, effects, effects_of, table, written_objects}

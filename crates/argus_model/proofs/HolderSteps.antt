@@ -1,6 +1,6 @@
 -- How the holders change by one more event, and that the lock rules depend only on them.
 use Rattle.std.proofs.Common.{Bool, List, None, Option, Some, arith, false, refl, true, ℕ, ◌∙◌, ◌≡◌, ◌≢◌}
-use Rattle.std.proofs.{lemmas.Bool.{cases_Bool, cases_eq, false≢true}, lemmas.Bool.Decides.nat_tests}
+use Rattle.std.proofs.{lemmas.Bool.{cases_eq, false≢true}, lemmas.Bool.Decides.nat_tests}
 use Rattle.std.specs.Prelude.{not, ◌&&◌, ◌==◌, ◌||◌}
 use Rattle.argus_model.specs.{Ancestors.{is_ancestor, is_under, parent}, History.{History, Opened, ◌▹◌}}
 use Rattle.argus_model.specs.Event.{Aborted, Accessed, Began, Committed, Origin}

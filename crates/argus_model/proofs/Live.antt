@@ -1,16 +1,16 @@
 -- What stands is what is live, and the lists of live children and siblings.
 use Rattle.std.proofs.Common.{[], ap, arith, false, refl, true, ℕ, ⊎_elim, ◌<◌, ◌∙◌, ◌∷◌, ◌≡◌, ◌≢◌}
-use Rattle.std.proofs.{Math.Bool.{and_comm, or_comm}, lemmas.Bool.or_left, lemmas.Bool.Decides.nat_tests}
-use Rattle.std.proofs.lemmas.Bool.{and_from, and_parts, both_ways, cases_eq, eq-eqb, false≢true, ne_eqb, not-true}
+use Rattle.std.proofs.{Math.Bool.{and_comm, or_comm}, lemmas.Bool.not-true, lemmas.Bool.Decides.nat_tests}
+use Rattle.std.proofs.lemmas.Bool.{or_left, and_from, and_parts, both_ways, cases_eq, eq-eqb, false≢true, ne_eqb}
 use Rattle.std.proofs.lemmas.List.Folds.{list_any-append}
 use Rattle.std.specs.{List.{list_all, list_any}, Prelude.{not, ◌&&◌, ◌==◌, ◌||◌}}
-use Rattle.argus_model.specs.{Ancestors.{begun_by, parent}, Numbers.contains, Status.live_siblings}
-use Rattle.argus_model.specs.Event.{Aborted, Accessed, Began, Committed, origin_begun_by, origin_parent}
+use Rattle.argus_model.specs.{Ancestors.{begun_by, parent}, Numbers.contains, Status.is_sibling}
+use Rattle.argus_model.specs.Status.{live_siblings, has_committed, has_live_child, is_begun, is_doomed, is_live}
+use Rattle.argus_model.specs.Event.{Aborted, Accessed, Began, Committed}
 use Rattle.argus_model.specs.History.{History, Opened, begun_actions, folded, next_action, ◌▹◌}
 use Rattle.argus_model.specs.OwnerSteps.{owner_by_steps, standing_child, stands}
-use Rattle.argus_model.specs.Status.{has_committed, has_live_child, is_begun, is_doomed, is_live, is_sibling}
-use Rattle.argus_model.proofs.{Ancestors.folded_next, Bools.same_bool, Numbers.{joined_cases, joined_left, rising-more}}
-use Rattle.argus_model.proofs.Numbers.{IsRising, any_agree, contains_filter, every_from, filter_contains, joined}
+use Rattle.argus_model.proofs.{Ancestors.folded_next, Bools.same_bool, Numbers.{every_from, filter_contains, joined}}
+use Rattle.argus_model.proofs.Numbers.{joined_cases, joined_left, rising-more, IsRising, any_agree, contains_filter}
 use Rattle.argus_model.proofs.{OwnerRules.{owner_self, stands_plain}, Standing.{Orderly, some_at, stands_unfolded}}
 
 -- a begun action's number is past the folded ones and before the next

@@ -1,18 +1,18 @@
 -- Which actions are live, and the owners, after one more event.
-use Rattle.std.proofs.{lemmas.Bool.Decides.nat_tests, Common.{◌∙◌, ◌∷◌, ◌≡◌, ◌≢◌}, lemmas.Bool.{ne_eqb, not-true}}
-use Rattle.std.proofs.Common.{Bool, List, None, Option, Some, ap, arith, cond, false, refl, subst, sym, true, ℕ, ⊎_elim}
-use Rattle.std.proofs.lemmas.Bool.{and_from, and_parts, both_ways, cases_Bool, cases_eq, eq-eqb, false_from_ne_true}
+use Rattle.std.proofs.{lemmas.Bool.Decides.nat_tests, Common.{true, ℕ, ⊎_elim}, lemmas.Bool.false_from_ne_true}
+use Rattle.std.proofs.Common.{◌∙◌, ◌∷◌, ◌≡◌, ◌≢◌, Bool, List, None, Option, Some, ap, arith, false, refl, subst, sym}
+use Rattle.std.proofs.lemmas.Bool.{ne_eqb, not-true, and_from, and_parts, both_ways, cases_Bool, cases_eq, eq-eqb}
 use Rattle.std.specs.Prelude.{not, ◌&&◌, ◌==◌, ◌||◌}
 use Rattle.argus_model.specs.{Ancestors.{is_under, lineage, parent}, History.{History, next_action, ◌▹◌}}
 use Rattle.argus_model.specs.Event.{Aborted, Accessed, Began, Committed, Origin, origin_parent}
-use Rattle.argus_model.specs.Owner.{Base, Gone, Held, owner, passed_up, unless_gone}
+use Rattle.argus_model.specs.Owner.{Held, owner, passed_up, unless_gone}
 use Rattle.argus_model.specs.OwnerSteps.{as_owner, owner_inherited, owner_by_steps, stands, unless_lost}
 use Rattle.argus_model.specs.Status.{has_committed, is_begun, is_doomed, is_live}
 use Rattle.argus_model.proofs.{Ancestors.{folded_next, lineage_cases, next_pos}, Bools.same_bool, Owner.owner_is}
-use Rattle.argus_model.proofs.{Counting.{as_held, base_spared, begun_stays}, Standing.stands_upward}
+use Rattle.argus_model.proofs.{Counting.{as_held, base_spared, begun_stays}, Standing.{stands_new, stands_old}}
+use Rattle.argus_model.proofs.Standing.{stands_upward, Orderly, at_some, handed_from, handed_stays, kept_stays}
+use Rattle.argus_model.proofs.Standing.{owner_cases, parents_are_older, some_at, stands_abort, stands_commit}
 use Rattle.argus_model.proofs.Live.{is_begun_from, is_begun_parts, stands_is_live}
-use Rattle.argus_model.proofs.Standing.{Orderly, at_some, handed_from, handed_stays, kept_stays, owner_cases}
-use Rattle.argus_model.proofs.Standing.{parents_are_older, some_at, stands_abort, stands_commit, stands_new, stands_old}
 
 -- the base is not called live
 pub zero_not_live : {V : Type 0} (h : History V) → is_live h 0 ≡ false

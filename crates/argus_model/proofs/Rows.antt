@@ -1,18 +1,17 @@
 -- The rows have the origin and the status of each action.
 use Rattle.std.proofs.{lemmas.Bool.Decides.nat_tests, Math.Bool.or_comm, lemmas.List.Folds.list_any-append}
 use Rattle.std.proofs.Common.{Bool, List, None, Option, Some, [], ap, arith, cond, false, length, refl, subst, suc, sym}
-use Rattle.std.proofs.Common.{true, zero, ℕ, ⊎_elim, ◌++◌, ◌+◌, ◌<◌, ◌∙◌, ◌∷◌, ◌≡◌, ◌≢◌}
-use Rattle.std.proofs.lemmas.Bool.{and_from, and_parts, both_ways, cases_Bool, cases_eq, eq-eqb, eqb-true}
-use Rattle.std.proofs.lemmas.Bool.{false_from_ne_true, ne_eqb, or_cases}
-use Rattle.std.specs.{List.list_any, Prelude.{not, unwrap_or, ◌&&◌, ◌==◌, ◌||◌}}
+use Rattle.std.proofs.{Common.{true, zero, ℕ, ⊎_elim, ◌++◌, ◌+◌, ◌<◌, ◌∙◌, ◌∷◌, ◌≡◌, ◌≢◌}, lemmas.Bool.or_cases}
+use Rattle.std.proofs.lemmas.Bool.{and_from, and_parts, both_ways, cases_Bool, cases_eq, eq-eqb, eqb-true, ne_eqb}
+use Rattle.std.specs.{List.list_any, Prelude.{◌&&◌, ◌==◌, ◌||◌}}
 use Rattle.argus_model.specs.{Ancestors.{begun_by, is_ancestor, is_under, lineage, parent}, Numbers.contains}
 use Rattle.argus_model.specs.Event.{Aborted, Accessed, Began, Committed, Origin, origin_begun_by, origin_parent}
 use Rattle.argus_model.specs.{History.{History, Opened, begun_actions, folded, next_action, ◌▹◌}, OwnerSteps.stands}
 use Rattle.argus_model.specs.Rows.{Row, has_live_row, is_above, is_live_status, mark, origin, row_at, row_of, rows}
-use Rattle.argus_model.specs.{Rows.with_status, Status.{is_begun, is_doomed, is_live, status, was_aborted}}
-use Rattle.argus_model.specs.Status.{IsAborted, IsCommitted, IsFolded, IsLive, Status, has_committed, has_live_child}
+use Rattle.argus_model.specs.{Rows.with_status, Status.{IsFolded, IsLive, Status, has_committed, has_live_child}}
+use Rattle.argus_model.specs.Status.{is_begun, is_doomed, is_live, status, was_aborted, IsAborted, IsCommitted}
 use Rattle.argus_model.proofs.{Ancestors.{ancestor_le, folded_next, lineage_cases, parent_older}, Numbers.any_agree}
-use Rattle.argus_model.proofs.{Bools.{or_none, same_bool}, Live.{is_begun_from, is_begun_parts}, Owner.parent_unfolded}
+use Rattle.argus_model.proofs.{Bools.same_bool, Live.{is_begun_from, is_begun_parts}, Owner.parent_unfolded}
 use Rattle.argus_model.proofs.{OwnerRules.stands_plain, Serial.lineage-base}
 use Rattle.argus_model.proofs.Standing.{Orderly, parents_are_older, stands_begun, stands_new, stands_unfolded}
 

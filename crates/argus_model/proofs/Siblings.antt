@@ -1,11 +1,10 @@
 -- Creators are older, and which actions are under the live siblings of an action.
-use Rattle.std.proofs.{lemmas.Bool.Decides.nat_tests, lemmas.Bool.or_cases}
-use Rattle.std.proofs.Common.{arith, cond, subst, sym, true, ℕ, ⊎_elim, ◌<◌, ◌∙◌, ◌≡◌, ◌≢◌}
-use Rattle.std.proofs.lemmas.Bool.{and_from, and_parts, both_ways, cases_eq, eq-eqb, eqb-true, ne_eqb, not-true}
+use Rattle.std.proofs.{lemmas.Bool.Decides.nat_tests, Common.{arith, sym, true, ℕ, ⊎_elim, ◌<◌, ◌∙◌, ◌≡◌, ◌≢◌}}
+use Rattle.std.proofs.lemmas.Bool.{and_from, and_parts, both_ways, eq-eqb, not-true}
 use Rattle.std.specs.{List.list_any, List.Sorted.IsStrictlyIncreasing, Prelude.{not, ◌&&◌, ◌==◌}}
 use Rattle.argus_model.specs.{Ancestors.{begun_by, is_ancestor, is_under, lineage}, Lawful.Lawful, Meaning.Meaning}
-use Rattle.argus_model.specs.Event.{Aborted, Accessed, Began, Committed, origin_begun_by}
-use Rattle.argus_model.specs.History.{History, Opened, HistoryOpening, begun_actions, next_action, ◌▹◌}
+use Rattle.argus_model.specs.Event.{Aborted, Accessed, Began, Committed}
+use Rattle.argus_model.specs.History.{History, Opened, HistoryOpening, begun_actions, ◌▹◌}
 use Rattle.argus_model.specs.Status.{has_committed, is_begun, is_doomed, is_live, is_sibling, live_siblings}
 use Rattle.argus_model.proofs.{Ancestors.next_pos, Bools.same_bool, Theorems.ancestor_live}
 use Rattle.argus_model.proofs.Live.{begun_rising, contains_siblings, is_begun_from, is_begun_parts}

@@ -2,10 +2,10 @@
 use Rattle.std.proofs.Common.{◌≡◌, ℕ, ◌≤◌, ◌-◌, inl, List, ◌∷◌, [], ◌++◌, arith, length, refl, sym, ap, ◌∙◌, subst}
 use Rattle.std.proofs.{Common.append_assoc, lemmas.List.take-append-drop}
 use Rattle.std.specs.{Fmt.decimal, Prelude.{codes, drop, take}}
-use Rattle.argus_texts.specs.{Fault.IsFault, Language.{IsNot, Reads, Starts, Stops}, ShapeLanguages.{BeginsNo, Shapes}}
+use Rattle.argus_texts.specs.{Fault.IsFault, Language.{IsNot, Reads, Starts, Stops}}
 use Rattle.argus_texts.proofs.Lists.{tail_of}
-use Rattle.argus_reading.specs.{Calls.{CallParts, Calls}, Line.Shaped}
-use Rattle.argus_reading.specs.Line.{Declares, DeclaresAt, Entries, IsEntryLine, IsNoLine, LacksShape, Lines, Ordinals}
+use Rattle.argus_reading.specs.Calls.{CallParts, Calls}
+use Rattle.argus_reading.specs.Line.{Shaped, Declares, DeclaresAt, IsEntryLine, IsNoLine, LacksShape, Lines, Ordinals}
 use Rattle.argus_reading.proofs.{CallParts.shape_part, Parts.same, Words.stops_starts}
 use Rattle.argus_reading.proofs.Whole.{call_part, entry_part, line_joint}
 

@@ -10,7 +10,7 @@ use Rattle.argus_entries.proofs.Suiting.{suiting_depth}
 use Rattle.argus_journal.proofs.Fitting.{fits_more}
 use Rattle.argus_journal.specs.{JournalView.JournalView, Opening.{Opening, empty, fits_shape, plain_object}}
 use Rattle.argus_reading.specs.OpeningLanguages.{IsReadableContent}
-use Rattle.argus_resume.specs.JournalText.{AreReadableObjects, IsEmptyOrReadable, IsReadableJournal, IsReadableObject}
+use Rattle.argus_resume.specs.JournalText.{AreReadableObjects, IsEmptyOrReadable, IsReadableJournal}
 use Rattle.argus_resume.specs.{Laws.OpeningsAreReadable, ReadableCalls.HaveReadableCalls}
 use Rattle.argus_resume.specs.SoundFront.{opening_front, sound_count, sound_front}
 use Rattle.argus_resume.specs.WellFormed.{AreWellFormedObjects, IsWellFormedObject, IsWellFormedOption}

@@ -1,32 +1,23 @@
 -- How much of what a reader had was taken, read by read.
 use Rattle.std.proofs.Common.{◌≡◌, ℕ, ◌+◌, ◌≤◌, Bool, false, List, [], ◌∷◌, ◌++◌, length, None, Option, Some, take}
-use Rattle.std.proofs.Common.{drop, refl, sym, ap, ◌∙◌, subst, arith, append_assoc, append-nil, length-append}
-use Rattle.std.proofs.{Common.{length-drop, take-add, ◌-◌}, lemmas.Option.none-some}
+use Rattle.std.proofs.Common.{drop, sym, ap, ◌∙◌, subst, arith, append_assoc, append-nil, length-append, length-drop}
+use Rattle.std.proofs.{Common.{take-add, ◌-◌}, lemmas.Option.none-some}
 use Rattle.std.proofs.lemmas.List.{drop-append-le, drop-drop, length-take-le, take-append-le, take-take}
-use Rattle.std.specs.{Option.unwrap_or, Io.KnownBytes.{Consumes, IsAtEnd, Keeps}}
+use Rattle.std.specs.{Option.unwrap_or, Io.KnownBytes.Consumes}
 use Rattle.argus_journal.specs.JournalView.{JournalView}
 use Rattle.argus_resume.specs.{JournalText.{IsReadableJournal, journal_text, no_journal}, Resumed.{IsResumed, taken_in}}
 use Rattle.argus_resume.specs.{SoundFront.sound_front, declared.resumed.Resumed.Resumed}
-use Rattle.argus_resume.specs.Taking.{EndsChunk, EndsReading, HasNoFeed, TakesFrom, early_end, end_behind, line_count}
+use Rattle.argus_resume.specs.Taking.{EndsChunk, EndsReading, HasNoFeed, TakesFrom, early_end, line_count}
 use Rattle.argus_resume.specs.{declared.read_end.ReadEnd.ReadEnd, declared.taken_end.TakenEnd.TakenEnd}
 use Rattle.argus_resume.specs.declared.read_end.ReadEnd.TheVariants as end_of
 use Rattle.argus_resume.specs.declared.taken_end.TakenEnd.TheVariants as taken
 use Rattle.argus_resume.proofs.Feeds.{count-append}
-
-consumes_none : (c : Option (List ℕ)) → Consumes c c []
-consumes_none None = tt
-consumes_none (Some x) = refl
 
 consumes_on : (a b c : Option (List ℕ)) (x y : List ℕ) → Consumes a b x → Consumes b c y → Consumes a c (x ++ y)
 consumes_on None b c x y p q = tt
 consumes_on (Some k) None c x y p q = absurd p
 consumes_on (Some k) (Some l) None x y p q = absurd q
 consumes_on (Some k) (Some l) (Some m) x y p q = p ∙ ap (λ t. x ++ t) q ∙ sym (append_assoc x y m)
-
-keeps_consumes : (a b : Option (List ℕ)) → Keeps a b → Consumes a b []
-keeps_consumes None b k = tt
-keeps_consumes (Some x) None k = absurd k
-keeps_consumes (Some x) (Some y) k = sym k
 
 -- so much of what was read was taken, and this is left of it
 pub record ReadTo (old new : JournalView) (had has : Option (List ℕ)) (bytes lines most : ℕ)
@@ -38,17 +29,6 @@ pub record ReadTo (old new : JournalView) (had has : Option (List ℕ)) (bytes l
   pub text : journal_text new ≡ journal_text old ++ take bytes read
   pub lines_are : lines ≡ line_count (take bytes read)
   pub left_is : drop bytes read ≡ left
-
-pub read_starts : (j : JournalView) (c : Option (List ℕ)) → ReadTo j j c c 0 0 0 []
-read_starts j c = record {
-  read = [];
-  consumed = consumes_none c;
-  size = omega arith;
-  within = omega arith;
-  text = sym (append-nil (journal_text j));
-  lines_are = refl;
-  left_is = refl;
-}
 
 module _ (old new : JournalView) (had has : Option (List ℕ)) (bytes lines most : ℕ) (left : List ℕ)
     (r : ReadTo old new had has bytes lines most left) where
@@ -110,12 +90,6 @@ module _ (old new : JournalView) (had has : Option (List ℕ)) (bytes lines most
     lines = r.lines_are;
     end = subst (λ t. EndsReading end new t has failed) (sym r.left_is) e;
   }
-
--- the reader has no more
-pub end_reached : (j : JournalView) (pending : List ℕ) (has : Option (List ℕ)) → HasNoFeed pending → IsAtEnd has
-    → EndsReading (end_behind pending) j pending has false
-end_reached j [] has n e = (refl, e, refl)
-end_reached j (b ∷ pending) has n e = ((λ same. (cc), n), e, refl)
 
 same_end : (a b : ReadEnd) → Some a ≡ Some b → a ≡ b
 same_end a b e = ap (λ (o : Option ReadEnd). unwrap_or o a) e

@@ -166,14 +166,3 @@ pub all_sound : (s : Opening) (n : ℕ) → n ≡ length s.objects → n ≤ sou
 all_sound s n e h =
     let same : sound_count s n ≡ n = omega (arith, h, count_within s n) in
     subst (λ k. is_sound (opening_front s k) ≡ true) same (count_sound s n)
-
--- fewer than there are make the longest sound front, so the opening isn't sound
-pub not_sound : (s : Opening) (n : ℕ) → n ≡ length s.objects → sound_count s n < n → is_sound s ≡ false
-not_sound s n e h = answer (is_sound s) refl
-  where
-    answer : (b : Bool) → is_sound s ≡ b → b ≡ false
-    answer false is = refl
-    answer true is =
-        let front : opening_front s n ≡ s = ap (opening_front s) e ∙ front_all s in
-        let whole : sound_count s n ≡ n = count_whole s n (ap is_sound front ∙ is) in
-        absurd (omega arith)

@@ -10,7 +10,7 @@ use Rattle.argus_texts.specs.Languages.{BeginsInt, Ints, Insides, Choices, Conte
 use Rattle.argus_texts.proofs.{Digits.{one_decimal, ints_clear}, Faults.Accepts, Lists.{tail_of, head_of}}
 use Rattle.argus_texts.proofs.Forms.{int_lead, int_front, one_form, one_inside, value_ends, choice_form}
 use Rattle.argus_texts.proofs.Stops.{Clear, Behind, Among, Precedes, stops_in, stops_behind, stops_among, pair_first}
-use Rattle.argus_texts.proofs.Stops.{pair_second, pair_between, pair_reads, pair_whole}
+use Rattle.argus_texts.proofs.Stops.{pair_second, pair_between, pair_whole}
 
 -- the list of values
 unlisted : PlainValues → List PlainValue
@@ -201,11 +201,3 @@ items_stops k text a next mid left n r e s =
     (stops_in (signed_decimal a ++ 91 ∷ []) (Insides 93 k) (Arrays k)
     (pair_second Ints (Insides 93 k) 91 ints_clear int_precedes a r.good) text mid left
     (pair_whole Ints 91 text a next mid r e) s)
-
-pub array_reads : (k : ℕ) (text : List ℕ) (a : ℤ) (next mid rest : List ℕ) (vs : List PlainValue)
-    → Reads Ints text a next → next ≡ 91 ∷ mid → Reads (Insides 93 k) mid (listed vs) rest
-    → Reads (Contents k) text (arr a vs) rest
-array_reads k text a next mid rest vs r e s =
-    let p : Reads (Arrays k) text (a, listed vs) rest =
-    pair_reads Ints (Insides 93 k) 91 text a (listed vs) next mid rest r e s in
-    record { good = (r.good, s.good); ends = tt; is = p.is }

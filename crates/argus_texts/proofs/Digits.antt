@@ -3,7 +3,7 @@ use Rattle.std.proofs.Common.{◌≡◌, ◌≢◌, ℕ, zero, suc, ◌<◌, ◌
 use Rattle.std.proofs.Common.{length, get_or, refl, sym, ap, ◌∙◌, subst, append-nil, append_assoc, arith}
 use Rattle.std.proofs.lemmas.Fmt.{decimal_by_steps, decimal_step, decimal_digit, first_decimal, decimal_injective}
 use Rattle.std.specs.{Prelude.{◌%◌, ◌/◌, ℤ, pos, negsuc}, Fmt.{decimal, signed_decimal}}
-use Rattle.argus_texts.specs.{Language.{Reads, Starts, NoWay, Stops, First}, Spelling.IsI64}
+use Rattle.argus_texts.specs.{Language.{Starts, NoWay, Stops, First}, Spelling.IsI64}
 use Rattle.argus_texts.specs.Languages.{IsNoDigit, NotDigit, Numbers, Ints}
 use Rattle.argus_texts.proofs.{Lists.{tail_of, head_of}, Stops.{Clear, Behind, Among, stops_now}}
 
@@ -207,10 +207,6 @@ grown_step n next more others p e h l u =
     sym (ap (λ ds. ds ++ others) g ∙ append_assoc (decimal n) ((48 + (next - 48)) ∷ []) others
     ∙ ap (λ m. decimal n ++ m ∷ others) same)
 
-pub ascii_no_digit : (x : List ℕ) → First (λ c. 128 ≤ c) x → NotDigit x
-ascii_no_digit [] h = tt
-ascii_no_digit (c ∷ x) h = inr (omega arith)
-
 pub ascii_no_first : (least : ℕ) (x : List ℕ) → First (λ c. 128 ≤ c) x → First (NoFirst least) x
 ascii_no_first least [] h = tt
 ascii_no_first least (c ∷ x) h = inr (omega arith)
@@ -267,17 +263,3 @@ one_int (negsuc m) (negsuc n) x y g h p q e =
 
 pub ints_clear : Clear Ints
 ints_clear = record { one = one_int; nil = λ a. tt; first = λ a c x y e. e }
-
-pub reads_plain : (n : ℕ) (text rest : List ℕ) → Reads (Numbers 0 9223372036854775807) text n rest
-    → Reads Ints text (pos n) rest
-reads_plain n text rest r = record { good = omega (arith, r.good.1); ends = r.ends; is = r.is }
-
-pub reads_minus : (n : ℕ) (z : ℤ) (text others rest : List ℕ) → text ≡ 45 ∷ others
-    → Reads (Numbers 1 9223372036854775808) others n rest → z ≡ negsuc (n - 1) → Reads Ints text z rest
-reads_minus n z text others rest e r f =
-    subst (λ w. Reads Ints text w rest) (sym f)
-    (record {
-      good = omega (arith, r.good.0, r.good.1);
-      ends = r.ends;
-      is = e ∙ ap (λ x. 45 ∷ x) (r.is ∙ ap (λ m. decimal m ++ rest) (sym (below n r.good.0)));
-    })

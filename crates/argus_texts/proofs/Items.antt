@@ -160,11 +160,6 @@ Going close k whole rest done =
     → rest ≡ spelling v ++ (behind close (listed vs) ++ end)
     → Reads (Insides close k) whole (listed (done ++ v ∷ vs)) end
 
-pub going_first : (close k : ℕ) (text : List ℕ) → Going close k text text []
-going_first close k text =
-    λ v vs end w a e.
-    record { good = (w, a); ends = tt; is = e ∙ sym (append_assoc (spelling v) (behind close (listed vs)) end) }
-
 -- the closing byte comes
 pub closes : (close k : ℕ) (whole rest next others : List ℕ) (done all : List PlainValue) (v : PlainValue)
     → Going close k whole rest done → Reads (Values k) rest v next → next ≡ close ∷ others → all ≡ done ++ v ∷ []

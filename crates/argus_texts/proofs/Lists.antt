@@ -15,17 +15,8 @@ pub cancel : (a x y : List ℕ) → a ++ x ≡ a ++ y → x ≡ y
 cancel [] x y e = e
 cancel (b ∷ a) x y e = cancel a x y (tail_of e)
 
--- what holds of each byte that a weaker test passes
-pub first_weaker : (P Q : ℕ → Type 0) → ((c : ℕ) → P c → Q c) → (x : List ℕ) → First P x → First Q x
-first_weaker P Q f [] h = tt
-first_weaker P Q f (c ∷ x) h = f c h
-
 pub split_at : (word : List ℕ) (i : ℕ) → i < length word → word ≡ take i word ++ get_or word i 0 ∷ drop (suc i) word
 split_at word i h = sym (take-append-drop i word) ∙ ap (λ ys. take i word ++ ys) (drop-cons word i 0 h)
-
-pub no_bytes : (x : List ℕ) → length x ≡ 0 → x ≡ []
-no_bytes [] h = refl
-no_bytes (c ∷ x) h = absurd (omega arith)
 
 and-left : (p q : Bool) → p && q ≡ true → p ≡ true
 and-left true q h = refl

@@ -195,11 +195,3 @@ word_stops word text rest i h e n = record {
   way = record { thing = tt; good = tt; is = take-append-drop i word };
   no_way = word_way word rest i h n;
 }
-
--- a word that was read
-pub word_reads : (word text rest : List ℕ) → text ≡ word ++ rest → Reads (Word word) text tt rest
-word_reads word text rest e = record { good = tt; ends = tt; is = e }
-
-pub word_clear : (word : List ℕ) → Clear (Word word)
-word_clear word =
-    record { one = λ a b x y g h e f i. (refl, cancel word x y i); nil = λ a. tt; first = λ a c x y e. tt }

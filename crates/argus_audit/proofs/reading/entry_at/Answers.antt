@@ -1,6 +1,5 @@
 -- Numbers of entries fit 64 bits, and none stands behind the last one.
-use Rattle.std.proofs.{Common.{arith, length, reverse, sym, ◌≡◌, ◌≤◌}, lemmas.List.length-reverse}
-use Rattle.std.proofs.lemmas.Option.{slice_get_past}
+use Rattle.std.proofs.{Common.{arith, reverse, sym, ◌≡◌, ◌≤◌}, lemmas.List.length-reverse, lemmas.Option.slice_get_past}
 use Rattle.argus_journal.specs.Journal.{entries_of}
 use Rattle.argus_audit.proofs.reading.entry_at.Goals as goal
 

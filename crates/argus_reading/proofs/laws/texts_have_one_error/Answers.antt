@@ -1,7 +1,7 @@
 -- The positions of two faults are the same, and a text that lacks a shape has no other fault.
-use Rattle.std.proofs.Common.{◌≡◌, ◌≢◌, ℕ, inl, inr, List, ◌++◌, arith, min, length, refl, sym, ap, ◌∙◌, append_assoc}
+use Rattle.std.proofs.Common.{◌≡◌, ◌≢◌, ℕ, inl, inr, List, ◌++◌, arith, length, refl, sym, ap, ◌∙◌, append_assoc}
 use Rattle.std.proofs.{lemmas.Bool.cases_order, lemmas.List.{length-take, take-append-drop}}
-use Rattle.std.specs.{Fmt.decimal, Prelude.{codes, drop, take}}
+use Rattle.std.specs.{Fmt.decimal, Prelude.{codes, drop}}
 use Rattle.argus_texts.specs.Fault.{IsFault}
 use Rattle.argus_texts.proofs.Digits.{one_decimal}
 use Rattle.argus_reading.specs.{Line.{LacksShape, Tells}, declared.read_entry_error.ReadEntryError.ReadEntryError}

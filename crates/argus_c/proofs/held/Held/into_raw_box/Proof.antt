@@ -1,7 +1,7 @@
 -- `into_raw_box` moves two fields, and what they own goes with them.
 use Rattle.argus_c.proofs.Boxes.{some_of, guardian_box as E}
 use Rattle.argus_c.proofs.{Entering.at_word, Steps.{yes, ‵, ◌$◌, ◌∵◌, ◌∷◌, ◌⊛◌}}
-use Rattle.argus_c.proofs.Steps.{!, B, D, Goes-dropped, IsSome, Option, Slot, Stays, [], agg, alloc_all, and_then}
+use Rattle.argus_c.proofs.Steps.{B, !, D, Goes-dropped, IsSome, Option, Slot, Stays, [], agg, alloc_all, and_then}
 use Rattle.argus_c.proofs.Steps.{box_typed, by, done, drop, ends_at, enter, fact, fjoin, fld, free_all, fsep, fsplit}
 use Rattle.argus_c.proofs.Steps.{ftrue, get, get_in, heard, id⊢, join, look_at, move, no_more, nothing, of_opd}
 use Rattle.argus_c.proofs.Steps.{pass_all, plain, proved_at, qed, raw, refl, returns, rewrite, says, sets, split}

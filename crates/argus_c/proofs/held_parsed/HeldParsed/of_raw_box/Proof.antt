@@ -1,7 +1,7 @@
 -- `of_raw_box` moves two fields, and what they own goes with them.
 use Rattle.argus_c.proofs.Boxes.{parts_of, parsed_box as E}
 use Rattle.argus_c.proofs.{Entering.at_word, Steps.{use1, walk_of, whole, word, ‵, ◌$◌, ◌∵◌, ◌∷◌, ◌⊛◌}}
-use Rattle.argus_c.proofs.Steps.{!, B, D, Goes-blank, Some, Stays, [], agg, alloc_all, and_then, box_typed, by, done}
+use Rattle.argus_c.proofs.Steps.{B, !, D, Goes-blank, Some, Stays, [], agg, alloc_all, and_then, box_typed, by, done}
 use Rattle.argus_c.proofs.Steps.{drop, emp, ends_at, enter, fjoin, fld, free_all, fsep, fsplit, ftrue, get, get_in, id⊢}
 use Rattle.argus_c.proofs.Steps.{join, look_at, move, no_more, nothing, of_opd, pass_all, proved_at, qed, raw, refl}
 use Rattle.argus_c.proofs.Steps.{returns, yes, says, sets, split, stay_dropped, stop, sub, suffices, tables, type_at}

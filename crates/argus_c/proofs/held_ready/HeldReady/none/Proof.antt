@@ -1,6 +1,6 @@
 -- `none` makes a closed handle, which owns nothing.
 use Rattle.argus_c.proofs.Boxes.{ready_box as E}
-use Rattle.argus_c.proofs.Steps.{!, Goes-dropped, Item, List, None, P, RawPtr, Slot, Stays, Val, Valss, WpFn, [], agg}
+use Rattle.argus_c.proofs.Steps.{Goes-dropped, !, Item, List, None, P, RawPtr, Slot, Stays, Val, Valss, WpFn, [], agg}
 use Rattle.argus_c.proofs.Steps.{alloc_all, and_then, and_tt, by, done, drop, emp, ends_at, ent, enter, feq_i, fjoin}
 use Rattle.argus_c.proofs.Steps.{fpack, free_all, fsep, fsplit, ftrue, get, handle_tells, has_ty, id⊢, join, lit, lit<}
 use Rattle.argus_c.proofs.Steps.{look_at, move, no_more, nothing, null_ptr, of_list, owning, pass_all, plain, proved_at}

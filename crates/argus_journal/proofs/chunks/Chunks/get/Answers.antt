@@ -1,6 +1,6 @@
 -- What stands in a place: in a full chunk, or in the last one.
-use Rattle.std.proofs.Common.{List, Option, ap, arith, length, map, slice_get, sym, ℕ, ◌%◌, ◌*◌, ◌+◌, ◌-◌, ◌/◌, ◌<◌}
-use Rattle.std.proofs.{Common.{◌∙◌, ◌≡◌}, lemmas.Nat.div-add-mod', lemmas.Option.slice_get-map}
+use Rattle.std.proofs.Common.{List, ap, arith, length, map, slice_get, sym, ℕ, ◌%◌, ◌*◌, ◌+◌, ◌-◌, ◌/◌, ◌<◌, ◌∙◌, ◌≡◌}
+use Rattle.std.proofs.{lemmas.Nat.div-add-mod', lemmas.Option.slice_get-map}
 use Rattle.std.specs.Option.{option_map}
 use Rattle.argus_entries.specs.{Entry.plain_entry, declared.entry.Entry.Entry}
 use Rattle.argus_journal.specs.declared.chunks.TheConstants.{CHUNK}
