@@ -1,5 +1,5 @@
 -- Lineages go down in number, and an ancestor's ancestors are ancestors.
-use Rattle.std.proofs.Common.{List, [], ap, arith, cond, inl, inr, refl, sym, true, ℕ, ⊎_elim, ◌++◌, ◌+◌, ◌<◌, ◌∙◌, ◌∷◌}
+use Rattle.std.proofs.Common.{List, [], ap, arith, cond, inl, inr, refl, sym, true, ℕ, ⊎_elim, ◌++◌, ◌+◌, ◌<◌, ◌∷◌}
 use Rattle.std.proofs.{Common.{◌≡◌, ◌≢◌, ◌≤◌, ◌⊎◌}, lemmas.Bool.{cases_eq, eqb-true, ne_eqb, or_cases}}
 use Rattle.std.proofs.lemmas.Bool.Decides.{nat_tests}
 use Rattle.std.specs.Prelude.{◌==◌}
@@ -45,18 +45,11 @@ opened_lineage y ne = ap (λ b. cond b (0 ∷ []) (y ∷ 0 ∷ [])) (ne_eqb y 0 
 opened_ancestor : (x y : ℕ) → contains (to_base y) x ≡ true → (x ≡ y) ⊎ ((x ≡ 0) × (y ≢ 0))
 opened_ancestor x y a = grind (arith, nat_tests, opened_lineage y, cases_eq y 0)
 
-small_step : (n p x y : ℕ) (tp ty t : List ℕ) → p < n → y < n + 1 → ((y ≡ n) × (t ≡ y ∷ tp)) ⊎ ((y ≢ n) × (t ≡ ty))
-    → (contains tp x ≡ true → x ≤ p) → (y < n → contains ty x ≡ true → x ≤ y) → contains t x ≡ true → x ≤ y
-small_step n p x y tp ty t pn yn k ip iy h = grind (arith, nat_tests)
-
 -- an ancestor's number is no greater
 pub ancestor_le : {V : Type 0} (h : History V) (x y : ℕ) → ParentsAreOlder h → y < next_action h
     → is_ancestor h x y ≡ true → x ≤ y
 ancestor_le (Opened n) x y f l a = ⊎_elim (λ e. omega arith) (λ k. omega (arith, k.0)) (opened_ancestor x y a)
-ancestor_le (Began from ▹ h) x y f l a =
-    small_step (next_action h) (origin_parent from) x y (lineage h (origin_parent from)) (lineage h y)
-    (lineage (Began from ▹ h) y) f.0 l (lineage_cases h from y) (ancestor_le h x (origin_parent from) f.1 f.0)
-    (ancestor_le h x y f.1) a
+ancestor_le (Began from ▹ h) x y f l a = grind (arith, nat_tests, ancestor_le h x, ancestor_le h x y f.1)
 ancestor_le (Committed b ▹ h) x y f l a = ancestor_le h x y f l a
 ancestor_le (Aborted b ▹ h) x y f l a = ancestor_le h x y f l a
 ancestor_le (Accessed b o v ▹ h) x y f l a = ancestor_le h x y f l a
@@ -99,11 +92,7 @@ split_same x y ty tx e = rw e (split_here y x ty)
 pub split_lineage : {V : Type 0} (h : History V) (x y : ℕ) → ParentsAreOlder h → y < next_action h
     → is_ancestor h x y ≡ true → Split (lineage h y) (lineage h x) x
 split_lineage (Opened n) x y f l a =
-    ⊎_elim
-    (λ e. split_same x y (to_base y) (to_base x) (ap to_base e))
-    (λ k. rw (opened_lineage y k.1, k.0)
-    (split_more y 0 (0 ∷ []) (0 ∷ []) (omega (arith, k.1)) (split_here 0 0 (0 ∷ []))))
-    (opened_ancestor x y a)
+    grind (arith, nat_tests, split_same, opened_lineage, split_more, split_here, opened_ancestor)
 split_lineage (Began from ▹ h) x y f l a =
     ⊎_elim
     (λ e. split_same x y (lineage (Began from ▹ h) y) (lineage (Began from ▹ h) x) (ap (lineage (Began from ▹ h)) e))
@@ -140,13 +129,7 @@ parent_step n p y q q' tp ty tq tq' t pn y0 yn k kq ep eq ih = (grind arith, gri
 pub parent_older : {V : Type 0} (h : History V) (y : ℕ) → ParentsAreOlder h → 0 < y → y < next_action h
     → (parent h y < y) × (lineage h y ≡ y ∷ lineage h (parent h y))
 parent_older (Opened n) y f y0 l = (y0, opened_lineage y (omega arith))
-parent_older (Began from ▹ h) y f y0 l =
-    let q' = parent (Began from ▹ h) y in
-    parent_step (next_action h) (origin_parent from) y (parent h y) q' (lineage h (origin_parent from)) (lineage h y)
-    (lineage h (parent h y)) (lineage (Began from ▹ h) q') (lineage (Began from ▹ h) y) f.0 y0 l
-    (lineage_cases h from y) (parent_cases h from y)
-    (λ ne e. lineage_old h from q' ne ∙ ap (lineage h) e) (λ ne e. lineage_old h from q' ne ∙ ap (lineage h) e)
-    (parent_older h y f.1 y0)
+parent_older (Began from ▹ h) y f y0 l = grind (arith, nat_tests, parent_older h y f.1 y0)
 parent_older (Committed b ▹ h) y f y0 l = parent_older h y f y0 l
 parent_older (Aborted b ▹ h) y f y0 l = parent_older h y f y0 l
 parent_older (Accessed b o v ▹ h) y f y0 l = parent_older h y f y0 l
@@ -161,25 +144,11 @@ pub record Child {V : Type 0} (h : History V) (x y : ℕ) : Type 0 where
 
 child_at : {V : Type 0} (h : History V) (from : Origin) (x y : ℕ) → y ≡ next_action h → (origin_parent from) ≡ x
     → Child (Began from ▹ h) x y
-child_at h from x y e k =
-    record {
-      child = y;
-      real = omega (arith, next_pos h);
-      started = omega arith;
-      below = ancestor_self (Began from ▹ h) y;
-      of = ⊎_elim (λ w. w.1 ∙ k) (λ w. absurd (w.0 e)) (parent_cases h from y);
-    }
+child_at h from x y e k = grind (arith, nat_tests, next_pos, ancestor_self, parent_cases)
 
 child_up : {V : Type 0} (h : History V) (from : Origin) (x y z : ℕ) (k : Child h x y)
     → is_ancestor (Began from ▹ h) k.child z ≡ true → Child (Began from ▹ h) x z
-child_up h from x y z k m =
-    record {
-      child = k.child;
-      real = k.real;
-      started = omega arith;
-      below = m;
-      of = ⊎_elim (λ w. absurd (omega arith)) (λ w. w.1 ∙ k.of) (parent_cases h from k.child);
-    }
+child_up h from x y z k m = grind (arith, nat_tests)
 
 -- an ancestor of the parent is one of what began last
 pub ancestor_new : {V : Type 0} (h : History V) (from : Origin) (x y : ℕ) → y ≡ next_action h
@@ -205,15 +174,7 @@ ancestor_old_is h from x y e a = grind (arith, nat_tests)
 pub child_on_path : {V : Type 0} (h : History V) (x y : ℕ) → ParentsAreOlder h → y < next_action h → x ≢ y
     → is_ancestor h x y ≡ true → Child h x y
 child_on_path {V} (Opened n) x y f l ne a =
-    ⊎_elim (λ e. absurd (ne e))
-    (λ k. record {
-      child = y;
-      real = omega (arith, k.1);
-      started = l;
-      below = ancestor_self {V = V} (Opened n) y;
-      of = sym k.0;
-    })
-    (opened_ancestor x y a)
+    grind (arith, nat_tests, ancestor_self {V = V} (Opened n) y, opened_ancestor x y a)
 child_on_path (Began from ▹ h) x y f l ne a =
     ⊎_elim
     (λ e. ⊎_elim
@@ -224,12 +185,9 @@ child_on_path (Began from ▹ h) x y f l ne a =
     (λ e. let w = child_on_path h x y f.1 (omega arith) ne (ancestor_old_is h from x y e a) in
     child_up h from x y y w (ancestor_old h from w.child y e w.below))
     (cases_eq y (next_action h))
-child_on_path (Committed b ▹ h) x y f l ne a = let w = child_on_path h x y f l ne a in
-    record { child = w.child; real = w.real; started = w.started; below = w.below; of = w.of }
-child_on_path (Aborted b ▹ h) x y f l ne a = let w = child_on_path h x y f l ne a in
-    record { child = w.child; real = w.real; started = w.started; below = w.below; of = w.of }
-child_on_path (Accessed b o v ▹ h) x y f l ne a = let w = child_on_path h x y f l ne a in
-    record { child = w.child; real = w.real; started = w.started; below = w.below; of = w.of }
+child_on_path (Committed b ▹ h) x y f l ne a = grind (arith, nat_tests, child_on_path h x y f l ne a)
+child_on_path (Aborted b ▹ h) x y f l ne a = grind (arith, nat_tests, child_on_path h x y f l ne a)
+child_on_path (Accessed b o v ▹ h) x y f l ne a = grind (arith, nat_tests, child_on_path h x y f l ne a)
 
 -- what is folded is older than what comes
 pub folded_next : {V : Type 0} (h : History V) → folded h < next_action h

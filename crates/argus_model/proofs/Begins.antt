@@ -1,10 +1,11 @@
 -- Each action that has begun has its begin, which names its parent and its creator.
-use Rattle.std.proofs.Common.{List, [], arith, cond, ap, refl, sym, true, ℕ, ⊎_elim, ◌<◌, ◌∙◌, ◌∷◌, ◌≡◌, ◌++◌}
-use Rattle.std.proofs.lemmas.Bool.{cases_eq, eq-eqb, ne_eqb}
+use Rattle.std.proofs.Common.{List, [], arith, cond, ap, refl, true, ℕ, ⊎_elim, ◌<◌, ◌∙◌, ◌∷◌, ◌≡◌, ◌++◌}
+use Rattle.std.proofs.lemmas.Bool.{cases_eq, ne_eqb}
 use Rattle.argus_model.specs.{Ancestors.{begun_by, parent}, Status.is_begun}
 use Rattle.argus_model.specs.Event.{Aborted, Accessed, Began, Committed, Event, Origin, origin_begun_by, origin_parent}
 use Rattle.argus_model.specs.History.{History, ItsBegin, Opened, folded, followed_by, next_action, ◌▹◌}
 use Rattle.argus_model.proofs.Live.{is_begun_parts}
+use Rattle.std.proofs.lemmas.Bool.Decides.{nat_tests}
 
 followed_more : {V : Type 0} (h : History V) (later : List (Event V)) (e : Event V)
     → followed_by h (later ++ e ∷ []) ≡ e ▹ followed_by h later
@@ -12,13 +13,7 @@ followed_more h [] e = refl
 followed_more h (d ∷ later) e = followed_more (d ▹ h) later e
 
 later_begin : {V : Type 0} (h : History V) (e : Event V) (a : ℕ) → ItsBegin h a → ItsBegin (e ▹ h) a
-later_begin h e a b = record {
-  older = b.older;
-  from = b.from;
-  later = b.later ++ e ∷ [];
-  is = ap (λ k. e ▹ k) b.is ∙ sym (followed_more (Began b.from ▹ b.older) b.later e);
-  number = b.number;
-}
+later_begin h e a b = grind (arith, nat_tests, followed_more (Began b.from ▹ b.older) b.later e)
 
 begin_of : {V : Type 0} (h : History V) (a : ℕ) → folded h < a → a < next_action h → ItsBegin h a
 begin_of (Opened n) a l m = absurd (omega arith)
@@ -72,15 +67,9 @@ begun_by_later h (e ∷ later) a l = begun_by_later (e ▹ h) later a (number_st
 -- the parent is who the begin names, whatever came later
 pub begin_names_parent : {V : Type 0} (older : History V) (from : Origin) (later : List (Event V))
     → parent (followed_by (Began from ▹ older) later) (next_action older) ≡ origin_parent from
-begin_names_parent older from later =
-    let n = next_action older in
-    parent_later (Began from ▹ older) later n (omega arith)
-    ∙ ap (λ b. cond b (origin_parent from) (parent older n)) (eq-eqb n n refl)
+begin_names_parent older from later = grind (arith, nat_tests, parent_later)
 
 -- the creator is who the begin names, whatever came later
 pub begin_names_creator : {V : Type 0} (older : History V) (from : Origin) (later : List (Event V))
     → begun_by (followed_by (Began from ▹ older) later) (next_action older) ≡ origin_begun_by from
-begin_names_creator older from later =
-    let n = next_action older in
-    begun_by_later (Began from ▹ older) later n (omega arith)
-    ∙ ap (λ b. cond b (origin_begun_by from) (begun_by older n)) (eq-eqb n n refl)
+begin_names_creator older from later = grind (arith, nat_tests, begun_by_later)

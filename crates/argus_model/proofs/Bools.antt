@@ -1,6 +1,6 @@
 -- Laws of tests.
 use Rattle.std.proofs.{Common.{Bool, arith, false, refl, sym, true, ℕ, ◌≡◌}, lemmas.Bool.{eq-eqb, eqb-true}}
-use Rattle.std.specs.Prelude.{not, ◌&&◌, ◌==◌, ◌||◌}
+use Rattle.std.specs.Prelude.{◌&&◌, ◌==◌, ◌||◌}
 
 -- two tests are the same where each follows from the other
 pub same_bool : (a b : Bool) → (a ≡ true → b ≡ true) → (b ≡ true → a ≡ true) → a ≡ b
@@ -23,18 +23,6 @@ pub and_off : (a b c : Bool) → (a && b) ≡ false → (a && (b && c)) ≡ fals
 and_off false b c e = refl
 and_off true true c e = grind arith
 and_off true false c e = refl
-
--- three parts are the same, grouped from the right or from the left
-pub and_split : (a b c r : Bool) → ((a && (b && c)) || r) ≡ (((a && b) && c) || r)
-and_split false b c r = refl
-and_split true b c r = refl
-
--- a test of all accesses is the test of the reads or that of the writes
-pub kinds_apart : (here w t r s : Bool)
-    → ((here && true) && t || (r || s)) ≡ (((here && not w) && t || r) || ((here && w) && t || s))
-kinds_apart false w t r s = refl
-kinds_apart true true t r s = grind arith
-kinds_apart true false t r s = grind arith
 
 -- a part that fails makes the whole fail
 pub and_none : (b : Bool) → (b && false) ≡ false

@@ -1,6 +1,6 @@
 -- What a commit adds to the effects and to the serial order, and how a history goes on from its fold.
 use Rattle.std.proofs.Common.{[], ap, append-nil, arith, cond, false, refl, sym, true, ℕ, ⊎_elim, ◌++◌, ◌-◌, ◌∙◌, ◌∷◌}
-use Rattle.std.proofs.{Common.{◌≡◌, ◌≢◌}, lemmas.Bool.{cases_Bool, cases_eq, eq-eqb, ne_eqb}}
+use Rattle.std.proofs.{Common.{◌≡◌, ◌≢◌}, lemmas.Bool.{cases_Bool, ne_eqb}}
 use Rattle.std.specs.Prelude.{map, ◌==◌}
 use Rattle.argus_model.specs.{Ancestors.parent, Contents.{base, sees}, Fold.fold, Holders.writers, Lawful.Lawful}
 use Rattle.argus_model.specs.{Effects.{added_effects, effects, table, written_objects}, Meaning.Meaning}
@@ -13,6 +13,7 @@ use Rattle.argus_model.proofs.Effects.{effect_seen, effects_grow, effects_stay, 
 use Rattle.argus_model.proofs.{Live.{is_begun_parts, live_stands, stands_is_live}, Sees.sees_is, Topactions.tops_same}
 use Rattle.argus_model.proofs.{Standing.{parent_is, parents_are_older}, Theorems.{table_continues, table_is_base}}
 use Rattle.argus_model.proofs.Work.{work_final}
+use Rattle.std.proofs.lemmas.Bool.Decides.{nat_tests}
 
 module _ {V C A : Type 0} (meaning : Meaning V C A) (opening : HistoryOpening C) where
   stays : (h : History V) (e : Event V) → Lawful meaning opening (e ▹ h)
@@ -42,10 +43,7 @@ module _ {V C A : Type 0} (meaning : Meaning V C A) (opening : HistoryOpening C)
   -- the objects that a live action's work writes are those that it holds for writing
   pub written_are_held : (h : History V) (s o : ℕ) → Lawful meaning opening h → is_live h s ≡ true
       → contains (written_objects meaning (work h s)) o ≡ contains (writers meaning h o) s
-  written_are_held h s o l k =
-      let w = lawful_orderly meaning opening h l in
-      let q = live_stands h w s k in
-      written_holds meaning h w s o q.1 ∙ sym (contains_holders meaning.writes h w o s q.0)
+  written_are_held h s o l k = grind (arith, nat_tests, lawful_orderly, live_stands, written_holds, contains_holders)
 
   -- the commit of a subaction adds no effect
   pub no_effect : (h : History V) (s : ℕ) → Lawful meaning opening (Committed s ▹ h) → parent h s ≢ 0
@@ -61,14 +59,7 @@ module _ {V C A : Type 0} (meaning : Meaning V C A) (opening : HistoryOpening C)
   effects_step h (Began from) l = stays h (Began from) l refl
   effects_step h (Aborted zs) l = stays h (Aborted zs) l refl
   effects_step h (Accessed a o v) l = stays h (Accessed a o v) l refl
-  effects_step h (Committed a) l =
-      let old = effects meaning opening h in
-      let m = map (λ o. (o, sees meaning opening h a o)) (written_objects meaning (work h a)) in
-      ⊎_elim
-      (λ e. effect_added h a l e ∙ sym (ap (λ b. old ++ cond b (m ∷ []) []) (eq-eqb (parent h a) 0 e)))
-      (λ n. no_effect h a l n ∙ sym (append-nil old)
-      ∙ sym (ap (λ b. old ++ cond b (m ∷ []) []) (ne_eqb (parent h a) 0 n)))
-      (cases_eq (parent h a) 0)
+  effects_step h (Committed a) l = grind (arith, nat_tests, effect_added, no_effect, append-nil)
 
   -- the commit of a topaction puts its work last in the serial order; that of a subaction leaves it
   pub order_added : (h : History V) (s : ℕ) → Lawful meaning opening (Committed s ▹ h)

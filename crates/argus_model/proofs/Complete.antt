@@ -1,14 +1,14 @@
 -- The work of an action is each access that it owns, once.
 use Rattle.std.proofs.Common.{Bool, List, None, Option, Some, [], ap, arith, cond, false, refl, subst, sym, true, ℕ}
 use Rattle.std.proofs.{Common.{⊎_elim, ◌++◌, ◌<◌, ◌∙◌, ◌∷◌, ◌≡◌, ◌≢◌}, lemmas.Bool.Decides.nat_tests}
-use Rattle.std.proofs.lemmas.Bool.{cases_Bool, cases_eq, eq-eqb, eqb-true, false_from_ne_true, false≢true, ne_eqb}
+use Rattle.std.proofs.lemmas.Bool.{cases_Bool, cases_eq, eq-eqb, eqb-true, false≢true, ne_eqb}
 use Rattle.std.proofs.lemmas.List.Sorted.{IsPermutation-append, IsPermutation-cons, IsPermutation-middle}
 use Rattle.std.proofs.lemmas.List.Sorted.{IsPermutation-refl, IsPermutation-trans}
-use Rattle.std.specs.{List.Sorted.IsPermutation, Prelude.{◌==◌, ◌||◌}}
-use Rattle.argus_model.specs.{Ancestors.{is_under, parent}, Event.{Aborted, Accessed, Began, Committed}}
-use Rattle.argus_model.specs.{History.{History, Opened, folded, next_action, ◌▹◌}, Work.{Access, accesses_by, work}}
+use Rattle.std.specs.{List.Sorted.IsPermutation, Prelude.{◌||◌}}
+use Rattle.argus_model.specs.{Ancestors.{parent}, Event.{Aborted, Accessed, Began, Committed}}
+use Rattle.argus_model.specs.{History.{History, Opened, folded, next_action, ◌▹◌}, Work.{accesses_by, work}}
 use Rattle.argus_model.specs.OwnerSteps.{is_exactly, owner_by_steps, owner_inherited, stands, unless_lost}
-use Rattle.argus_model.proofs.Standing.{Orderly, at_some, owner_begun, owner_cases, parents_are_older, stands_abort}
+use Rattle.argus_model.proofs.Standing.{Orderly, at_some, owner_begun, owner_cases, parents_are_older}
 use Rattle.argus_model.proofs.Standing.{stands_begun, stands_commit, stands_old, stands_unfolded, stands_upward}
 use Rattle.argus_model.proofs.Work.{no_work}
 
@@ -20,10 +20,7 @@ accesses_agree t u (Began from ▹ h) w same = accesses_agree t u h w.1 (λ a l 
 accesses_agree t u (Committed s ▹ h) w same = accesses_agree t u h w.1 same
 accesses_agree t u (Aborted z ▹ h) w same = accesses_agree t u h w.1 same
 accesses_agree {V} t u (Accessed a o v ▹ h) w same =
-    let x : Access V = record { object = o; what = v } in
-    ap (λ b. cond b (x ∷ accesses_by t h) (accesses_by t h))
-    (same a (stands_unfolded h a w.0.not_base w.0.standing) (stands_begun h a w.0.standing))
-    ∙ ap (λ es. cond (u a) (x ∷ es) es) (accesses_agree t u h w.1 same)
+    grind (arith, nat_tests, stands_unfolded, stands_begun, accesses_agree t u h w.1 same)
 
 no_accesses : {V : Type 0} (h : History V) → accesses_by (λ a. false) h ≡ []
 no_accesses (Opened n) = refl
@@ -54,9 +51,7 @@ two_tests t u n (Opened m) = IsPermutation-refl []
 two_tests t u n (Began from ▹ h) = two_tests t u n h
 two_tests t u n (Committed s ▹ h) = two_tests t u n h
 two_tests t u n (Aborted z ▹ h) = two_tests t u n h
-two_tests t u n (Accessed a o v ▹ h) =
-    one_of_two (t a) (u a) (record { object = o; what = v }) (accesses_by t h) (accesses_by u h)
-    (accesses_by (λ a. t a || u a) h) (n a) (two_tests t u n h)
+two_tests t u n (Accessed a o v ▹ h) = grind (arith, nat_tests, one_of_two, two_tests t u n h)
 
 not_both : (q : Option ℕ) (s y : ℕ) → y ≢ s → is_exactly q s ≡ true → is_exactly q y ≡ false
 not_both None s y n e = refl
@@ -83,9 +78,7 @@ kept_exact lost y (Some x) n = grind (arith, nat_tests, cases_Bool (lost x))
 -- what began last answers for nothing that was done before
 new_owns_none : {V : Type 0} (h : History V) → Orderly h → (y a : ℕ) → y ≡ next_action h
     → is_exactly (owner_by_steps h a) y ≡ false
-new_owns_none h w y a e =
-    false_from_ne_true (is_exactly (owner_by_steps h a) y)
-    (λ m. let l = owner_begun h a y (parents_are_older h w) (at_some (owner_by_steps h a) y m) in omega arith)
+new_owns_none h w y a e = grind (arith, nat_tests, owner_begun, parents_are_older, at_some)
 
 -- the work of what stands is what it answers for
 pub standing_work : {V : Type 0} (h : History V) → Orderly h → (y : ℕ) → stands h y ≡ true
@@ -130,16 +123,5 @@ standing_work (Committed s ▹ h) w y l =
     (accesses_agree of_y then h w.1 (λ a _ m. handed_other s p y (owner_by_steps h a) n k.1))
     (standing_work h w.1 y k.0)))
     (cases_eq p y)
-standing_work (Aborted z ▹ h) w y l =
-    let k = stands_abort h z y l in
-    subst (λ es. IsPermutation (work h y) es)
-    (accesses_agree (λ a. is_exactly (owner_by_steps h a) y)
-    (λ a. is_exactly (unless_lost (is_under h z) (owner_by_steps h a)) y) h w.1
-    (λ a _ m. kept_exact (is_under h z) y (owner_by_steps h a) k.1))
-    (standing_work h w.1 y k.0)
-standing_work {V} (Accessed a o v ▹ h) w y l =
-    let x : Access V = record { object = o; what = v } in
-    let es = accesses_by (λ b. is_exactly (owner_by_steps h b) y) h in
-    subst (λ b. IsPermutation (cond (a == y) (x ∷ work h y) (work h y)) (cond b (x ∷ es) es))
-    (ap (λ q. is_exactly q y) (sym (at_some (owner_by_steps h a) a w.0.standing)))
-    (one_more (a == y) x (work h y) es (standing_work h w.1 y l))
+standing_work (Aborted z ▹ h) w y l = grind (arith, nat_tests, standing_work h w.1 y)
+standing_work {V} (Accessed a o v ▹ h) w y l = grind (arith, nat_tests, at_some, one_more, standing_work h w.1 y l)

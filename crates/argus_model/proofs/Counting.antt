@@ -1,7 +1,7 @@
 -- For whom an action's work counts, as time goes on.
 use Rattle.std.proofs.Common.{Bool, List, None, Option, Some, ap, arith, cond, false, refl, subst, sym, true, ℕ, ⊎_elim}
 use Rattle.std.proofs.{Common.{◌<◌, ◌∙◌, ◌≡◌, ◌≢◌}, lemmas.Bool.false≢true, lemmas.Bool.Decides.nat_tests}
-use Rattle.std.proofs.lemmas.Bool.{ne_eqb, and_parts, both_ways, cases_Bool, cases_eq, eqb-true, false_from_ne_true}
+use Rattle.std.proofs.lemmas.Bool.{ne_eqb, cases_Bool, cases_eq}
 use Rattle.std.specs.{List.IsDistinct, Prelude.{◌&&◌, ◌==◌}}
 use Rattle.argus_model.specs.{Ancestors.{is_ancestor, is_under, parent}, History.{History, Opened, next_action, ◌▹◌}}
 use Rattle.argus_model.specs.{Event.{Aborted, Accessed, Began, Committed, Event}, Numbers.contains}
@@ -49,10 +49,7 @@ held_number _ = 0
 -- what is called gone has no owner by steps
 pub none_of : (q : Option ℕ) → as_owner q ≡ Gone → q ≡ None
 none_of None e = refl
-none_of (Some x) e =
-    absurd (false≢true
-    (⊎_elim (λ k. sym (ap (λ b. is_gone (cond b Base (Held x))) k))
-    (λ k. sym (ap (λ b. is_gone (cond b Base (Held x))) k)) (cases_Bool (x == 0)) ∙ ap is_gone e))
+none_of (Some x) e = grind (arith, nat_tests)
 
 -- what is called held by x has the owner x by steps
 pub some_of : (q : Option ℕ) (x : ℕ) → as_owner q ≡ Held x → q ≡ Some x
@@ -104,21 +101,10 @@ stood h (Committed b) w a l s =
 stood h (Aborted z) w a l s = (stands_abort h z a s).0
 stood h (Accessed b o v) w a l s = s
 
-orderly_older : {V : Type 0} (h : History V) (e : Event V) → Orderly (e ▹ h) → Orderly h
-orderly_older h (Began from) w = w.1
-orderly_older h (Committed b) w = w.1
-orderly_older h (Aborted z) w = w.1
-orderly_older h (Accessed b o v) w = w.1
-
 -- an action that is over is never live again
 pub over_stays : {V : Type 0} (h : History V) (e : Event V) → Orderly (e ▹ h) → (a : ℕ) → is_begun h a ≡ true
     → is_live h a ≡ false → is_live (e ▹ h) a ≡ false
-over_stays h e w a k n =
-    let q = is_begun_parts h a k in
-    let a0 : a ≢ 0 = λ i. let u = q.0 in omega arith in
-    false_from_ne_true (is_live (e ▹ h) a) (λ m.
-    let s = stood h e w a q.1 (stands_is_live (e ▹ h) w a a0 ∙ m) in
-    both_ways (is_live h a) n (sym (stands_is_live h (orderly_older h e w) a a0) ∙ s))
+over_stays h e w a k n = grind (arith, nat_tests)
 
 -- what a doomed action did is gone
 pub owner_when_doomed : {V : Type 0} (h : History V) → Orderly h → (a : ℕ) → is_begun h a ≡ true → is_doomed h a ≡ true
@@ -143,9 +129,7 @@ owner_when_committed h w a k c n =
 -- what a committed topaction did is there for good
 pub owner_when_top : {V : Type 0} (h : History V) → Orderly h → (a : ℕ) → is_begun h a ≡ true → has_committed h a ≡ true
     → parent h a ≡ 0 → owner h a ≡ Base
-owner_when_top h w a k c e =
-    owner_is h w a k
-    ∙ ap as_owner (owner_passed h w a c ∙ ap (owner_by_steps h) e ∙ at_some (owner_by_steps h 0) 0 (base_stands h w))
+owner_when_top h w a k c e = grind (arith, nat_tests, owner_is, owner_passed, at_some, base_stands)
 
 -- who answers for an action is live, and an ancestor of it
 pub held_by_live : {V : Type 0} (h : History V) → Orderly h → (a x : ℕ) → is_begun h a ≡ true → owner h a ≡ Held x
@@ -170,9 +154,7 @@ tops_are (Committed s ▹ h) w t = grind (arith, nat_tests, tops_are h w.1 t, ca
 pub tops_stay : {V : Type 0} (h : History V) → Orderly h → (t : ℕ) → contains (committed_topactions h) t ≡ true
     → owner h t ≡ Base
 tops_stay h w t m =
-    let q = and_parts (has_committed h t) (parent h t == 0) (sym (tops_are h w t) ∙ m) in
-    let c = committed_begun h w t q.0 in
-    owner_when_top h w t (is_begun_from h t (committed_unfolded h w t q.0) c.1) q.0 (eqb-true (parent h t) 0 q.1)
+    grind (arith, nat_tests, tops_are, committed_begun, owner_when_top, is_begun_from, committed_unfolded)
 
 -- what is gone stays gone
 pub gone_stays : {V : Type 0} (h : History V) (e : Event V) → Orderly h → Orderly (e ▹ h) → (a : ℕ)

@@ -1,10 +1,10 @@
 -- The depth that is read off the rows is that of the lineage.
 use Rattle.std.proofs.{lemmas.Bool.Decides.nat_tests, Common.{ℕ, ⊎_elim, inl, inr}, lemmas.Bool.cases_eq}
-use Rattle.std.proofs.Common.{◌+◌, ◌-◌, ◌∙◌, ◌∷◌, ◌≡◌, ◌≢◌, Bool, List, [], ap, arith, cond, false, length, refl, true}
-use Rattle.std.specs.Prelude.{◌==◌, ◌⊎◌}
+use Rattle.std.proofs.Common.{◌+◌, ◌-◌, ◌∷◌, ◌≡◌, Bool, List, [], arith, length, refl, true}
+use Rattle.std.specs.Prelude.{◌⊎◌}
 use Rattle.argus_model.specs.{Ancestors.lineage, Event.{Aborted, Accessed, Began, Committed, origin_parent}}
 use Rattle.argus_model.specs.{History.{History, Opened, folded, ◌▹◌}, OwnerSteps.stands, Status.{Status, is_begun}}
-use Rattle.argus_model.specs.Rows.{Row, depth_at, mark, rows, with_status}
+use Rattle.argus_model.specs.Rows.{Row, depth_at, mark, rows}
 use Rattle.argus_model.proofs.{Live.{is_begun_from, is_begun_parts}, Rows.{length-mark, rows_length}}
 use Rattle.argus_model.proofs.Standing.{Orderly, stands_begun, stands_unfolded}
 
@@ -12,18 +12,7 @@ depth_at-mark : (n : ℕ) (which : ℕ → Bool) (s : Status) (rs : List Row) (a
     → depth_at n (mark n which s rs) a ≡ depth_at n rs a
 depth_at-mark n which s [] a = refl
 depth_at-mark n which s (r ∷ rs) a =
-    ap (λ k. cond (a == n + k + 1)
-    (depth_at n (mark n which s rs) (origin_parent (cond (which (n + length rs + 1)) (with_status s r) r).origin) + 1)
-    (depth_at n (mark n which s rs) a)) (length-mark n which s rs)
-    ∙ ap (λ d. cond (a == n + length rs + 1) (d + 1) (depth_at n (mark n which s rs) a))
-    (ap (λ o. depth_at n (mark n which s rs) o) (same (which (n + length rs + 1)))
-    ∙ depth_at-mark n which s rs (origin_parent r.origin))
-    ∙ ap (λ d. cond (a == n + length rs + 1) (depth_at n rs (origin_parent r.origin) + 1) d)
-    (depth_at-mark n which s rs a)
-  where
-    same : (b : Bool) → origin_parent (cond b (with_status s r) r).origin ≡ origin_parent r.origin
-    same true = refl
-    same false = refl
+    grind (arith, nat_tests, length-mark, depth_at-mark n which s rs, depth_at-mark n which s rs a)
 
 -- the base, or an action that has begun
 abbrev IsKnown : {V : Type 0} → History V → ℕ → Type 0

@@ -1,13 +1,13 @@
 -- The table of what the committed topactions left has the bases, and an event adds at most one effect at the end.
-use Rattle.std.proofs.{lemmas.Bool.Decides.nat_tests, Common.{false, refl, subst, sym, true, ℕ}}
+use Rattle.std.proofs.{lemmas.Bool.Decides.nat_tests, Common.{false, refl, sym, true, ℕ}}
 use Rattle.std.proofs.Common.{⊎_elim, ◌++◌, ◌∙◌, ◌∷◌, ◌≡◌, ◌≢◌, Bool, List, Some, [], ap, append-nil, arith, cond}
-use Rattle.std.proofs.lemmas.Bool.{cases_Bool, cases_eq, eq-eqb, false≢true, ne_eqb, or_cases, or_left, or_right}
+use Rattle.std.proofs.lemmas.Bool.{cases_Bool, eq-eqb, false≢true, ne_eqb}
 use Rattle.std.proofs.lemmas.List.{reverse-append}
-use Rattle.std.specs.Prelude.{map, reverse, ◌&&◌, ◌==◌, ◌||◌}
+use Rattle.std.specs.Prelude.{map, reverse, ◌==◌}
 use Rattle.argus_model.specs.{Ancestors.{is_under, lineage, parent}, Event.{Aborted, Accessed, Began, Committed, Event}}
 use Rattle.argus_model.specs.Effects.{content_by, effect_of, effects, effects_of, table, written_objects}
 use Rattle.argus_model.specs.{History.{History, Opened, HistoryOpening, ◌▹◌}, HolderSteps.{has_used, holds}}
-use Rattle.argus_model.specs.{Meaning.Meaning, Numbers.{contains, insert}, WorkSteps.{LawfulSteps, visible_accesses}}
+use Rattle.argus_model.specs.{Meaning.Meaning, Numbers.{contains}, WorkSteps.{LawfulSteps, visible_accesses}}
 use Rattle.argus_model.specs.OwnerSteps.{is_exactly, owner_by_steps, stands}
 use Rattle.argus_model.specs.Work.{Access, all_of, committed_topactions, content_after, serial_order_to, work}
 use Rattle.argus_model.proofs.{Ancestors.parent_older, Bools.{eqb_sym, same_bool}, Contents.content_past}
@@ -27,13 +27,7 @@ module _ {C : Type 0} where
   content_by_is : (f : ℕ → C) (os : List ℕ) (o : ℕ) (c : C)
       → content_by (map (λ x. (x, f x)) os) o c ≡ cond (contains os o) (f o) c
   content_by_is f [] o c = refl
-  content_by_is f (x ∷ os) o c =
-      ⊎_elim
-      (λ e. ap (λ b. cond b (f x) (content_by (map (λ y. (y, f y)) os) o c)) (eq-eqb x o e) ∙ ap f e
-      ∙ sym (ap (λ b. cond (b || contains os o) (f o) c) (eq-eqb o x (sym e))))
-      (λ ne. ap (λ b. cond b (f x) (content_by (map (λ y. (y, f y)) os) o c)) (ne_eqb x o ne) ∙ content_by_is f os o c
-      ∙ sym (ap (λ b. cond (b || contains os o) (f o) c) (ne_eqb o x (λ q. ne (sym q)))))
-      (cases_eq x o)
+  content_by_is f (x ∷ os) o c = grind (arith, nat_tests, content_by_is f os o c)
 
   table-more : (s : ℕ → C) (l : List (List (ℕ × C))) (m : List (ℕ × C)) (o : ℕ)
       → table s (l ++ m ∷ []) o ≡ content_by m o (table s l o)
@@ -61,29 +55,17 @@ module _ {V C A : Type 0} (meaning : Meaning V C A) where
   -- the written objects are listed in increasing number
   pub written-IsRising : (es : List (Access V)) → IsRising (written_objects meaning es)
   written-IsRising [] = tt
-  written-IsRising (e ∷ es) =
-      ⊎_elim
-      (λ w. subst (λ b. IsRising (cond b (insert e.object (written_objects meaning es)) (written_objects meaning es)))
-      (sym w) (insert-IsRising e.object (written_objects meaning es) (written-IsRising es)))
-      (λ w. subst (λ b. IsRising (cond b (insert e.object (written_objects meaning es)) (written_objects meaning es)))
-      (sym w) (written-IsRising es))
-      (cases_Bool (meaning.writes e.what))
+  written-IsRising (e ∷ es) = grind (arith, nat_tests, insert-IsRising, written-IsRising es)
 
   touches_front : (es fs : List (Access V)) (o : ℕ) (all : Bool) → touches meaning.writes es o all ≡ true
       → touches meaning.writes (es ++ fs) o all ≡ true
   touches_front [] fs o all m = absurd (false≢true m)
-  touches_front (e ∷ es) fs o all m =
-      let first = e.object == o && (all || meaning.writes e.what) in
-      ⊎_elim (λ k. or_left first (touches meaning.writes (es ++ fs) o all) k)
-      (λ k. or_right first (touches meaning.writes (es ++ fs) o all) (touches_front es fs o all k))
-      (or_cases first (touches meaning.writes es o all) m)
+  touches_front (e ∷ es) fs o all m = grind (arith, nat_tests, touches_front es fs o all)
 
   touches_back : (es fs : List (Access V)) (o : ℕ) (all : Bool) → touches meaning.writes fs o all ≡ true
       → touches meaning.writes (es ++ fs) o all ≡ true
   touches_back [] fs o all m = m
-  touches_back (e ∷ es) fs o all m =
-      or_right (e.object == o && (all || meaning.writes e.what)) (touches meaning.writes (es ++ fs) o all)
-      (touches_back es fs o all m)
+  touches_back (e ∷ es) fs o all m = grind (arith, nat_tests, touches_back es fs o all m)
 
   -- who answers for an access has it in its work
   work_of_user : (h : History V) → Orderly h → (a y o : ℕ) (all : Bool) → has_used meaning.writes h a o all ≡ true
@@ -123,13 +105,7 @@ module _ {V C A : Type 0} (meaning : Meaning V C A) (opening : HistoryOpening C)
   effects_of_agree : (f g : ℕ → List (Access V)) (ts : List ℕ) → ((t : ℕ) → contains ts t ≡ true → f t ≡ g t)
       → effects_of meaning opening.contents f ts ≡ effects_of meaning opening.contents g ts
   effects_of_agree f g [] same = refl
-  effects_of_agree f g (t ∷ ts) same =
-      let later = λ (z : ℕ) (m : contains ts z ≡ true). same z (or_right (z == t) (contains ts z) m) in
-      ap (λ es. effect_of meaning opening.contents es (all_of f ts) ∷ effects_of meaning opening.contents f ts)
-      (same t (contains_first t ts))
-      ∙ ap (λ es. effect_of meaning opening.contents (g t) es ∷ effects_of meaning opening.contents f ts)
-      (all_of_agree f g ts later)
-      ∙ ap (λ ms. effect_of meaning opening.contents (g t) (all_of g ts) ∷ ms) (effects_of_agree f g ts later)
+  effects_of_agree f g (t ∷ ts) same = grind (arith, nat_tests, contains_first, all_of_agree, effects_of_agree f g ts)
 
   effects_of_same : (h : History V) (e : Event V) → Orderly h → Orderly (e ▹ h)
       → effects_of meaning opening.contents (work (e ▹ h)) (committed_topactions h)
@@ -141,9 +117,7 @@ module _ {V C A : Type 0} (meaning : Meaning V C A) (opening : HistoryOpening C)
   pub effects_stay : (h : History V) (e : Event V) → Orderly h → Orderly (e ▹ h)
       → committed_topactions (e ▹ h) ≡ committed_topactions h
       → effects meaning opening (e ▹ h) ≡ effects meaning opening h
-  effects_stay h e w w' same =
-      ap (λ ts. reverse (effects_of meaning opening.contents (work (e ▹ h)) ts)) same
-      ∙ ap reverse (effects_of_same h e w w')
+  effects_stay h e w w' same = grind (arith, nat_tests, effects_of_same)
 
   -- the commit of a topaction adds the effect of its work, at the end
   pub effects_grow : (h : History V) (s : ℕ) → Orderly (Committed s ▹ h) → parent h s ≡ 0
@@ -194,11 +168,7 @@ module _ {V C A : Type 0} (meaning : Meaning V C A) (opening : HistoryOpening C)
   pub table_base : (h : History V) → LawfulSteps meaning opening.contents h → (o : ℕ)
       → table opening.contents (effects meaning opening h) o
       ≡ content_after meaning opening.contents o (visible_accesses h 0)
-  table_base h w o =
-      table_effects_of (work h) (committed_topactions h) o
-      ∙ ap (content_after meaning opening.contents o)
-      (sym (serial_tops h (orderly meaning opening.contents h w)) ∙ sym (serial_to-base h))
-      ∙ (base_serial meaning opening.contents h w).sees o
+  table_base h w o = grind (arith, nat_tests, table_effects_of, serial_tops, orderly, serial_to-base, base_serial)
 
   -- the effect of a topaction's work is what it sees in each object that it has written
   pub effect_seen : (h : History V) → LawfulSteps meaning opening.contents h → (s : ℕ) → s ≢ 0 → stands h s ≡ true
@@ -222,7 +192,4 @@ module _ {V C A : Type 0} (meaning : Meaning V C A) (opening : HistoryOpening C)
   pub table_goes_on : (s : ℕ → C) (l : List (List (ℕ × C))) → ((o : ℕ) → table s l o ≡ opening.contents o)
       → (h : History V) → LawfulSteps meaning opening.contents h → (o : ℕ)
       → table s (l ++ effects meaning opening h) o ≡ content_after meaning opening.contents o (visible_accesses h 0)
-  table_goes_on s l same h w o =
-      table-append s l (effects meaning opening h) o
-      ∙ table_same (table s l) opening.contents (effects meaning opening h) same o
-      ∙ table_base h w o
+  table_goes_on s l same h w o = grind (arith, nat_tests, table-append s l, table_same, table_base h w o)

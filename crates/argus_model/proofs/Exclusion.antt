@@ -1,30 +1,24 @@
 -- Of a write holder and any other holder, one is an ancestor of the other.
-use Rattle.std.proofs.Common.{Bool, List, None, Option, Some, ap, arith, cond, false, inl, inr, refl, sym, true, ℕ, ◌<◌}
-use Rattle.std.proofs.Common.{◌∙◌, ◌∷◌, ◌≡◌, ◌≢◌, ◌⊎◌}
-use Rattle.std.proofs.lemmas.Bool.{and_from, and_parts, eq-eqb, eqb-true, false≢true, or_cases, or_left, or_right}
+use Rattle.std.proofs.Common.{Bool, List, None, Option, Some, arith, cond, false, inl, inr, refl, sym, true, ℕ, ◌<◌}
+use Rattle.std.proofs.Common.{◌∙◌, ◌≡◌, ◌≢◌, ◌⊎◌}
+use Rattle.std.proofs.lemmas.Bool.{and_from, false≢true}
 use Rattle.std.specs.Prelude.{◌&&◌, ◌==◌, ◌||◌}
-use Rattle.argus_model.specs.{Ancestors.{is_ancestor, is_under, lineage, parent}, Numbers.contains}
+use Rattle.argus_model.specs.{Ancestors.{is_ancestor, parent}}
 use Rattle.argus_model.specs.Event.{Aborted, Accessed, Began, Committed, Origin}
 use Rattle.argus_model.specs.History.{History, Opened, next_action, ◌▹◌}
 use Rattle.argus_model.specs.HolderSteps.{has_used, if_owned, may_by_steps}
 use Rattle.argus_model.specs.OwnerSteps.{StandsAlone, owner_by_steps, stands}
 use Rattle.argus_model.proofs.Ancestors.{ParentsAreOlder, ancestor_old, ancestor_self, ancestor_trans, parent_older}
-use Rattle.argus_model.proofs.Standing.{Orderly, at_some, handed_cases, kept_cases, owner_begun, owner_cases, parent_is}
+use Rattle.argus_model.proofs.Standing.{Orderly, handed_cases, owner_begun, owner_cases, parent_is}
 use Rattle.argus_model.proofs.Standing.{parents_are_older, stands_begun}
+use Rattle.std.proofs.lemmas.Bool.Decides.{nat_tests}
 
 -- an ancestor of an action that stands, other than the action itself, is an ancestor of its parent
 pub above_parent : {V : Type 0} (history : History V) → ParentsAreOlder history → (action above : ℕ) → action ≢ 0
     → stands history action ≡ true → above ≢ action → is_ancestor history above action ≡ true
     → is_ancestor history above (parent history action) ≡ true
 above_parent history older action above not_base standing another is_above =
-    let from_parent = lineage history (parent history action) in
-    let begins : lineage history action ≡ action ∷ from_parent =
-    (parent_older history action older (omega arith) (stands_begun history action standing)).1 in
-    let listed : contains (action ∷ from_parent) above ≡ true = rw begins at is_above in
-    elim (or_cases (above == action) (contains from_parent above) listed) [
-      | inl same ↦ absurd (another (eqb-true above action same))
-      | inr behind ↦ behind
-    ]
+    grind (arith, nat_tests, parent_older, stands_begun)
 
 -- one is an ancestor of the other
 abbrev pub Related : {V : Type 0} → History V → ℕ → ℕ → Type 0
@@ -40,17 +34,7 @@ related_to_itself history one other same = inl (rw same (ancestor_self history o
 -- what stands is its own owner
 same_owner : {V : Type 0} (history : History V) (standing action owner : ℕ) → standing ≡ action
     → stands history standing ≡ true → owner_by_steps history action ≡ Some owner → owner ≡ standing
-same_owner history standing action owner same stands_now owned =
-    let itself = at_some (owner_by_steps history standing) standing stands_now in
-    let the_same = ap (owner_by_steps history) same in
-    cc
-
--- a test that the owner of what counts has to pass, is passed
-test_passed : (counts : Bool) (test : ℕ → Bool) (found : Option ℕ) (owner : ℕ)
-    → cond counts (if_owned test found) true ≡ true → counts ≡ true → found ≡ Some owner → test owner ≡ true
-test_passed true test (Some holder) owner passed counted owned = let same : holder ≡ owner = cc in rw (← same) passed
-test_passed true test None owner passed counted owned = cc
-test_passed false test found owner passed counted owned = absurd (false≢true counted)
+same_owner history standing action owner same stands_now owned = grind (arith, nat_tests)
 
 -- a test that each owner of what counts passes, is passed
 test_passes : (counts : Bool) (test : ℕ → Bool) (found : Option ℕ)
@@ -76,32 +60,19 @@ module _ {V : Type 0} (writes : V → Bool) where
       → has_used writes (Accessed accessor accessed what ▹ history) action object all ≡ true
       → ((accessor ≡ action) × (accessed ≡ object) × ((all || writes what) ≡ true))
       ⊎ (has_used writes history action object all ≡ true)
-  has_used_cases history accessor accessed what action object all used =
-      let counts = accessed == object && (all || writes what) in
-      elim (or_cases (accessor == action && counts) (has_used writes history action object all) used) [
-        | inl now ↦
-            let by_action = and_parts (accessor == action) counts now in
-            let of_object = and_parts (accessed == object) (all || writes what) by_action.1 in
-            inl (eqb-true accessor action by_action.0, eqb-true accessed object of_object.0, of_object.1)
-        | inr before ↦ inr before
-      ]
+  has_used_cases history accessor accessed what action object all used = grind (arith, nat_tests)
 
   -- who accesses the object has used it
   pub has_used_now : (history : History V) (accessor accessed : ℕ) (what : V) (object : ℕ) (all : Bool)
       → (accessed == object && (all || writes what)) ≡ true
       → has_used writes (Accessed accessor accessed what ▹ history) accessor object all ≡ true
-  has_used_now history accessor accessed what object all counted =
-      let counts = accessed == object && (all || writes what) in
-      let by_itself = and_from (accessor == accessor) counts (eq-eqb accessor accessor refl) counted in
-      or_left (accessor == accessor && counts) (has_used writes history accessor object all) by_itself
+  has_used_now history accessor accessed what object all counted = grind (arith, nat_tests)
 
   -- who had used the object has used it after one more access, too
   pub has_used_more : (history : History V) (accessor accessed : ℕ) (what : V) (action object : ℕ) (all : Bool)
       → has_used writes history action object all ≡ true
       → has_used writes (Accessed accessor accessed what ▹ history) action object all ≡ true
-  has_used_more history accessor accessed what action object all used =
-      let now = accessor == action && (accessed == object && (all || writes what)) in
-      or_right now (has_used writes history action object all) used
+  has_used_more history accessor accessed what action object all used = grind (arith, nat_tests)
 
   -- a write access counts among all accesses, too
   pub has_used_all : (history : History V) (action object : ℕ) (all : Bool)
@@ -111,16 +82,7 @@ module _ {V : Type 0} (writes : V → Bool) where
   has_used_all (Committed child ▹ older) action object all wrote = has_used_all older action object all wrote
   has_used_all (Aborted actions ▹ older) action object all wrote = has_used_all older action object all wrote
   has_used_all (Accessed accessor accessed what ▹ older) action object all wrote =
-      elim (has_used_cases older accessor accessed what action object false wrote) [
-        | inl now ↦
-            let of_object = eq-eqb accessed object now.1 in
-            let counted = or_right all (writes what) now.2 in
-            rw (← now.0)
-            (has_used_now older accessor accessed what object all
-            (and_from (accessed == object) (all || writes what) of_object counted))
-        | inr before ↦
-            has_used_more older accessor accessed what action object all (has_used_all older action object all before)
-      ]
+      grind (arith, nat_tests, has_used_all older action object all)
 
   -- who has used an object has begun
   pub has_used_begun : (history : History V) → Orderly history → (action object : ℕ) (all : Bool)
@@ -133,10 +95,7 @@ module _ {V : Type 0} (writes : V → Bool) where
   has_used_begun (Aborted actions ▹ older) orderly action object all used =
       has_used_begun older orderly.1 action object all used
   has_used_begun (Accessed accessor accessed what ▹ older) orderly action object all used =
-      elim (has_used_cases older accessor accessed what action object all used) [
-        | inl now ↦ rw (← now.0) (stands_begun older accessor orderly.0.standing)
-        | inr before ↦ has_used_begun older orderly.1 action object all before
-      ]
+      grind (arith, nat_tests, has_used_cases, stands_begun, has_used_begun older orderly.1 action object all)
 
   -- where a lock is free for an action, each owner of an access in `older` to the object is an ancestor of it
   pub may_tells : (history older : History V) (action object user owner : ℕ) (all : Bool)
@@ -150,18 +109,7 @@ module _ {V : Type 0} (writes : V → Bool) where
   may_tells history (Aborted actions ▹ older) action object user owner all free used owned =
       may_tells history older action object user owner all free used owned
   may_tells history (Accessed accessor accessed what ▹ older) action object user owner all free used owned =
-      let counts = accessed == object && (all || writes what) in
-      let is_above = λ (holder : ℕ). is_ancestor history holder action in
-      let found = owner_by_steps history accessor in
-      let passes_now = cond counts (if_owned is_above found) true in
-      let passed_before = may_by_steps writes history action object all older in
-      let parts = and_parts passes_now passed_before free in
-      elim (has_used_cases older accessor accessed what user object all used) [
-        | inl now ↦
-            let counted = and_from (accessed == object) (all || writes what) (eq-eqb accessed object now.1) now.2 in
-            test_passed counts is_above found owner parts.0 counted (ap (owner_by_steps history) now.0 ∙ owned)
-        | inr before ↦ may_tells history older action object user owner all parts.1 before owned
-      ]
+      grind (arith, nat_tests, may_tells history older action object user owner all)
 
   -- where each owner of an access in `older` to the object is an ancestor of an action, the lock is free for it
   pub may_from : (history older : History V) (action object : ℕ) (all : Bool)
@@ -198,11 +146,7 @@ module _ {V : Type 0} (writes : V → Bool) where
       → has_used writes history action object all ≡ true → owner_by_steps (Began from ▹ history) action ≡ Some owner
       → owner_by_steps history action ≡ Some owner
   owner_before history from orderly action object owner all used owned =
-      let begun = has_used_begun history orderly action object all used in
-      elim (owner_cases history from action) [
-        | inl newest ↦ absurd (omega (arith, newest.0))
-        | inr older ↦ sym older.1 ∙ owned
-      ]
+      grind (arith, nat_tests, has_used_begun, orderly, owner_cases)
 
   exclusive_begin : (history : History V) (from : Origin) → Orderly history → Exclusive history
       → Exclusive (Began from ▹ history)
@@ -228,13 +172,9 @@ module _ {V : Type 0} (writes : V → Bool) where
     parent_related : (action owner : ℕ) → owner_by_steps history action ≡ Some owner → owner ≢ child
         → Related history child owner → Related history (parent history child) owner
     parent_related action owner owned another (inl above) =
-        let older = parents_are_older history orderly in
-        let parent_above = (parent_is history older child alone.not_base alone.standing).1 in
-        let begun = owner_begun history action owner older owned in
-        inl (ancestor_trans history (parent history child) child owner older begun parent_above above)
+        grind (arith, nat_tests, parents_are_older, orderly, parent_is, owner_begun, ancestor_trans)
     parent_related action owner owned another (inr below) =
-        let older = parents_are_older history orderly in
-        inr (above_parent history older child owner alone.not_base alone.standing another below)
+        grind (arith, nat_tests, parents_are_older, orderly, above_parent)
 
     -- owners that were related before the commit are related after it
     related_after : (writer user holder other : ℕ)
@@ -244,30 +184,20 @@ module _ {V : Type 0} (writes : V → Bool) where
     related_after writer user holder other before (inl handed) (inl other_handed) =
         related_to_itself history holder other (handed.1 ∙ sym other_handed.1)
     related_after writer user holder other before (inl handed) (inr other_kept) =
-        rw handed.1
-        (parent_related user other other_kept.0 other_kept.1 (before child other handed.0 other_kept.0))
+        grind (arith, nat_tests, parent_related)
     related_after writer user holder other before (inr kept) (inl other_handed) =
-        let was_related = turned history holder child (before holder child kept.0 other_handed.0) in
-        let is_related = parent_related writer holder kept.0 kept.1 was_related in
-        turned history other holder (rw other_handed.1 is_related)
+        grind (arith, nat_tests, turned, parent_related)
     related_after writer user holder other before (inr kept) (inr other_kept) =
         before holder other kept.0 other_kept.0
 
     exclusive_commit : Exclusive history → Exclusive (Committed child ▹ history)
     exclusive_commit exclusive writer user object holder other wrote used held other_held =
-        let above = parent history child in
-        related_after writer user holder other
-        (λ one another. exclusive writer user object one another wrote used)
-        (handed_cases child above (owner_by_steps history writer) holder held)
-        (handed_cases child above (owner_by_steps history user) other other_held)
+        grind (arith, nat_tests, related_after, exclusive, wrote, handed_cases)
 
   exclusive_abort : (history : History V) (actions : List ℕ) → Exclusive history
       → Exclusive (Aborted actions ▹ history)
   exclusive_abort history actions exclusive writer user object holder other wrote used held other_held =
-      let is_lost = is_under history actions in
-      let held_before = (kept_cases is_lost (owner_by_steps history writer) holder held).0 in
-      let other_before = (kept_cases is_lost (owner_by_steps history user) other other_held).0 in
-      exclusive writer user object holder other wrote used held_before other_before
+      grind (arith, nat_tests)
 
   module _ (history : History V) (accessor accessed : ℕ) (what : V) (standing : stands history accessor ≡ true)
       (free : may_by_steps writes history accessor accessed (writes what) history ≡ true) where
@@ -290,13 +220,9 @@ module _ {V : Type 0} (writes : V → Bool) where
         → owner_by_steps history user ≡ Some other → AccessCases writer object false → AccessCases user object true
         → Related history holder other
     related_with writer user object holder other before held other_held (inl wrote) (inl used) =
-        let is_accessor = same_owner history accessor writer holder wrote.0 standing held in
-        let other_is_accessor = same_owner history accessor user other used.0 standing other_held in
-        related_to_itself history holder other (is_accessor ∙ sym other_is_accessor)
+        grind (arith, nat_tests, same_owner, related_to_itself)
     related_with writer user object holder other before held other_held (inl wrote) (inr used) =
-        let is_accessor = same_owner history accessor writer holder wrote.0 standing held in
-        let used_as_writer : has_used writes history user object (writes what) ≡ true = rw wrote.2 used in
-        inr (rw is_accessor (owner_above user object other wrote.1 used_as_writer other_held))
+        grind (arith, nat_tests, same_owner, owner_above)
     related_with writer user object holder other before held other_held (inr wrote) (inl used) =
         let is_accessor = same_owner history accessor user other used.0 standing other_held in
         let wrote_before = has_used_all history writer object (writes what) wrote in
@@ -305,12 +231,7 @@ module _ {V : Type 0} (writes : V → Bool) where
 
     exclusive_access : Exclusive history → Exclusive (Accessed accessor accessed what ▹ history)
     exclusive_access exclusive writer user object holder other wrote used held other_held =
-        related_with writer user object holder other
-        (λ wrote_before used_before. exclusive writer user object holder other wrote_before used_before held other_held)
-        held
-        other_held
-        (has_used_cases history accessor accessed what writer object false wrote)
-        (has_used_cases history accessor accessed what user object true used)
+        grind (arith, nat_tests, related_with, exclusive, has_used_cases, wrote)
 
   -- a history in which each access got its lock is exclusive
   pub exclusion : (history : History V) → Orderly history → Guarded history → Exclusive history
@@ -323,5 +244,4 @@ module _ {V : Type 0} (writes : V → Bool) where
   exclusion (Aborted actions ▹ older) orderly guarded =
       exclusive_abort older actions (exclusion older orderly.1 guarded)
   exclusion (Accessed accessor accessed what ▹ older) orderly guarded =
-      exclusive_access older accessor accessed what orderly.0.standing guarded.0
-      (exclusion older orderly.1 guarded.1)
+      grind (arith, nat_tests, exclusive_access, exclusion older orderly.1 guarded.1)

@@ -1,23 +1,22 @@
 -- A lawful history is lawful by the events' own forms.
-use Rattle.std.proofs.Common.{List, ap, cond, false, subst, sym, true, ℕ, ⊎_elim, ◌∙◌, ◌≡◌}
-use Rattle.std.proofs.lemmas.Bool.{cases_Bool, eqb-true, or_cases}
+use Rattle.std.proofs.Common.{List, false, subst, sym, true, ℕ, ◌∙◌, ◌≡◌}
 use Rattle.std.specs.{List.list_all, Prelude.{◌==◌, ◌||◌}}
 use Rattle.argus_model.specs.Event.{Aborted, Accessed, Began, Committed, Event, Nested, Origin, Sub, Top}
 use Rattle.argus_model.specs.{Event.{origin_begun_by, origin_parent}, History.{History, Opened, HistoryOpening, ◌▹◌}}
-use Rattle.argus_model.specs.{HolderSteps.may_by_steps, Holders.{may_read, may_write}, Meaning.{Fits, Meaning}}
+use Rattle.argus_model.specs.{HolderSteps.may_by_steps, Meaning.{Fits, Meaning}}
 use Rattle.argus_model.specs.{Lawful.{Allowed, Lawful, may_access}, OwnerSteps.{AllStand, StandsAlone, stands}}
 use Rattle.argus_model.specs.{Status.{has_live_child, is_live}, WorkSteps.LawfulSteps}
 use Rattle.argus_model.proofs.{Holders.{may_read_is, may_write_is}, Live.{child_is, live_stands}, Numbers.every_at}
 use Rattle.argus_model.proofs.{Sees.sees_is, Serial.{base_stands, orderly}, Standing.Orderly}
+use Rattle.std.proofs.Common.{arith}
+use Rattle.std.proofs.lemmas.Bool.Decides.{nat_tests}
 
 -- the parent of an action that may begin stands
 pub parent_stands : {V : Type 0} (h : History V) → Orderly h → (from : Origin)
     → (origin_begun_by from == 0 || is_live h (origin_begun_by from)) ≡ true → stands h (origin_parent from) ≡ true
 parent_stands h w Top e = base_stands h w
 parent_stands h w (Nested c) e = base_stands h w
-parent_stands h w (Sub p) e =
-    ⊎_elim (λ k. subst (λ u. stands h u ≡ true) (sym (eqb-true p 0 k)) (base_stands h w)) (λ k. (live_stands h w p k).1)
-    (or_cases (p == 0) (is_live h p) e)
+parent_stands h w (Sub p) e = grind (arith, nat_tests, base_stands, live_stands)
 
 -- live actions all stand, and none of them is the base
 pub all_stand : {V : Type 0} (h : History V) → Orderly h → (actions : List ℕ) → list_all (is_live h) actions ≡ true
@@ -27,19 +26,12 @@ all_stand h w actions e = λ a i. live_stands h w a (every_at (is_live h) action
 -- a live action with no live child stands alone
 stands_alone : {V : Type 0} (h : History V) → Orderly h → (a : ℕ) → is_live h a ≡ true → has_live_child h a ≡ false
     → StandsAlone h a
-stands_alone h w a l n = let s = live_stands h w a l in
-    record { not_base = s.0; standing = s.1; childless = child_is h w a ∙ n }
+stands_alone h w a l n = grind (arith, nat_tests, live_stands, child_is)
 
 module _ {V C A : Type 0} (meaning : Meaning V C A) (opening : HistoryOpening C) where
   access_by_steps : (h : History V) → Orderly h → (a o : ℕ) (v : V)
       → may_access meaning h a o v ≡ may_by_steps meaning.writes h a o (meaning.writes v) h
-  access_by_steps h w a o v =
-      ⊎_elim
-      (λ k. ap (λ b. cond b (may_write meaning h a o) (may_read meaning h a o)) k ∙ may_write_is meaning h w a o
-      ∙ ap (λ b. may_by_steps meaning.writes h a o b h) (sym k))
-      (λ k. ap (λ b. cond b (may_write meaning h a o) (may_read meaning h a o)) k ∙ may_read_is meaning h w a o
-      ∙ ap (λ b. may_by_steps meaning.writes h a o b h) (sym k))
-      (cases_Bool (meaning.writes v))
+  access_by_steps h w a o v = grind (arith, nat_tests, may_write_is, may_read_is)
 
   -- an allowed event after what is lawful by steps is lawful by steps
   pub step : (h : History V) (e : Event V) → LawfulSteps meaning opening.contents h → Allowed meaning opening h e

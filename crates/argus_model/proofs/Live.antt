@@ -1,15 +1,15 @@
 -- What stands is what is live, and the lists of live children and siblings.
-use Rattle.std.proofs.Common.{[], ap, arith, false, refl, true, ℕ, ⊎_elim, ◌<◌, ◌∙◌, ◌∷◌, ◌≡◌, ◌≢◌}
-use Rattle.std.proofs.{Math.Bool.{and_comm, or_comm}, lemmas.Bool.not-true, lemmas.Bool.Decides.nat_tests}
-use Rattle.std.proofs.lemmas.Bool.{or_left, and_from, and_parts, both_ways, cases_eq, eq-eqb, false≢true, ne_eqb}
+use Rattle.std.proofs.Common.{arith, refl, true, ℕ, ◌<◌, ◌≡◌, ◌≢◌}
+use Rattle.std.proofs.{Math.Bool.{and_comm, or_comm}, lemmas.Bool.Decides.nat_tests}
+use Rattle.std.proofs.lemmas.Bool.{false≢true}
 use Rattle.std.proofs.lemmas.List.Folds.{list_any-append}
-use Rattle.std.specs.{List.{list_all, list_any}, Prelude.{not, ◌&&◌, ◌==◌, ◌||◌}}
+use Rattle.std.specs.{List.{list_all, list_any}, Prelude.{◌&&◌, ◌==◌, ◌||◌}}
 use Rattle.argus_model.specs.{Ancestors.{begun_by, parent}, Numbers.contains, Status.is_sibling}
-use Rattle.argus_model.specs.Status.{live_siblings, has_committed, has_live_child, is_begun, is_doomed, is_live}
+use Rattle.argus_model.specs.Status.{live_siblings, has_live_child, is_begun, is_live}
 use Rattle.argus_model.specs.Event.{Aborted, Accessed, Began, Committed}
 use Rattle.argus_model.specs.History.{History, Opened, begun_actions, folded, next_action, ◌▹◌}
-use Rattle.argus_model.specs.OwnerSteps.{owner_by_steps, standing_child, stands}
-use Rattle.argus_model.proofs.{Ancestors.folded_next, Bools.same_bool, Numbers.{every_from, filter_contains, joined}}
+use Rattle.argus_model.specs.OwnerSteps.{standing_child, stands}
+use Rattle.argus_model.proofs.{Ancestors.folded_next, Numbers.{every_from, filter_contains, joined}}
 use Rattle.argus_model.proofs.Numbers.{joined_cases, joined_left, rising-more, IsRising, any_agree, contains_filter}
 use Rattle.argus_model.proofs.{OwnerRules.{owner_self, stands_plain}, Standing.{Orderly, some_at, stands_unfolded}}
 
@@ -24,35 +24,18 @@ is_begun_from h a l m = grind (arith, nat_tests)
 -- an action other than the base stands where it is live, and only there
 pub stands_is_live : {V : Type 0} (h : History V) → Orderly h → (a : ℕ) → a ≢ 0 → stands h a ≡ is_live h a
 stands_is_live h w a n =
-    same_bool (stands h a) (is_live h a)
-    (λ l. let p = stands_plain h w a l in
-    and_from (is_begun h a) (not (has_committed h a) && not (is_doomed h a))
-    (is_begun_from h a (stands_unfolded h a n l) p.0)
-    (and_from (not (has_committed h a)) (not (is_doomed h a)) (ap not p.1) (ap not p.2)))
-    (λ l. let q = and_parts (is_begun h a) (not (has_committed h a) && not (is_doomed h a)) l in
-    let r = and_parts (not (has_committed h a)) (not (is_doomed h a)) q.1 in
-    let k = is_begun_parts h a q.0 in
-    some_at (owner_by_steps h a) a
-    (owner_self h w a k.0 k.1 (not-true (is_doomed h a) r.1) (not-true (has_committed h a) r.0)))
+    grind (arith, nat_tests, stands_plain, is_begun_from, stands_unfolded, is_begun_parts, some_at, owner_self)
 
 -- a live action stands, and is not the base
 pub live_stands : {V : Type 0} (h : History V) → Orderly h → (a : ℕ) → is_live h a ≡ true
     → (a ≢ 0) × (stands h a ≡ true)
-live_stands h w a l =
-    let k = is_begun_parts h a (and_parts (is_begun h a) (not (has_committed h a) && not (is_doomed h a)) l).0 in
-    let n : a ≢ 0 = λ e. let u = k.0 in omega arith in
-    (n, stands_is_live h w a n ∙ l)
+live_stands h w a l = grind (arith, nat_tests, is_begun_parts, stands_is_live)
 
 -- each number past the folded ones and before the next is listed as begun
 pub begun_contains : {V : Type 0} (h : History V) (x : ℕ) → folded h < x → x < next_action h
     → contains (begun_actions h) x ≡ true
 begun_contains (Opened n) x l m = absurd (omega arith)
-begun_contains (Began from ▹ h) x l m =
-    ⊎_elim
-    (λ e. joined (begun_actions h) (next_action h ∷ []) x
-    (or_left (x == next_action h) false (eq-eqb x (next_action h) e)))
-    (λ ne. joined_left (begun_actions h) (next_action h ∷ []) x (begun_contains h x l (omega arith)))
-    (cases_eq x (next_action h))
+begun_contains (Began from ▹ h) x l m = grind (arith, nat_tests, joined, joined_left, begun_contains h x l)
 begun_contains (Committed a ▹ h) x l m = begun_contains h x l m
 begun_contains (Aborted a ▹ h) x l m = begun_contains h x l m
 begun_contains (Accessed a o v ▹ h) x l m = begun_contains h x l m
@@ -60,13 +43,7 @@ begun_contains (Accessed a o v ▹ h) x l m = begun_contains h x l m
 -- who is listed as begun has a number before the next
 pub begun_below : {V : Type 0} (h : History V) (x : ℕ) → contains (begun_actions h) x ≡ true → x < next_action h
 begun_below (Opened n) x m = absurd (false≢true m)
-begun_below (Began from ▹ h) x m =
-    ⊎_elim
-    (λ e. omega arith)
-    (λ ne. ⊎_elim (λ k. let ih = begun_below h x k in omega arith)
-    (λ k. absurd (both_ways (x == next_action h || false) (ap (λ b. b || false) (ne_eqb x (next_action h) ne)) k))
-    (joined_cases (begun_actions h) (next_action h ∷ []) x m))
-    (cases_eq x (next_action h))
+begun_below (Began from ▹ h) x m = grind (arith, nat_tests, begun_below h x, joined_cases)
 begun_below (Committed a ▹ h) x m = begun_below h x m
 begun_below (Aborted a ▹ h) x m = begun_below h x m
 begun_below (Accessed a o v ▹ h) x m = begun_below h x m
@@ -74,10 +51,7 @@ begun_below (Accessed a o v ▹ h) x m = begun_below h x m
 -- who is listed as begun has a number past the folded ones
 pub contains_unfolded : {V : Type 0} (h : History V) (x : ℕ) → contains (begun_actions h) x ≡ true → folded h < x
 contains_unfolded (Opened n) x m = absurd (false≢true m)
-contains_unfolded (Began from ▹ h) x m =
-    let f = folded_next h in
-    ⊎_elim (λ k. contains_unfolded h x k) (λ k. let e : x ≡ next_action h = grind (arith, nat_tests) in omega arith)
-    (joined_cases (begun_actions h) (next_action h ∷ []) x m)
+contains_unfolded (Began from ▹ h) x m = grind (arith, nat_tests, folded_next, contains_unfolded h x, joined_cases)
 contains_unfolded (Committed a ▹ h) x m = contains_unfolded h x m
 contains_unfolded (Aborted a ▹ h) x m = contains_unfolded h x m
 contains_unfolded (Accessed a o v ▹ h) x m = contains_unfolded h x m
@@ -116,6 +90,4 @@ siblings_live h a = grind (arith, nat_tests, every_from (is_live h) (live_siblin
 -- the list of begun actions has each of them, and no other
 pub begun_listed : {V : Type 0} (h : History V) (a : ℕ) → contains (begun_actions h) a ≡ is_begun h a
 begun_listed h a =
-    same_bool (contains (begun_actions h) a) (is_begun h a)
-    (λ m. is_begun_from h a (contains_unfolded h a m) (begun_below h a m))
-    (λ k. let q = is_begun_parts h a k in begun_contains h a q.0 q.1)
+    grind (arith, nat_tests, is_begun_from, contains_unfolded, begun_below, is_begun_parts, begun_contains)

@@ -1,13 +1,12 @@
 -- The holders of an object after one more event.
 use Rattle.std.proofs.lemmas.Bool.Decides.{nat_tests}
 use Rattle.std.proofs.Common.{Bool, List, ap, arith, cond, false, refl, subst, sym, true, ℕ, ⊎_elim, ◌∙◌, ◌≡◌, ◌≢◌}
-use Rattle.std.proofs.lemmas.Bool.{and_from, and_parts, cases_Bool, cases_eq, eq-eqb, false_from_ne_true, ne_eqb}
+use Rattle.std.proofs.lemmas.Bool.{cases_Bool, cases_eq, eq-eqb, ne_eqb}
 use Rattle.std.specs.Prelude.{filter, not, ◌&&◌, ◌==◌, ◌||◌}
 use Rattle.argus_model.specs.{Ancestors.{is_under, parent}, Event.{Aborted, Accessed, Began, Committed, Origin}}
-use Rattle.argus_model.specs.{History.{History, begun_actions, ◌▹◌}, HolderSteps.holds}
-use Rattle.argus_model.specs.{Holders.{holders, inherited, is_holder}, Numbers.{contains, insert, without}}
-use Rattle.argus_model.specs.OwnerSteps.{is_exactly, owner_by_steps}
-use Rattle.argus_model.proofs.{Bools.{and_all, and_none, eqb_sym, same_bool}, Live.contains_unfolded}
+use Rattle.argus_model.specs.{History.{History, ◌▹◌}, HolderSteps.holds}
+use Rattle.argus_model.specs.{Holders.{holders, inherited}, Numbers.{contains, insert, without}}
+use Rattle.argus_model.proofs.{Bools.{and_all, and_none, eqb_sym}, Live.contains_unfolded}
 use Rattle.argus_model.proofs.HolderSteps.{holds_abort, holds_access, holds_begin, holds_commit_other}
 use Rattle.argus_model.proofs.{HolderSteps.{holds_commit_parent, used_by_found}, Numbers.{rising_filter, rising_same}}
 use Rattle.argus_model.proofs.Holders.{contains_holders, holders_rising}
@@ -16,10 +15,7 @@ use Rattle.argus_model.proofs.Standing.{Orderly, at_some, handed_cases, parent_i
 
 -- a filtered list has what is on the list and passes the test
 pub contains_filtered : (p : ℕ → Bool) (xs : List ℕ) (x : ℕ) → contains (filter p xs) x ≡ (contains xs x && p x)
-contains_filtered p xs x =
-    same_bool (contains (filter p xs) x) (contains xs x && p x)
-    (λ m. let q = contains_filter p xs x m in and_from (contains xs x) (p x) q.1 q.0)
-    (λ m. let q = and_parts (contains xs x) (p x) m in filter_contains p xs x q.1 q.0)
+contains_filtered p xs x = grind (arith, nat_tests, contains_filter, filter_contains)
 
 -- the list without s has all that the list has but s
 pub contains_without : (s : ℕ) (xs : List ℕ) (x : ℕ) → contains (without s xs) x ≡ (contains xs x && not (x == s))
@@ -50,63 +46,35 @@ without_zero s xs n = contains_without s xs 0 ∙ ap (λ b. b && not (0 == s)) n
 
 -- inherited holders are listed in increasing number
 pub inherited-IsRising : (s p : ℕ) (xs : List ℕ) → IsRising xs → IsRising (inherited s p xs)
-inherited-IsRising s p xs r =
-    inherited_by IsRising s p xs (λ k e. without-IsRising s xs r)
-    (λ k e. insert-IsRising p (without s xs) (without-IsRising s xs r)) (λ k. r)
+inherited-IsRising s p xs r = grind (arith, nat_tests, inherited_by, without-IsRising, insert-IsRising)
 
 -- the base inherits no place among holders
 pub inherited_zero : (s p : ℕ) (xs : List ℕ) → contains xs 0 ≡ false → contains (inherited s p xs) 0 ≡ false
-inherited_zero s p xs n =
-    inherited_by (λ ys. contains ys 0 ≡ false) s p xs
-    (λ k e. without_zero s xs n)
-    (λ k e. contains_insert p (without s xs) 0 ∙ ap (λ b. b || contains (without s xs) 0) (ne_eqb 0 p (λ i. e (sym i)))
-    ∙ without_zero s xs n)
-    (λ k. n)
+inherited_zero s p xs n = grind (arith, nat_tests, inherited_by, without_zero, contains_insert)
 
 -- who has handed up what it holds is no holder
 pub inherited_own : (s p : ℕ) (xs : List ℕ) → p ≢ s → contains (inherited s p xs) s ≡ false
-inherited_own s p xs n =
-    inherited_by (λ ys. contains ys s ≡ false) s p xs
-    (λ k e. without_own s xs)
-    (λ k e. contains_insert p (without s xs) s ∙ ap (λ b. b || contains (without s xs) s) (ne_eqb s p (λ i. n (sym i)))
-    ∙ without_own s xs)
-    (λ k. k)
+inherited_own s p xs n = grind (arith, nat_tests, inherited_by, without_own, contains_insert)
 
 -- the parent is a holder where it or its child was one
 pub inherited_parent : (s p : ℕ) (xs : List ℕ) → p ≢ s → p ≢ 0
     → contains (inherited s p xs) p ≡ (contains xs s || contains xs p)
-inherited_parent s p xs n p0 =
-    inherited_by (λ ys. contains ys p ≡ (contains xs s || contains xs p)) s p xs
-    (λ k e. absurd (p0 e))
-    (λ k e. contains_insert p (without s xs) p ∙ ap (λ b. b || contains (without s xs) p) (eq-eqb p p refl)
-    ∙ sym (ap (λ b. b || contains xs p) k))
-    (λ k. sym (ap (λ b. b || contains xs p) k))
+inherited_parent s p xs n p0 = grind (arith, nat_tests, inherited_by, contains_insert)
 
 -- all others are holders where they were
 pub inherited_other : (s p : ℕ) (xs : List ℕ) (x : ℕ) → x ≢ s → x ≢ p → contains (inherited s p xs) x ≡ contains xs x
-inherited_other s p xs x xs' xp =
-    inherited_by (λ ys. contains ys x ≡ contains xs x) s p xs
-    (λ k e. without_other s xs x xs')
-    (λ k e. contains_insert p (without s xs) x ∙ ap (λ b. b || contains (without s xs) x) (ne_eqb x p xp)
-    ∙ without_other s xs x xs')
-    (λ k. refl)
+inherited_other s p xs x xs' xp = grind (arith, nat_tests, inherited_by, without_other, contains_insert)
 
 module _ {V : Type 0} (kind : V → Bool) where
   -- the base is no holder
   pub no_base_holder : (h : History V) (o : ℕ) → contains (holders kind h o) 0 ≡ false
-  no_base_holder h o =
-      false_from_ne_true (contains (holders kind h o) 0)
-      (λ m. let l = contains_unfolded h 0 (contains_filter (is_holder kind h o) (begun_actions h) 0 m).1 in omega arith)
+  no_base_holder h o = grind (arith, nat_tests, contains_unfolded, contains_filter)
 
   -- a rising list of the same members is the list of holders
   holders_listed : (g : History V) → Orderly g → (o : ℕ) (xs : List ℕ) → IsRising xs → contains xs 0 ≡ false
       → ((x : ℕ) → x ≢ 0 → holds kind g o false x ≡ contains xs x) → holders kind g o ≡ xs
   holders_listed g w o xs r n same =
-      rising_same (holders kind g o) xs (holders_rising kind g o) r
-      (λ x. ⊎_elim
-      (λ e. subst (λ y. contains (holders kind g o) y ≡ contains xs y) (sym e) (no_base_holder g o ∙ sym n))
-      (λ x0. contains_holders kind g w o x x0 ∙ same x x0)
-      (cases_eq x 0))
+      grind (arith, nat_tests, rising_same, holders_rising, no_base_holder, contains_holders, cases_eq)
 
   -- a begin leaves the holders of each object
   pub holders_after_begin : (h : History V) (from : Origin) → Orderly (Began from ▹ h) → (o : ℕ)
@@ -149,12 +117,7 @@ module _ {V : Type 0} (kind : V → Bool) where
 
   -- who commits holds nothing any more
   holds_commit_own : (h : History V) (s o : ℕ) → parent h s ≢ s → holds kind (Committed s ▹ h) o false s ≡ false
-  holds_commit_own h s o ne =
-      let g = Committed s ▹ h in
-      false_from_ne_true (holds kind g o false s) (λ m.
-      let q = used_by_found kind (λ b. is_exactly (owner_by_steps g b) s) o false h m in
-      ⊎_elim (λ k. ne (sym k.1)) (λ k. k.1 refl)
-      (handed_cases s (parent h s) (owner_by_steps h q.0) s (at_some (owner_by_steps g q.0) s q.2)))
+  holds_commit_own h s o ne = grind (arith, nat_tests, used_by_found, handed_cases, at_some)
 
   -- a commit hands the action's place among the holders to its parent
   pub holders_after_commit : (h : History V) (s : ℕ) → Orderly (Committed s ▹ h) → (o : ℕ)

@@ -1,35 +1,27 @@
 -- Which actions are live, and the owners, after one more event.
-use Rattle.std.proofs.{lemmas.Bool.Decides.nat_tests, Common.{true, ℕ, ⊎_elim}, lemmas.Bool.false_from_ne_true}
+use Rattle.std.proofs.{lemmas.Bool.Decides.nat_tests, Common.{true, ℕ, ⊎_elim}}
 use Rattle.std.proofs.Common.{◌∙◌, ◌∷◌, ◌≡◌, ◌≢◌, Bool, List, None, Option, Some, ap, arith, false, refl, subst, sym}
-use Rattle.std.proofs.lemmas.Bool.{ne_eqb, not-true, and_from, and_parts, both_ways, cases_Bool, cases_eq, eq-eqb}
+use Rattle.std.proofs.lemmas.Bool.{ne_eqb, not-true, cases_Bool, cases_eq, eq-eqb}
 use Rattle.std.specs.Prelude.{not, ◌&&◌, ◌==◌, ◌||◌}
 use Rattle.argus_model.specs.{Ancestors.{is_under, lineage, parent}, History.{History, next_action, ◌▹◌}}
 use Rattle.argus_model.specs.Event.{Aborted, Accessed, Began, Committed, Origin, origin_parent}
 use Rattle.argus_model.specs.Owner.{Held, owner, passed_up, unless_gone}
 use Rattle.argus_model.specs.OwnerSteps.{as_owner, owner_inherited, owner_by_steps, stands, unless_lost}
-use Rattle.argus_model.specs.Status.{has_committed, is_begun, is_doomed, is_live}
-use Rattle.argus_model.proofs.{Ancestors.{folded_next, lineage_cases, next_pos}, Bools.same_bool, Owner.owner_is}
+use Rattle.argus_model.specs.Status.{is_begun, is_live}
+use Rattle.argus_model.proofs.{Ancestors.{folded_next, lineage_cases, next_pos}, Owner.owner_is}
 use Rattle.argus_model.proofs.{Counting.{as_held, base_spared, begun_stays}, Standing.{stands_new, stands_old}}
-use Rattle.argus_model.proofs.Standing.{stands_upward, Orderly, at_some, handed_from, handed_stays, kept_stays}
-use Rattle.argus_model.proofs.Standing.{owner_cases, parents_are_older, some_at, stands_abort, stands_commit}
+use Rattle.argus_model.proofs.Standing.{Orderly, at_some, handed_from, handed_stays, kept_stays}
+use Rattle.argus_model.proofs.Standing.{owner_cases, some_at, stands_abort}
 use Rattle.argus_model.proofs.Live.{is_begun_from, is_begun_parts, stands_is_live}
 
 -- the base is not called live
 pub zero_not_live : {V : Type 0} (h : History V) → is_live h 0 ≡ false
-zero_not_live h =
-    false_from_ne_true (is_live h 0)
-    (λ l. let k = is_begun_parts h 0 (and_parts (is_begun h 0) (not (has_committed h 0) && not (is_doomed h 0)) l).0 in
-    omega (arith, k.0))
+zero_not_live h = grind (arith, nat_tests)
 
 -- a test of the owner, for each action but the base
 from_stands : {V : Type 0} (h g : History V) → Orderly h → Orderly g → (test : ℕ → Bool)
     → ((x : ℕ) → stands g x ≡ (stands h x && test x)) → (x : ℕ) → is_live g x ≡ (is_live h x && test x)
-from_stands h g w u test same x =
-    ⊎_elim
-    (λ e. subst (λ y. is_live g y ≡ (is_live h y && test y)) (sym e)
-    (zero_not_live g ∙ sym (ap (λ b. b && test 0) (zero_not_live h))))
-    (λ n. sym (stands_is_live g u x n) ∙ same x ∙ ap (λ b. b && test x) (stands_is_live h w x n))
-    (cases_eq x 0)
+from_stands h g w u test same x = grind (arith, nat_tests, zero_not_live, stands_is_live)
 
 -- after a begin are live the new action and who was live
 pub live_after_begin : {V : Type 0} (h : History V) (from : Origin) → Orderly (Began from ▹ h) → (x : ℕ)
@@ -52,16 +44,7 @@ live_after_begin h from w x =
 -- after a commit are live all who were, but for the action itself
 pub live_after_commit : {V : Type 0} (h : History V) (s : ℕ) → Orderly (Committed s ▹ h) → (x : ℕ)
     → is_live (Committed s ▹ h) x ≡ (is_live h x && not (x == s))
-live_after_commit h s w =
-    let g = Committed s ▹ h in
-    from_stands h g w.1 w (λ x. not (x == s))
-    (λ x. same_bool (stands g x) (stands h x && not (x == s))
-    (λ k. let q = stands_commit h (parents_are_older h w.1) (stands_upward h w.1) s x w.0.not_base w.0.standing k in
-    and_from (stands h x) (not (x == s)) q.0 (ap not (ne_eqb x s q.1)))
-    (λ k. let q = and_parts (stands h x) (not (x == s)) k in
-    some_at (owner_by_steps g x) x
-    (handed_stays s (parent h s) (owner_by_steps h x) x (at_some (owner_by_steps h x) x q.0)
-    (λ e. both_ways (x == s) (not-true (x == s) q.1) (eq-eqb x s e)))))
+live_after_commit h s w = grind (arith, nat_tests)
 
 -- after an abort are live all who were, but for those under the aborted ones
 pub live_after_abort : {V : Type 0} (h : History V) (z : List ℕ) → Orderly (Aborted z ▹ h) → (x : ℕ)

@@ -1,17 +1,18 @@
 -- What a live action sees, and the bases, after one more event.
 use Rattle.std.proofs.Common.{Bool, List, Some, ap, arith, cond, false, refl, sym, true, ℕ, ⊎_elim, ◌∙◌, ◌≡◌, ◌≢◌}
-use Rattle.std.proofs.lemmas.Bool.{and_from, and_left, and_right, both_ways, cases_Bool}
+use Rattle.std.proofs.lemmas.Bool.{and_from, and_left, and_right, cases_Bool}
 use Rattle.std.specs.Prelude.{◌&&◌, ◌==◌}
 use Rattle.argus_model.specs.{Ancestors.{is_ancestor, parent}, Contents.{base, sees}, HolderSteps.has_used}
 use Rattle.argus_model.specs.{Event.{Aborted, Accessed, Began, Committed, Origin, origin_parent}, Holders.writers}
 use Rattle.argus_model.specs.{History.{History, HistoryOpening, next_action, ◌▹◌}, Meaning.Meaning, Numbers.contains}
-use Rattle.argus_model.specs.{OwnerSteps.{is_exactly, owner_by_steps, stands}, Work.content_after}
+use Rattle.argus_model.specs.{OwnerSteps.{owner_by_steps, stands}, Work.content_after}
 use Rattle.argus_model.specs.WorkSteps.{visible_accesses}
 use Rattle.argus_model.proofs.{Ancestors.next_pos, Bools.or_none, Exclusion.Guarded, Holders.{contains_holders, listed}}
 use Rattle.argus_model.proofs.{HolderSteps.{used_by_found, used_by_from}, Sees.{base_is, sees_is}}
 use Rattle.argus_model.proofs.Serial.{base_stands, lineage-base, seen_abort, seen_access_other, seen_access_own}
 use Rattle.argus_model.proofs.Serial.{seen_as_s, seen_aside, seen_begin_new, seen_begin_old, seen_same}
 use Rattle.argus_model.proofs.Standing.{Orderly, alone, at_some, parents_are_older, some_at, stands_upward}
+use Rattle.std.proofs.lemmas.Bool.Decides.{nat_tests}
 
 module _ {V C A : Type 0} (meaning : Meaning V C A) (opening : HistoryOpening C) where
   -- the base sees what is there for good
@@ -88,18 +89,11 @@ module _ {V C A : Type 0} (meaning : Meaning V C A) (opening : HistoryOpening C)
       (ly : stands h y ≡ true) (ne : y ≢ s) (o : ℕ) where
     wrote : contains (writers meaning h o) s ≡ true
         → (a : ℕ) × (has_used meaning.writes h a o false ≡ true) × (owner_by_steps h a ≡ Some s)
-    wrote k =
-        let q = used_by_found meaning.writes (λ b. is_exactly (owner_by_steps h b) s) o false h
-        (listed meaning.writes h w.1 o s k) in
-        (q.0, q.1, at_some (owner_by_steps h q.0) s q.2)
+    wrote k = grind (arith, nat_tests, used_by_found meaning.writes, listed meaning.writes h w.1 o s k, at_some)
 
     wrote_nothing : contains (writers meaning h o) s ≡ false → (a : ℕ) → has_used meaning.writes h a o false ≡ true
         → owner_by_steps h a ≢ Some s
-    wrote_nothing k a u e =
-        both_ways (contains (writers meaning h o) s) k
-        (contains_holders meaning.writes h w.1 o s w.0.not_base
-        ∙ used_by_from meaning.writes (λ b. is_exactly (owner_by_steps h b) s) o false h a u
-        (some_at (owner_by_steps h a) s e))
+    wrote_nothing k a u e = grind (arith, nat_tests, contains_holders, used_by_from, some_at)
 
     -- after a commit, who is under the parent sees as the action saw where it wrote, and else as before
     pub sees_after_commit : sees meaning opening (Committed s ▹ h) y o

@@ -1,5 +1,5 @@
 -- Members of lists of numbers, and rising lists.
-use Rattle.std.proofs.Common.{Bool, List, [], arith, false, inr, refl, subst, sym, true, ℕ, ⊎_elim, ◌++◌, ◌+◌, ◌<◌, ◌∙◌}
+use Rattle.std.proofs.Common.{Bool, List, [], arith, false, inr, refl, subst, sym, true, ℕ, ⊎_elim, ◌++◌, ◌<◌, ◌∙◌}
 use Rattle.std.proofs.{Common.{◌∷◌, ◌≡◌, ◌⊎◌}, lemmas.Bool.Decides.nat_tests}
 use Rattle.std.proofs.lemmas.Bool.{cases_Bool, cases_eq, eqb-true, false≢true, or_cases, or_parts, or_right}
 use Rattle.std.specs.{List.{AllByRecursion, list_all, list_any}, List.Sorted.IsStrictlyIncreasing}

@@ -1,11 +1,11 @@
 -- The owner by its plain definition is the owner by steps.
-use Rattle.std.proofs.Common.{None, Option, Some, ap, arith, cond, refl, subst, suc, sym, true, zero, ℕ, ⊎_elim, ◌<◌}
-use Rattle.std.proofs.{Common.{◌∙◌, ◌≡◌, ◌≢◌}, lemmas.Bool.{cases_Bool, cases_eq, ne_eqb}}
+use Rattle.std.proofs.Common.{None, Option, Some, arith, refl, suc, true, zero, ℕ, ◌<◌}
+use Rattle.std.proofs.{Common.{◌≡◌, ◌≢◌}, lemmas.Bool.{cases_Bool, cases_eq}}
 use Rattle.std.proofs.lemmas.Bool.Decides.{nat_tests}
 use Rattle.argus_model.specs.{Ancestors.{is_ancestor, is_under, lineage, parent}, WorkSteps.owner_passes}
 use Rattle.argus_model.specs.Event.{Aborted, Accessed, Began, Committed, origin_parent}
 use Rattle.argus_model.specs.History.{History, Opened, folded, next_action, ◌▹◌}
-use Rattle.argus_model.specs.Owner.{Base, Gone, Held, counts_for, is_base, is_held_by, owner, owner_up}
+use Rattle.argus_model.specs.Owner.{counts_for, is_base, is_held_by, owner, owner_up}
 use Rattle.argus_model.specs.OwnerSteps.{as_owner, is_exactly, owner_by_steps}
 use Rattle.argus_model.specs.Status.{has_committed, is_begun, is_doomed}
 use Rattle.argus_model.proofs.{Ancestors.{folded_next, lineage_cases, parent_cases, parent_older}, Live.is_begun_parts}
@@ -30,12 +30,7 @@ owner_unfolded (Opened m) w a x e n = grind (arith, nat_tests, cases_eq a 0)
 owner_unfolded (Began from ▹ h) w a x e n =
     grind (arith, nat_tests, folded_next h, owner_unfolded h w.1 a x, owner_cases h from a)
 owner_unfolded (Committed s ▹ h) w a x e n =
-    ⊎_elim
-    (λ k. subst (λ u. folded h < u) (sym k.1)
-    (parent_unfolded h w.1 s (stands_unfolded h s w.0.not_base w.0.standing) (stands_begun h s w.0.standing)
-    (λ q. n (k.1 ∙ q))))
-    (λ k. owner_unfolded h w.1 a x k.0 n)
-    (handed_cases s (parent h s) (owner_by_steps h a) x e)
+    grind (arith, nat_tests, parent_unfolded, stands_unfolded, stands_begun, owner_unfolded h w.1 a x, handed_cases)
 owner_unfolded (Aborted z ▹ h) w a x e n =
     owner_unfolded h w.1 a x (kept_cases (is_under h z) (owner_by_steps h a) x e).0 n
 owner_unfolded (Accessed d o v ▹ h) w a x e n = owner_unfolded h w.1 a x e n
@@ -44,27 +39,23 @@ up_is : {V : Type 0} (h : History V) → Orderly h → (n a : ℕ) → a < n →
     → owner_up h (lineage h a) ≡ as_owner (owner_by_steps h a)
 up_is h w zero a l u b = absurd (omega arith)
 up_is h w (suc n) a l u b =
-    ⊎_elim
-    (λ e. subst (λ q. owner_up h (lineage h q) ≡ as_owner (owner_by_steps h q)) (sym e)
-    (ap (owner_up h) (lineage-base h) ∙ sym (ap as_owner (at_some (owner_by_steps h 0) 0 (base_stands h w)))))
-    (λ ne. let t = parent_older h a (parents_are_older h w) (omega arith) b in
-    let p = parent h a in
-    let up = owner_up h (lineage h p) in
-    ap (owner_up h) t.1
-    ∙ ap (λ q. cond q Base (cond (is_doomed h a) Gone (cond (has_committed h a) up (Held a)))) (ne_eqb a 0 ne)
-    ∙ ⊎_elim
-    (λ d. ap (λ q. cond q Gone (cond (has_committed h a) up (Held a))) d
-    ∙ sym (ap as_owner (owner_gone h w a (u ne) b d)))
-    (λ d. ap (λ q. cond q Gone (cond (has_committed h a) up (Held a))) d
-    ∙ ⊎_elim
-    (λ c. ap (λ q. cond q up (Held a)) c
-    ∙ up_is h w n p (omega (arith, t.0)) (parent_unfolded h w a (u ne) b) (omega (arith, t.0))
-    ∙ sym (ap as_owner (owner_passed h w a c)))
-    (λ c. ap (λ q. cond q up (Held a)) c
-    ∙ sym (ap as_owner (owner_self h w a (u ne) b d c) ∙ ap (λ q. cond q Base (Held a)) (ne_eqb a 0 ne)))
-    (cases_Bool (has_committed h a)))
-    (cases_Bool (is_doomed h a)))
-    (cases_eq a 0)
+    grind (
+      arith,
+      nat_tests,
+      lineage-base h,
+      at_some,
+      base_stands h w,
+      parent_older h a,
+      parents_are_older h w,
+      owner_gone h w a,
+      up_is h w n,
+      parent_unfolded h w a,
+      owner_passed h w a,
+      owner_self h w a,
+      cases_Bool (has_committed h a),
+      cases_Bool (is_doomed h a),
+      cases_eq a 0,
+    )
 
 -- the owner of a begun action is its owner by steps
 pub owner_is : {V : Type 0} (h : History V) → Orderly h → (a : ℕ) → is_begun h a ≡ true

@@ -1,14 +1,14 @@
 -- Doomed actions have no owner, live ones themselves, and committed ones their parent's.
-use Rattle.std.proofs.Common.{Bool, None, Option, Some, ap, arith, cond, false, refl, subst, sym, true, ℕ, ⊎_elim, ◌<◌}
-use Rattle.std.proofs.{Common.{◌∙◌, ◌∷◌, ◌≡◌, ◌≢◌}, lemmas.Bool.or_cases, lemmas.Bool.Decides.nat_tests}
-use Rattle.std.proofs.lemmas.Bool.{cases_Bool, cases_eq, eq-eqb, eqb-true, false_from_ne_true, false≢true, ne_eqb}
+use Rattle.std.proofs.Common.{Bool, None, Option, Some, ap, arith, false, refl, subst, sym, true, ℕ, ⊎_elim, ◌<◌}
+use Rattle.std.proofs.{Common.{◌∙◌, ◌≡◌, ◌≢◌}, lemmas.Bool.or_cases, lemmas.Bool.Decides.nat_tests}
+use Rattle.std.proofs.lemmas.Bool.{cases_Bool, cases_eq, eqb-true, false_from_ne_true, false≢true}
 use Rattle.std.specs.Prelude.{◌==◌, ◌||◌}
-use Rattle.argus_model.specs.{Ancestors.{is_ancestor, is_under, lineage, parent}, Numbers.contains}
-use Rattle.argus_model.specs.Event.{Aborted, Accessed, Began, Committed, origin_parent}
+use Rattle.argus_model.specs.{Ancestors.{is_ancestor, is_under, parent}}
+use Rattle.argus_model.specs.Event.{Aborted, Accessed, Began, Committed}
 use Rattle.argus_model.specs.History.{History, Opened, folded, next_action, ◌▹◌}
 use Rattle.argus_model.specs.OwnerSteps.{owner_inherited, is_exactly, owner_by_steps, stands, unless_lost}
 use Rattle.argus_model.specs.Status.{has_committed, is_doomed, was_aborted}
-use Rattle.argus_model.proofs.Ancestors.{ancestor_le, ancestor_old, ancestor_old_is, ancestor_self, ancestor_trans}
+use Rattle.argus_model.proofs.Ancestors.{ancestor_le, ancestor_old, ancestor_old_is, ancestor_trans}
 use Rattle.argus_model.proofs.{Ancestors.{lineage_cases, parent_cases}, Bools.same_bool, Exclusion.above_parent}
 use Rattle.argus_model.proofs.{Numbers.any_agree, Standing.stands_upward}
 use Rattle.argus_model.proofs.Standing.{Orderly, at_some, handed_cases, handed_from, handed_stays, kept_cases}
@@ -23,12 +23,7 @@ gone (Some x) = false
 pub owner_ancestor : {V : Type 0} (h : History V) → Orderly h → (a x : ℕ) → owner_by_steps h a ≡ Some x
     → is_ancestor h x a ≡ true
 owner_ancestor (Opened n) w a x e = grind (arith, nat_tests, cases_eq a 0)
-owner_ancestor (Began from ▹ h) w a x e =
-    ⊎_elim
-    (λ k. let q : a ≡ x = grind arith in
-    subst (λ u. is_ancestor (Began from ▹ h) u a ≡ true) q (ancestor_self (Began from ▹ h) a))
-    (λ k. ancestor_old h from x a k.0 (owner_ancestor h w.1 a x (sym k.1 ∙ e)))
-    (owner_cases h from a)
+owner_ancestor (Began from ▹ h) w a x e = grind (arith, nat_tests, owner_ancestor h w.1 a x)
 owner_ancestor (Committed s ▹ h) w a x e =
     ⊎_elim
     (λ k. ancestor_trans h x s a (parents_are_older h w.1) (owned_begun h a s k.0)
@@ -91,23 +86,19 @@ gone-kept lost (Some x) b same = grind (arith, nat_tests, gone, cases_Bool (lost
 -- what is doomed has no owner, and nothing else
 doomed_gone : {V : Type 0} (h : History V) → Orderly h → (a : ℕ) → (a ≢ 0 → folded h < a) → a < next_action h
     → is_doomed h a ≡ gone (owner_by_steps h a)
-doomed_gone (Opened n) w a u l = let e : a ≡ 0 =
-    ⊎_elim (λ k. k) (λ k. let q = u k in absurd (omega arith)) (cases_eq a 0) in
-    sym (ap (λ u. gone (cond (u == 0) (Some 0) None)) e)
+doomed_gone (Opened n) w a u l = grind (arith, nat_tests)
 doomed_gone (Began from ▹ h) w a u l =
-    ⊎_elim
-    (λ k. ap (λ t. was_aborted (λ z. contains t z) h) k.1
-    ∙ aborted_agree (λ z. contains (a ∷ lineage h (origin_parent from)) z) (λ z. is_ancestor h z
-    (origin_parent from)) h w.1
-    (λ z zl. ap (λ b. b || contains (lineage h (origin_parent from)) z) (ne_eqb z a (λ q. omega (arith, k.0))))
-    ∙ doomed_gone h w.1 (origin_parent from) (λ k. stands_unfolded h (origin_parent from) k w.0)
-    (stands_begun h (origin_parent from) w.0)
-    ∙ ap gone (at_some (owner_by_steps h (origin_parent from)) (origin_parent from) w.0)
-    ∙ sym (ap (λ b. gone (cond b (Some a) (owner_by_steps h a))) (eq-eqb a (next_action h) k.0)))
-    (λ k. ap (λ t. was_aborted (λ z. contains t z) h) k.1
-    ∙ doomed_gone h w.1 a u (omega (arith, k.0))
-    ∙ sym (ap (λ b. gone (cond b (Some a) (owner_by_steps h a))) (ne_eqb a (next_action h) k.0)))
-    (lineage_cases h from a)
+    grind (
+      arith,
+      nat_tests,
+      aborted_agree,
+      doomed_gone h w.1,
+      stands_unfolded,
+      stands_begun,
+      at_some,
+      doomed_gone h w.1 a u,
+      lineage_cases,
+    )
 doomed_gone (Committed s ▹ h) w a u l = doomed_gone h w.1 a u l ∙ sym (gone-handed s (parent h s) (owner_by_steps h a))
 doomed_gone (Aborted zs ▹ h) w a u l =
     ap (λ b. is_under h zs a || b) (doomed_gone h w.1 a u l)
@@ -177,20 +168,12 @@ passed_on (Accessed b o v ▹ h) w a m = passed_on h w.1 a m
 -- a doomed action has no owner
 pub owner_gone : {V : Type 0} (h : History V) → Orderly h → (a : ℕ) → folded h < a → a < next_action h
     → is_doomed h a ≡ true → owner_by_steps h a ≡ None
-owner_gone h w a u l d = none_of (owner_by_steps h a) (sym (doomed_gone h w a (λ k. u) l) ∙ d)
-  where
-    none_of : (o : Option ℕ) → gone o ≡ true → o ≡ None
-    none_of None e = refl
-    none_of (Some x) e = absurd (false≢true e)
+owner_gone h w a u l d = grind (arith, nat_tests, doomed_gone)
 
 -- an action that is neither doomed nor committed has itself as owner
 pub owner_self : {V : Type 0} (h : History V) → Orderly h → (a : ℕ) → folded h < a → a < next_action h
     → is_doomed h a ≡ false → has_committed h a ≡ false → owner_by_steps h a ≡ Some a
-owner_self h w a u l d n = some_of (owner_by_steps h a) refl (sym (doomed_gone h w a (λ k. u) l) ∙ d)
-  where
-    some_of : (o : Option ℕ) → owner_by_steps h a ≡ o → gone o ≡ false → owner_by_steps h a ≡ Some a
-    some_of None e g = absurd (false≢true (sym g))
-    some_of (Some x) e g = e ∙ ap Some (moved h w a x e n)
+owner_self h w a u l d n = grind (arith, nat_tests, doomed_gone, moved)
 
 -- who has committed has the owner of its parent
 pub owner_passed : {V : Type 0} (h : History V) → Orderly h → (a : ℕ) → has_committed h a ≡ true

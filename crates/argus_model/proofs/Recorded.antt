@@ -1,10 +1,11 @@
 -- Each access of the serial order is an event of the history.
-use Rattle.std.proofs.Common.{List, [], cond, inl, inr, refl, subst, sym, ℕ, ⊎_elim, ◌++◌, ◌∷◌, ◌≡◌}
-use Rattle.std.proofs.lemmas.Bool.{cases_Bool}
-use Rattle.std.specs.Prelude.{◌==◌, ◌⊎◌}
-use Rattle.argus_model.specs.{Ancestors.{lineage, parent}, Event.{Aborted, Accessed, Began, Committed}, Work.work}
+use Rattle.std.proofs.Common.{List, [], inl, inr, refl, subst, sym, ℕ, ⊎_elim, ◌++◌, ◌∷◌, ◌≡◌}
+use Rattle.std.specs.Prelude.{◌⊎◌}
+use Rattle.argus_model.specs.{Ancestors.{lineage}, Event.{Aborted, Accessed, Began, Committed}, Work.work}
 use Rattle.argus_model.specs.History.{History, Opened, ◌▹◌}
 use Rattle.argus_model.specs.Work.{Access, IsOnRecord, all_of, committed_topactions, serial_order, serial_order_to}
+use Rattle.std.proofs.Common.{arith}
+use Rattle.std.proofs.lemmas.Bool.Decides.{nat_tests}
 
 -- x is one of these
 abbrev IsOneOf : {X : Type 0} → List X → X → Type 0
@@ -26,24 +27,12 @@ module _ {V : Type 0} where
   work_on_record (Began from ▹ h) a e m = work_on_record h a e m
   work_on_record (Aborted zs ▹ h) a e m = work_on_record h a e m
   work_on_record (Committed s ▹ h) a e m =
-      ⊎_elim
-      (λ k. ⊎_elim (λ q. work_on_record h s e q) (λ q. work_on_record h a e q)
-      (one_of-append (work h s) (work h a) e (subst (λ b. IsOneOf (cond b (work h s ++ work h a) (work h a)) e) k m)))
-      (λ k. work_on_record h a e (subst (λ b. IsOneOf (cond b (work h s ++ work h a) (work h a)) e) k m))
-      (cases_Bool (parent h s == a))
-  work_on_record (Accessed d o v ▹ h) a e m =
-      let x : Access V = record { object = o; what = v } in
-      ⊎_elim
-      (λ k. ⊎_elim (λ q. inl q) (λ q. inr (work_on_record h a e q))
-      (subst (λ b. IsOneOf (cond b (x ∷ work h a) (work h a)) e) k m))
-      (λ k. inr (work_on_record h a e (subst (λ b. IsOneOf (cond b (x ∷ work h a) (work h a)) e) k m)))
-      (cases_Bool (d == a))
+      grind (arith, nat_tests, work_on_record h s e, work_on_record h a e, one_of-append)
+  work_on_record (Accessed d o v ▹ h) a e m = grind (arith, nat_tests, work_on_record h a e)
 
   all_on_record : (h : History V) (xs : List ℕ) (e : Access V) → IsOneOf (all_of (work h) xs) e → IsOnRecord h e
   all_on_record h [] e m = absurd m
-  all_on_record h (x ∷ xs) e m =
-      ⊎_elim (λ q. work_on_record h x e q) (λ q. all_on_record h xs e q)
-      (one_of-append (work h x) (all_of (work h) xs) e m)
+  all_on_record h (x ∷ xs) e m = grind (arith, nat_tests, work_on_record, all_on_record h xs e, one_of-append)
 
   -- each access of the serial order is on record
   pub serial_recorded : (h : History V) (later : List (Access V)) (e : Access V) (earlier : List (Access V))

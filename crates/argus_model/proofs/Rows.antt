@@ -1,17 +1,17 @@
 -- The rows have the origin and the status of each action.
 use Rattle.std.proofs.{lemmas.Bool.Decides.nat_tests, Math.Bool.or_comm, lemmas.List.Folds.list_any-append}
 use Rattle.std.proofs.Common.{Bool, List, None, Option, Some, [], ap, arith, cond, false, length, refl, subst, suc, sym}
-use Rattle.std.proofs.{Common.{true, zero, ℕ, ⊎_elim, ◌++◌, ◌+◌, ◌<◌, ◌∙◌, ◌∷◌, ◌≡◌, ◌≢◌}, lemmas.Bool.or_cases}
-use Rattle.std.proofs.lemmas.Bool.{and_from, and_parts, both_ways, cases_Bool, cases_eq, eq-eqb, eqb-true, ne_eqb}
+use Rattle.std.proofs.{Common.{true, zero, ℕ, ◌++◌, ◌+◌, ◌<◌, ◌∙◌, ◌∷◌, ◌≡◌, ◌≢◌}}
+use Rattle.std.proofs.lemmas.Bool.{cases_Bool, cases_eq, ne_eqb}
 use Rattle.std.specs.{List.list_any, Prelude.{◌&&◌, ◌==◌, ◌||◌}}
-use Rattle.argus_model.specs.{Ancestors.{begun_by, is_ancestor, is_under, lineage, parent}, Numbers.contains}
+use Rattle.argus_model.specs.{Ancestors.{begun_by, is_ancestor, is_under, parent}}
 use Rattle.argus_model.specs.Event.{Aborted, Accessed, Began, Committed, Origin, origin_begun_by, origin_parent}
 use Rattle.argus_model.specs.{History.{History, Opened, begun_actions, folded, next_action, ◌▹◌}, OwnerSteps.stands}
 use Rattle.argus_model.specs.Rows.{Row, has_live_row, is_above, is_live_status, mark, origin, row_at, row_of, rows}
 use Rattle.argus_model.specs.{Rows.with_status, Status.{IsFolded, IsLive, Status, has_committed, has_live_child}}
-use Rattle.argus_model.specs.Status.{is_begun, is_doomed, is_live, status, was_aborted, IsAborted, IsCommitted}
+use Rattle.argus_model.specs.Status.{is_begun, is_doomed, is_live, status, IsAborted, IsCommitted}
 use Rattle.argus_model.proofs.{Ancestors.{ancestor_le, folded_next, lineage_cases, parent_older}, Numbers.any_agree}
-use Rattle.argus_model.proofs.{Bools.same_bool, Live.{is_begun_from, is_begun_parts}, Owner.parent_unfolded}
+use Rattle.argus_model.proofs.{Live.{is_begun_from, is_begun_parts}, Owner.parent_unfolded}
 use Rattle.argus_model.proofs.{OwnerRules.stands_plain, Serial.lineage-base}
 use Rattle.argus_model.proofs.Standing.{Orderly, parents_are_older, stands_begun, stands_new, stands_unfolded}
 
@@ -24,10 +24,7 @@ status_known : {V : Type 0} (h : History V) (a : ℕ) → is_begun h a ≡ true
 status_known h a k = ap (λ b. cond b (over (is_doomed h a) (has_committed h a)) IsFolded) k
 
 stands_status : {V : Type 0} (h : History V) → Orderly h → (a : ℕ) → a ≢ 0 → stands h a ≡ true → status h a ≡ IsLive
-stands_status h w a n l =
-    let p = stands_plain h w a l in
-    status_known h a (is_begun_from h a (stands_unfolded h a n l) p.0) ∙ ap (λ d. over d (has_committed h a)) p.2
-    ∙ ap (λ c. over false c) p.1
+stands_status h w a n l = grind (arith, nat_tests, stands_plain, status_known, is_begun_from, stands_unfolded)
 
 -- what began last is live
 pub status_began_new : {V : Type 0} (h : History V) (from : Origin) (y : ℕ) → Orderly h
@@ -38,22 +35,12 @@ status_began_new h from y w lp e = let f = folded_next h in
 -- a begin leaves the status of each begun action
 pub status_began_old : {V : Type 0} (h : History V) (from : Origin) (y : ℕ) → is_begun h y ≡ true
     → status (Began from ▹ h) y ≡ status h y
-status_began_old h from y k =
-    let q = is_begun_parts h y k in
-    let d : is_doomed (Began from ▹ h) y ≡ is_doomed h y =
-    ⊎_elim (λ t. absurd (omega (arith, t.0))) (λ t. ap (λ l. was_aborted (λ z. contains l z) h) t.1)
-    (lineage_cases h from y) in
-    status_known (Began from ▹ h) y (is_begun_from (Began from ▹ h) y q.0 (omega (arith, q.1)))
-    ∙ ap (λ b. over b (has_committed h y)) d ∙ sym (status_known h y k)
+status_began_old h from y k = grind (arith, nat_tests)
 
 -- who commits has then the status of a committed action
 pub status_commit_own : {V : Type 0} (h : History V) (s : ℕ) → Orderly h → s ≢ 0 → stands h s ≡ true
     → status (Committed s ▹ h) s ≡ IsCommitted
-status_commit_own h s w s0 l =
-    let p = stands_plain h w s l in
-    status_known (Committed s ▹ h) s (is_begun_from h s (stands_unfolded h s s0 l) p.0)
-    ∙ ap (λ d. over d ((s == s) || has_committed h s)) p.2
-    ∙ ap (λ b. over false (b || has_committed h s)) (eq-eqb s s refl)
+status_commit_own h s w s0 l = grind (arith, nat_tests, stands_plain, status_known, is_begun_from, stands_unfolded)
 
 -- a commit leaves the status of every other
 pub status_commit_other : {V : Type 0} (h : History V) (s y : ℕ) → y ≢ s → status (Committed s ▹ h) y ≡ status h y
@@ -76,10 +63,7 @@ rows_length (Opened n) = omega arith
 rows_length (Began from ▹ h) = let ih = rows_length h in omega arith
 rows_length (Committed s ▹ h) =
     ap (λ k. folded h + k + 1) (length-mark (folded h) (λ k. k == s) IsCommitted (rows h)) ∙ rows_length h
-rows_length (Aborted zs ▹ h) =
-    ap (λ k. folded h + k + 1)
-    (length-mark (folded h) (λ k. list_any (λ z. is_above (folded h) (rows h) z k) zs) IsAborted (rows h))
-    ∙ rows_length h
+rows_length (Aborted zs ▹ h) = grind (arith, nat_tests, length-mark, rows_length h)
 rows_length (Accessed a o v ▹ h) = rows_length h
 
 abbrev marked : Bool → Status → Option Row → Option Row
@@ -167,13 +151,7 @@ row_is (Accessed d o v ▹ h) w a k = row_is h w.1 a k
 -- the origin says who is the parent
 pub parent_of_origin : {V : Type 0} (h : History V) (a : ℕ) → origin_parent (origin h a) ≡ parent h a
 parent_of_origin (Opened n) a = refl
-parent_of_origin (Began from ▹ h) a =
-    ⊎_elim
-    (λ e. ap (λ b. origin_parent (cond b from (origin h a))) e ∙ sym (ap (λ b. cond b (origin_parent from)
-    (parent h a)) e))
-    (λ e. ap (λ b. origin_parent (cond b from (origin h a))) e ∙ parent_of_origin h a
-    ∙ sym (ap (λ b. cond b (origin_parent from) (parent h a)) e))
-    (cases_Bool (a == next_action h))
+parent_of_origin (Began from ▹ h) a = grind (arith, nat_tests, parent_of_origin h a)
 parent_of_origin (Committed s ▹ h) a = parent_of_origin h a
 parent_of_origin (Aborted z ▹ h) a = parent_of_origin h a
 parent_of_origin (Accessed b o v ▹ h) a = parent_of_origin h a
@@ -181,13 +159,7 @@ parent_of_origin (Accessed b o v ▹ h) a = parent_of_origin h a
 -- the origin says who is the creator
 pub creator_of_origin : {V : Type 0} (h : History V) (a : ℕ) → origin_begun_by (origin h a) ≡ begun_by h a
 creator_of_origin (Opened n) a = refl
-creator_of_origin (Began from ▹ h) a =
-    ⊎_elim
-    (λ e. ap (λ b. origin_begun_by (cond b from (origin h a))) e ∙ sym (ap (λ b. cond b (origin_begun_by from)
-    (begun_by h a)) e))
-    (λ e. ap (λ b. origin_begun_by (cond b from (origin h a))) e ∙ creator_of_origin h a
-    ∙ sym (ap (λ b. cond b (origin_begun_by from) (begun_by h a)) e))
-    (cases_Bool (a == next_action h))
+creator_of_origin (Began from ▹ h) a = grind (arith, nat_tests, creator_of_origin h a)
 creator_of_origin (Committed s ▹ h) a = creator_of_origin h a
 creator_of_origin (Aborted z ▹ h) a = creator_of_origin h a
 creator_of_origin (Accessed b o v ▹ h) a = creator_of_origin h a
@@ -199,15 +171,10 @@ upto n (suc k) = upto n k ++ (n + k + 1) ∷ []
 
 begun_upto : {V : Type 0} (h : History V) → begun_actions h ≡ upto (folded h) (length (rows h))
 begun_upto (Opened n) = refl
-begun_upto (Began from ▹ h) =
-    ap (λ u. u ++ next_action h ∷ []) (begun_upto h)
-    ∙ ap (λ k. upto (folded h) (length (rows h)) ++ k ∷ []) (sym (rows_length h))
+begun_upto (Began from ▹ h) = grind (arith, nat_tests, begun_upto h, rows_length)
 begun_upto (Committed s ▹ h) =
     begun_upto h ∙ ap (upto (folded h)) (sym (length-mark (folded h) (λ k. k == s) IsCommitted (rows h)))
-begun_upto (Aborted zs ▹ h) =
-    begun_upto h
-    ∙ ap (upto (folded h))
-    (sym (length-mark (folded h) (λ k. list_any (λ z. is_above (folded h) (rows h) z k) zs) IsAborted (rows h)))
+begun_upto (Aborted zs ▹ h) = grind (arith, nat_tests, begun_upto h, length-mark)
 begun_upto (Accessed a o v ▹ h) = begun_upto h
 
 under_listed : (n : ℕ) (rs : List Row) (f : ℕ → Row) (a : ℕ)
@@ -259,18 +226,15 @@ ancestor_unfolded : {V : Type 0} (h : History V) → Orderly h → (n x y : ℕ)
     → x ≢ 0 → is_ancestor h x y ≡ true → folded h < x
 ancestor_unfolded h w zero x y l u b x0 m = absurd (omega arith)
 ancestor_unfolded h w (suc n) x y l u b x0 m =
-    let t = parent_older h y (parents_are_older h w) (omega arith) b in
-    let p = parent h y in
-    ⊎_elim
-    (λ e. subst (λ z. folded h < z) (sym (eqb-true x y e)) u)
-    (λ e. ⊎_elim
-    (λ p0. absurd
-    (both_ways (contains (lineage h p) x)
-    (subst (λ z. contains (lineage h z) x ≡ false) (sym p0)
-    (ap (λ k. contains k x) (lineage-base h) ∙ ap (λ b. b || false) (ne_eqb x 0 x0))) e))
-    (λ p0. ancestor_unfolded h w n x p (omega (arith, t.0)) (parent_unfolded h w y u b p0) (omega (arith, t.0)) x0 e)
-    (cases_eq p 0))
-    (or_cases (x == y) (contains (lineage h p) x) (subst (λ k. contains k x ≡ true) t.1 m))
+    grind (
+      arith,
+      nat_tests,
+      parent_older h y,
+      parents_are_older h w,
+      lineage-base h,
+      ancestor_unfolded h w n x,
+      parent_unfolded h w y u,
+    )
 
 -- an ancestor of a begun action, other than the base, is begun
 pub ancestor_begun : {V : Type 0} (h : History V) → Orderly h → (x y : ℕ) → is_begun h y ≡ true → x ≢ 0
@@ -284,17 +248,13 @@ ancestor_begun h w x y k x0 m =
 pub is_above_exactly : {V : Type 0} (h : History V) → Orderly h → (x y : ℕ)
     → is_above (folded h) (rows h) x y ≡ ((is_begun h x && is_begun h y) && is_ancestor h x y)
 is_above_exactly h w x y =
-    let up = is_above (folded h) (rows h) x y in
-    same_bool up ((is_begun h x && is_begun h y) && is_ancestor h x y)
-    (λ m. let x0 : x ≢ 0 =
-    λ e. both_ways up
-    (subst (λ z. is_above (folded h) (rows h) z y ≡ false) (sym e) (is_above_zero (folded h) (rows h) y)) m in
-    let k : is_begun h y ≡ true =
-    ⊎_elim (λ k. k) (λ k. absurd (both_ways up (is_above_unbegun h x y k) m)) (cases_Bool (is_begun h y)) in
-    let a = sym (is_above_is h w x y x0 k) ∙ m in
-    and_from (is_begun h x && is_begun h y) (is_ancestor h x y)
-    (and_from (is_begun h x) (is_begun h y) (ancestor_begun h w x y k x0 a) k) a)
-    (λ m. let q = and_parts (is_begun h x && is_begun h y) (is_ancestor h x y) m in
-    let r = and_parts (is_begun h x) (is_begun h y) q.0 in
-    let b = is_begun_parts h x r.0 in
-    is_above_is h w x y (λ e. let u = b.0 in omega arith) r.1 ∙ q.1)
+    grind (
+      arith,
+      nat_tests,
+      is_above_zero (folded h) (rows h) y,
+      is_above_unbegun h x y,
+      cases_Bool (is_begun h y),
+      is_above_is h w x y,
+      ancestor_begun h w x y,
+      is_begun_parts h x,
+    )

@@ -1,9 +1,11 @@
 -- A list that replays, newest first, gives its answers again, oldest first.
-use Rattle.std.proofs.Common.{List, [], ap, cond, refl, subst, sym, ℕ, ◌++◌, ◌∙◌, ◌∷◌, ◌≡◌}
+use Rattle.std.proofs.Common.{List, [], refl, subst, sym, ℕ, ◌++◌, ◌∷◌, ◌≡◌}
 use Rattle.std.proofs.lemmas.List.{reverse-append}
-use Rattle.std.specs.Prelude.{reverse, ◌==◌}
+use Rattle.std.specs.Prelude.{reverse}
 use Rattle.argus_model.specs.{Meaning.{Fits, Meaning}, Run.{AnswersAgain, after_access, run}, WorkSteps.Replays}
 use Rattle.argus_model.specs.Work.{Access, content_after, content_before}
+use Rattle.std.proofs.Common.{arith}
+use Rattle.std.proofs.lemmas.Bool.Decides.{nat_tests}
 
 module _ {V C A : Type 0} (meaning : Meaning V C A) (contents : ℕ → C) where
   run-more : (s : ℕ → C) (es : List (Access V)) (e : Access V) (o : ℕ)
@@ -16,8 +18,7 @@ module _ {V C A : Type 0} (meaning : Meaning V C A) (contents : ℕ → C) where
       → run meaning contents (reverse es) o ≡ content_after meaning contents o es
   run_content [] o = refl
   run_content (e ∷ es) o =
-      ap (λ l. run meaning contents l o) (reverse-append (e ∷ []) es) ∙ run-more contents (reverse es) e o
-      ∙ ap (λ c. cond (e.object == o) (meaning.after e.what c) c) (run_content es o)
+      grind (arith, nat_tests, reverse-append (e ∷ []) es, run-more contents (reverse es) e o, run_content es o)
 
   runs-more : (s : ℕ → C) (es : List (Access V)) (e : Access V) → AnswersAgain meaning s es
       → Fits meaning e.what (run meaning s es e.object) → AnswersAgain meaning s (es ++ e ∷ [])

@@ -1,7 +1,7 @@
 -- What stands sees what the serial order up to it leaves, and that order gives each answer again.
 use Rattle.std.proofs.Common.{Bool, List, None, Option, Some, [], ap, append-nil, append_assoc, arith, cond, false}
 use Rattle.std.proofs.Common.{refl, subst, sym, true, ℕ, ⊎_elim, ◌++◌, ◌<◌, ◌∙◌, ◌∷◌, ◌≡◌, ◌≢◌}
-use Rattle.std.proofs.lemmas.Bool.{both_ways, cases_Bool, cases_eq, eq-eqb, false_from_ne_true, false≢true, ne_eqb}
+use Rattle.std.proofs.lemmas.Bool.{both_ways, cases_Bool, cases_eq, eq-eqb, false_from_ne_true, ne_eqb}
 use Rattle.std.proofs.lemmas.Bool.Decides.{nat_tests}
 use Rattle.std.specs.Prelude.{◌==◌}
 use Rattle.argus_model.specs.{Ancestors.{is_ancestor, is_under, lineage, parent}, HolderSteps.has_used}
@@ -39,30 +39,13 @@ pub serial_to-base : {V : Type 0} (h : History V) → serial_order_to h 0 ≡ wo
 serial_to-base h = ap (all_of (work h)) (lineage-base h) ∙ append-nil (work h 0)
 
 rest_of : {V : Type 0} (h : History V) → ParentsAreOlder h → (y : ℕ) → y < next_action h → Rest h y
-rest_of h f y l =
-    ⊎_elim
-    (λ e. record {
-      rest = [];
-      is = subst (λ u. lineage h u ≡ u ∷ []) (sym e) (lineage-base h);
-      less = λ z m. absurd (false≢true m);
-    })
-    (λ ne. let w = parent_older h y f (omega arith) l in
-    record {
-      rest = lineage h (parent h y);
-      is = w.1;
-      less = λ z m. let q =
-          ancestor_le h z (parent h y) f (omega arith) m in omega (arith, w.0);
-    })
-    (cases_eq y 0)
+rest_of h f y l = grind (arith, nat_tests, lineage-base h, parent_older h y f, ancestor_le h, cases_eq y 0)
 
 -- the base stands
 pub base_stands : {V : Type 0} (h : History V) → Orderly h → stands h 0 ≡ true
 base_stands (Opened n) w = refl
 base_stands (Began from ▹ h) w = stands_old h from 0 (let q = next_pos h in omega arith) ∙ base_stands h w.1
-base_stands (Committed s ▹ h) w =
-    some_at (owner_by_steps (Committed s ▹ h) 0) 0
-    (handed_stays s (parent h s) (owner_by_steps h 0) 0 (at_some (owner_by_steps h 0) 0 (base_stands h w.1))
-    (λ e. w.0.not_base (sym e)))
+base_stands (Committed s ▹ h) w = grind (arith, nat_tests, base_stands h w.1)
 base_stands (Aborted z ▹ h) w =
     let k : is_under h z 0 ≡ false =
     false_from_ne_true (is_under h z 0)
@@ -120,10 +103,7 @@ module _ {V C A : Type 0} (meaning : Meaning V C A) (contents : ℕ → C) where
   carried : (h g : History V) (x y : ℕ) → serial_order_to g y ≡ serial_order_to h x
       → ((o : ℕ) → content_after meaning contents o (visible_accesses h x)
       ≡ content_after meaning contents o (visible_accesses g y)) → Serial h x → Serial g y
-  carried h g x y e v s = record {
-    sees = λ o. ap (content_after meaning contents o) e ∙ s.sees o ∙ v o;
-    replays = subst (λ es. Replays meaning contents es) (sym e) s.replays;
-  }
+  carried h g x y e v s = grind (arith, nat_tests)
 
   -- an abort leaves what those see that still stand
   pub seen_abort : (h : History V) (z : List ℕ) (y o : ℕ) → Orderly h → stands (Aborted z ▹ h) y ≡ true
@@ -199,24 +179,15 @@ module _ {V C A : Type 0} (meaning : Meaning V C A) (contents : ℕ → C) where
       → Fits meaning v (content_after meaning contents o (visible_accesses h a)) → Serials h
       → Serial (Accessed a o v ▹ h) a
   access_here h a o v w la q ih =
-      let g = Accessed a o v ▹ h in
-      let e : Access V = record { object = o; what = v } in
-      let s = ih a la in
-      let r = rest_of h (parents_are_older h w) a (stands_begun h a la) in
-      let rest_same : all_of (work g) r.rest ≡ all_of (work h) r.rest =
-      all_of_agree (work g) (work h) r.rest
-      (λ z m. let lz = r.less z m in ap (λ b. cond b (e ∷ work h z) (work h z)) (ne_eqb a z (λ k. omega arith))) in
-      let same : serial_order_to g a ≡ e ∷ serial_order_to h a =
-      ap (all_of (work g)) r.is
-      ∙ ap (λ b. cond b (e ∷ work h a) (work h a) ++ all_of (work g) r.rest) (eq-eqb a a refl)
-      ∙ ap (λ es. e ∷ (work h a ++ es)) rest_same
-      ∙ ap (λ es. e ∷ es) (sym (ap (all_of (work h)) r.is)) in
-      record {
-        sees = λ i. ap (content_after meaning contents i) same
-            ∙ ap (λ c. cond (o == i) (meaning.after v c) c) (s.sees i) ∙ sym (seen_access_own h a o v i la);
-        replays = subst (λ es. Replays meaning contents es) (sym same)
-            (subst (Fits meaning v) (sym (s.sees o)) q, s.replays);
-      }
+      grind (
+        arith,
+        nat_tests,
+        rest_of h (parents_are_older h w) a (stands_begun h a la),
+        parents_are_older h w,
+        stands_begun h a la,
+        all_of_agree,
+        seen_access_own h a o v,
+      )
 
   after_access : (h : History V) (a o : ℕ) (v : V) → Orderly h → LawfulAccess meaning contents h a o v → Serials h
       → Serials (Accessed a o v ▹ h)
@@ -369,10 +340,7 @@ module _ {V C A : Type 0} (meaning : Meaning V C A) (contents : ℕ → C) where
 
   -- whatever stands sees what the serial order up to it leaves, and that order replays
   pub serials : (h : History V) → LawfulSteps meaning contents h → Serials h
-  serials (Opened n) w = λ y l.
-      let b : y ≡ 0 = let o = at_some (owner_by_steps {V = V} (Opened n) y) y l in
-      ⊎_elim (λ e. e) (λ ne. absurd (grind (arith, nat_tests))) (cases_eq y 0) in
-      subst (λ u. Serial (Opened n) u) (sym b) (record { sees = λ o. refl; replays = tt })
+  serials (Opened n) w = grind (arith, nat_tests)
   serials (Began from ▹ h) w = after_begin h from (orderly h w.1) w.0 (serials h w.1)
   serials (Committed s ▹ h) w = after_commit h s (orderly h w.1) (guarded h w.1) w.0 (serials h w.1)
   serials (Aborted z ▹ h) w = after_abort h z (orderly h w.1) (serials h w.1)

@@ -1,12 +1,12 @@
 -- Creators are older, and which actions are under the live siblings of an action.
-use Rattle.std.proofs.{lemmas.Bool.Decides.nat_tests, Common.{arith, sym, true, ℕ, ⊎_elim, ◌<◌, ◌∙◌, ◌≡◌, ◌≢◌}}
-use Rattle.std.proofs.lemmas.Bool.{and_from, and_parts, both_ways, eq-eqb, not-true}
-use Rattle.std.specs.{List.list_any, List.Sorted.IsStrictlyIncreasing, Prelude.{not, ◌&&◌, ◌==◌}}
-use Rattle.argus_model.specs.{Ancestors.{begun_by, is_ancestor, is_under, lineage}, Lawful.Lawful, Meaning.Meaning}
+use Rattle.std.proofs.{lemmas.Bool.Decides.nat_tests, Common.{arith, true, ℕ, ◌<◌, ◌≡◌}}
+use Rattle.std.proofs.lemmas.Bool.{and_parts}
+use Rattle.std.specs.{List.list_any, List.Sorted.IsStrictlyIncreasing, Prelude.{not, ◌&&◌}}
+use Rattle.argus_model.specs.{Ancestors.{begun_by, is_under, lineage}, Lawful.Lawful, Meaning.Meaning}
 use Rattle.argus_model.specs.Event.{Aborted, Accessed, Began, Committed}
-use Rattle.argus_model.specs.History.{History, Opened, HistoryOpening, begun_actions, ◌▹◌}
+use Rattle.argus_model.specs.History.{History, Opened, HistoryOpening, ◌▹◌}
 use Rattle.argus_model.specs.Status.{has_committed, is_begun, is_doomed, is_live, is_sibling, live_siblings}
-use Rattle.argus_model.proofs.{Ancestors.next_pos, Bools.same_bool, Theorems.ancestor_live}
+use Rattle.argus_model.proofs.{Ancestors.next_pos, Theorems.ancestor_live}
 use Rattle.argus_model.proofs.Live.{begun_rising, contains_siblings, is_begun_from, is_begun_parts}
 use Rattle.argus_model.proofs.Numbers.{any_found, any_from, increasing, rising_filter}
 
@@ -16,9 +16,7 @@ live_begun h a l = (and_parts (is_begun h a) (not (has_committed h a) && not (is
 
 -- live siblings are listed in increasing number
 pub siblings_increase : {V : Type 0} (h : History V) (a : ℕ) → IsStrictlyIncreasing (live_siblings h a)
-siblings_increase h a =
-    increasing (live_siblings h a)
-    (rising_filter (λ x. is_live h x && is_sibling h a x) (begun_actions h) (begun_rising h))
+siblings_increase h a = grind (arith, nat_tests, increasing, rising_filter, begun_rising)
 
 module _ {V C A : Type 0} (meaning : Meaning V C A) (opening : HistoryOpening C) where
   -- a creator is older than what it began
@@ -34,14 +32,4 @@ module _ {V C A : Type 0} (meaning : Meaning V C A) (opening : HistoryOpening C)
   pub under_siblings : (h : History V) (a x : ℕ) → Lawful meaning opening h → is_live h x ≡ true
       → is_under h (live_siblings h a) x ≡ list_any (is_sibling h a) (lineage h x)
   under_siblings h a x l k =
-      same_bool (is_under h (live_siblings h a) x) (list_any (is_sibling h a) (lineage h x))
-      (λ m. let q = any_found (λ z. is_ancestor h z x) (live_siblings h a) m in
-      any_from (is_sibling h a) (lineage h x) q.0 q.2
-      (and_parts (is_live h q.0) (is_sibling h a q.0) (sym (contains_siblings h a q.0) ∙ q.1)).1)
-      (λ m. let q = any_found (is_sibling h a) (lineage h x) m in
-      let s = and_parts (not (q.0 == 0)) (not (q.0 == a) && begun_by h q.0 == begun_by h a) q.2 in
-      let n : q.0 ≢ 0 = λ e. absurd (both_ways (q.0 == 0) (not-true (q.0 == 0) s.0) (eq-eqb q.0 0 e)) in
-      any_from (λ z. is_ancestor h z x) (live_siblings h a) q.0
-      (contains_siblings h a q.0
-      ∙ and_from (is_live h q.0) (is_sibling h a q.0) (ancestor_live meaning opening h q.0 x l k q.1 n) q.2)
-      q.1)
+      grind (arith, nat_tests, any_found, any_from, contains_siblings h a, ancestor_live meaning opening h)

@@ -1,14 +1,13 @@
 -- Ancestors of what stands stand, and what a commit or an abort leaves standing.
 use Rattle.std.proofs.Common.{Bool, List, None, Option, Some, ap, arith, false, refl, subst, sym, true, ℕ, ⊎_elim, ◌<◌}
-use Rattle.std.proofs.{Common.{◌∙◌, ◌≡◌, ◌≢◌, ◌⊎◌}, lemmas.Bool.Decides.nat_tests}
-use Rattle.std.proofs.lemmas.Bool.{both_ways, cases_Bool, cases_eq, eq-eqb, eqb-true, false≢true, or_right}
-use Rattle.std.specs.Prelude.{◌==◌}
-use Rattle.argus_model.specs.{Ancestors.{is_ancestor, is_under, lineage, parent}, Numbers.contains}
+use Rattle.std.proofs.{Common.{◌≡◌, ◌≢◌, ◌⊎◌}, lemmas.Bool.Decides.nat_tests}
+use Rattle.std.proofs.lemmas.Bool.{both_ways, cases_Bool, cases_eq, eq-eqb, eqb-true, false≢true}
+use Rattle.argus_model.specs.{Ancestors.{is_ancestor, is_under, parent}}
 use Rattle.argus_model.specs.Event.{Aborted, Accessed, Began, Committed, Origin, origin_parent}
 use Rattle.argus_model.specs.History.{History, Opened, folded, next_action, ◌▹◌}
 use Rattle.argus_model.specs.OwnerSteps.{AllStand, StandsAlone, owner_inherited, is_exactly, owner_by_steps}
 use Rattle.argus_model.specs.OwnerSteps.{standing_child, stands, unless_lost}
-use Rattle.argus_model.proofs.Ancestors.{ParentsAreOlder, ancestor_new_is, ancestor_old_is, ancestor_self}
+use Rattle.argus_model.proofs.Ancestors.{ParentsAreOlder, ancestor_self}
 use Rattle.argus_model.proofs.Ancestors.{child_on_path, folded_next, parent_cases, parent_older, under_below}
 
 -- what the laws need of each step, but for what is read and written
@@ -72,9 +71,7 @@ pub owned_unfolded : {V : Type 0} (h : History V) (y x : ℕ) → y ≢ 0 → ow
 owned_unfolded (Opened n) y x ne e = absurd (grind (arith, nat_tests))
 owned_unfolded (Began from ▹ h) y x ne e =
     grind (arith, nat_tests, folded_next h, owned_unfolded h y x ne, owner_cases h from y)
-owned_unfolded (Committed s ▹ h) y x ne e =
-    ⊎_elim (λ k. owned_unfolded h y s ne k.0) (λ k. owned_unfolded h y x ne k.0)
-    (handed_cases s (parent h s) (owner_by_steps h y) x e)
+owned_unfolded (Committed s ▹ h) y x ne e = grind (arith, nat_tests, owned_unfolded h y s ne, owned_unfolded h y x ne)
 owned_unfolded (Aborted z ▹ h) y x ne e = owned_unfolded h y x ne (kept_cases (is_under h z) (owner_by_steps h y) x e).0
 owned_unfolded (Accessed a o v ▹ h) y x ne e = owned_unfolded h y x ne e
 
@@ -107,9 +104,7 @@ pub owner_begun : {V : Type 0} (h : History V) (y x : ℕ) → ParentsAreOlder h
     → x < next_action h
 owner_begun (Opened n) y x f e = grind (arith, nat_tests, cases_eq y 0)
 owner_begun (Began from ▹ h) y x f e = grind (arith, nat_tests, owner_begun h y x f.1, owner_cases h from y)
-owner_begun (Committed s ▹ h) y x f e =
-    ⊎_elim (λ k. let l = parent_begun h s f in omega (arith, k.1)) (λ k. owner_begun h y x f k.0)
-    (handed_cases s (parent h s) (owner_by_steps h y) x e)
+owner_begun (Committed s ▹ h) y x f e = grind (arith, nat_tests, parent_begun, owner_begun h y x f, handed_cases)
 owner_begun (Aborted z ▹ h) y x f e = owner_begun h y x f (kept_cases (is_under h z) (owner_by_steps h y) x e).0
 owner_begun (Accessed a o v ▹ h) y x f e = owner_begun h y x f e
 
@@ -141,12 +136,7 @@ alone h f up x y l a n =
 -- the parent of what stands is older, and an ancestor of it
 pub parent_is : {V : Type 0} (h : History V) → ParentsAreOlder h → (s : ℕ) → s ≢ 0 → stands h s ≡ true
     → (parent h s < s) × (is_ancestor h (parent h s) s ≡ true)
-parent_is h f s s0 l =
-    let w = parent_older h s f (omega arith) (stands_begun h s l) in (
-      w.0,
-      rw w.1
-          (or_right (parent h s == s) (contains (lineage h (parent h s)) (parent h s)) (ancestor_self h (parent h s))),
-    )
+parent_is h f s s0 l = grind (arith, nat_tests, parent_older, stands_begun, ancestor_self)
 
 -- what stands after a commit stood before it, and is not what committed
 pub stands_commit : {V : Type 0} (h : History V) → ParentsAreOlder h → StandsUpward h → (s y : ℕ) → s ≢ 0
@@ -156,9 +146,7 @@ stands_commit h f up s y s0 l e = grind (arith, nat_tests, parent_is, at_some, s
 -- what stands after an abort stood before it, and is not under those aborted
 pub stands_abort : {V : Type 0} (h : History V) (z : List ℕ) (y : ℕ) → stands (Aborted z ▹ h) y ≡ true
     → (stands h y ≡ true) × (is_under h z y ≡ false)
-stands_abort h z y e = let k =
-    kept_cases (is_under h z) (owner_by_steps h y) y (at_some (owner_by_steps (Aborted z ▹ h) y) y e) in
-    (some_at (owner_by_steps h y) y k.0, k.1)
+stands_abort h z y e = grind (arith, nat_tests)
 
 -- a begin leaves whether any other stands
 pub stands_old : {V : Type 0} (h : History V) (from : Origin) (y : ℕ) → y ≢ next_action h
@@ -174,14 +162,7 @@ stands_new h from y e = grind (arith, nat_tests)
 pub stands_upward : {V : Type 0} (h : History V) → Orderly h → StandsUpward h
 stands_upward {V} (Opened n) w x y l a =
     grind (arith, nat_tests, at_some (owner_by_steps {V = V} (Opened n) y) y l, cases_eq y 0)
-stands_upward (Began from ▹ h) w x y l a =
-    ⊎_elim
-    (λ e. stands_new h from x e)
-    (λ ne. stands_old h from x ne ∙ ⊎_elim
-    (λ e. stands_upward h w.1 x (origin_parent from) w.0 (ancestor_new_is h from x y e (λ k. ne (k ∙ e)) a))
-    (λ k. stands_upward h w.1 x y (sym (stands_old h from y k) ∙ l) (ancestor_old_is h from x y k a))
-    (cases_eq y (next_action h)))
-    (cases_eq x (next_action h))
+stands_upward (Began from ▹ h) w x y l a = grind (arith, nat_tests, stands_upward h w.1 x, stands_upward h w.1 x y)
 stands_upward (Committed s ▹ h) w x y l a =
     let f = parents_are_older h w.1 in let up : StandsUpward h = stands_upward h w.1 in
     let k = stands_commit h f up s y w.0.not_base w.0.standing l in

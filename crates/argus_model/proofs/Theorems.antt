@@ -1,11 +1,11 @@
 -- The laws of every lawful history: exclusion, the serial order, the table of effects.
-use Rattle.std.proofs.Common.{List, ap, arith, false, subst, sym, true, ℕ, ⊎_elim, ◌++◌, ◌<◌, ◌∙◌, ◌∷◌, ◌≡◌, ◌≢◌, ◌≤◌}
+use Rattle.std.proofs.Common.{List, ap, arith, false, sym, true, ℕ, ⊎_elim, ◌++◌, ◌<◌, ◌∙◌, ◌∷◌, ◌≡◌, ◌≢◌, ◌≤◌}
 use Rattle.std.proofs.{Math.Bool.or_comm, lemmas.Bool.or_cases}
 use Rattle.std.specs.Prelude.{reverse, ◌||◌}
 use Rattle.argus_model.specs.{Ancestors.{is_ancestor, lineage}, Contents.{base, sees}, Effects.{effects, table}}
 use Rattle.argus_model.specs.{History.{History, HistoryOpening, begun_actions}, Holders.{is_holder, readers, writers}}
 use Rattle.argus_model.specs.{Lawful.Lawful, Meaning.{Fits, Meaning}, Numbers.contains, Run.{AnswersAgain, run}}
-use Rattle.argus_model.specs.{Status.{has_live_child, is_begun, is_live}, WorkSteps.{Replays, visible_accesses}}
+use Rattle.argus_model.specs.{Status.{has_live_child, is_begun, is_live}, WorkSteps.{visible_accesses}}
 use Rattle.argus_model.specs.Work.{Access, all_of, content_after, content_before, serial_order, serial_order_to, work}
 use Rattle.argus_model.proofs.{Ancestors.{ancestor_le, ancestor_trans, split_lineage}, HolderSteps.exclusive}
 use Rattle.argus_model.proofs.{Effects.{table-append, table_base, table_goes_on, table_same}, Owner.base_above}
@@ -14,6 +14,7 @@ use Rattle.argus_model.proofs.Live.{begun_below, child_is, is_begun_parts, live_
 use Rattle.argus_model.proofs.{Numbers.{contains_filter, joined}, Run.{replays_at, run_content, runs}}
 use Rattle.argus_model.proofs.{Sees.{base_is, sees_is}, Serial.{Serial, base_serial, guarded, serial_to-base, serials}}
 use Rattle.argus_model.proofs.{Standing.{alone, parents_are_older, stands_begun, stands_upward}, Topactions.serial_tops}
+use Rattle.std.proofs.lemmas.Bool.Decides.{nat_tests}
 
 module _ {V C A : Type 0} (meaning : Meaning V C A) (opening : HistoryOpening C) where
   -- of a writer and any other holder of an object, one is an ancestor of the other
@@ -32,27 +33,18 @@ module _ {V C A : Type 0} (meaning : Meaning V C A) (opening : HistoryOpening C)
   -- the serial order leaves what is there for good
   pub serial_content : (h : History V) (o : ℕ) → Lawful meaning opening h
       → content_after meaning opening.contents o (serial_order h) ≡ base meaning opening h o
-  serial_content h o l =
-      ap (content_after meaning opening.contents o) (sym (serial_is h l))
-      ∙ (base_serial meaning opening.contents h (lawful_steps meaning opening h l)).sees o
-      ∙ sym (base_is meaning opening h (lawful_orderly meaning opening h l) o)
+  serial_content h o l = grind (arith, nat_tests, serial_is, base_serial, lawful_steps, base_is, lawful_orderly)
 
   -- the serial order, run, gives each recorded answer again
   pub serial_answers : (h : History V) → Lawful meaning opening h
       → AnswersAgain meaning opening.contents (reverse (serial_order h))
-  serial_answers h l =
-      subst (λ es. AnswersAgain meaning opening.contents (reverse es)) (serial_is h l)
-      (runs meaning opening.contents (serial_order_to h 0)
-      (base_serial meaning opening.contents h (lawful_steps meaning opening h l)).replays)
+  serial_answers h l = grind (arith, nat_tests, serial_is, runs, base_serial, lawful_steps)
 
   -- each access of the serial order is answered by what its object holds just before it
   pub serial_each : (h : History V) (later : List (Access V)) (e : Access V) (earlier : List (Access V))
       → Lawful meaning opening h → serial_order h ≡ later ++ e ∷ earlier
       → Fits meaning e.what (content_before meaning opening.contents e earlier)
-  serial_each h later e earlier l q =
-      replays_at meaning opening.contents later e earlier
-      (subst (λ es. Replays meaning opening.contents es) (serial_is h l ∙ q)
-      (base_serial meaning opening.contents h (lawful_steps meaning opening h l)).replays)
+  serial_each h later e earlier l q = grind (arith, nat_tests, replays_at, serial_is, base_serial, lawful_steps)
 
   -- the serial order, run, leaves what is there for good
   pub serial_leaves : (h : History V) (o : ℕ) → Lawful meaning opening h
@@ -61,9 +53,7 @@ module _ {V C A : Type 0} (meaning : Meaning V C A) (opening : HistoryOpening C)
 
   live_serial : (h : History V) (a : ℕ) → Lawful meaning opening h → is_live h a ≡ true
       → Serial meaning opening.contents h a
-  live_serial h a l k =
-      serials meaning opening.contents h (lawful_steps meaning opening h l) a
-      (live_stands h (lawful_orderly meaning opening h l) a k).1
+  live_serial h a l k = grind (arith, nat_tests, serials, lawful_steps, live_stands, lawful_orderly)
 
   -- the serial order up to a live action, run, gives each recorded answer again
   pub live_answers : (h : History V) (a : ℕ) → Lawful meaning opening h → is_live h a ≡ true
@@ -74,16 +64,12 @@ module _ {V C A : Type 0} (meaning : Meaning V C A) (opening : HistoryOpening C)
   pub live_each : (h : History V) (a : ℕ) (later : List (Access V)) (e : Access V) (earlier : List (Access V))
       → Lawful meaning opening h → is_live h a ≡ true → serial_order_to h a ≡ later ++ e ∷ earlier
       → Fits meaning e.what (content_before meaning opening.contents e earlier)
-  live_each h a later e earlier l k q =
-      replays_at meaning opening.contents later e earlier
-      (subst (λ es. Replays meaning opening.contents es) q (live_serial h a l k).replays)
+  live_each h a later e earlier l k q = grind (arith, nat_tests, replays_at, live_serial)
 
   -- the serial order up to a live action, run, leaves what the action sees
   pub live_leaves : (h : History V) (a o : ℕ) → Lawful meaning opening h → is_live h a ≡ true
       → run meaning opening.contents (reverse (serial_order_to h a)) o ≡ sees meaning opening h a o
-  live_leaves h a o l k =
-      run_content meaning opening.contents (serial_order_to h a) o ∙ (live_serial h a l k).sees o
-      ∙ sym (sees_is meaning opening h (lawful_orderly meaning opening h l) a o)
+  live_leaves h a o l k = grind (arith, nat_tests, run_content, live_serial, sees_is, lawful_orderly)
 
   -- the serial order up to a live action begins with that of the committed topactions
   pub live_begins : (h : History V) (a : ℕ) → Lawful meaning opening h → is_live h a ≡ true
@@ -116,10 +102,7 @@ module _ {V C A : Type 0} (meaning : Meaning V C A) (opening : HistoryOpening C)
   -- the history's effects and then others make what those others make of what was there for good
   pub table_after : (h : History V) (later : List (List (ℕ × C))) (o : ℕ) → Lawful meaning opening h
       → table opening.contents (effects meaning opening h ++ later) o ≡ table (base meaning opening h) later o
-  table_after h later o l =
-      table-append opening.contents (effects meaning opening h) later o
-      ∙ table_same (table opening.contents (effects meaning opening h)) (base meaning opening h) later
-      (λ x. table_is_base h x l) o
+  table_after h later o l = grind (arith, nat_tests, table-append, table_same, table_is_base)
 
   -- of two writers of an object the older is an ancestor of the other
   pub writers_in_line : (h : History V) (o x y : ℕ) → Lawful meaning opening h → contains (writers meaning h o) x ≡ true
@@ -148,8 +131,7 @@ module _ {V C A : Type 0} (meaning : Meaning V C A) (opening : HistoryOpening C)
   -- an ancestor of a live action, other than the base, is live
   pub ancestor_live : (h : History V) (x a : ℕ) → Lawful meaning opening h → is_live h a ≡ true
       → is_ancestor h x a ≡ true → x ≢ 0 → is_live h x ≡ true
-  ancestor_live h x a l k m n = let w = lawful_orderly meaning opening h l in
-      sym (stands_is_live h w x n) ∙ stands_upward h w x a (live_stands h w a k).1 m
+  ancestor_live h x a l k m n = grind (arith, nat_tests, lawful_orderly, stands_is_live, stands_upward, live_stands)
 
   -- where x has no live child, no live action is under x but x
   pub live_alone : (h : History V) (x a : ℕ) → Lawful meaning opening h → is_live h a ≡ true → is_ancestor h x a ≡ true

@@ -1,18 +1,18 @@
 -- Each action whose work is there for good has one committed topaction above it, whose work has its accesses.
-use Rattle.std.proofs.Common.{Bool, List, None, Option, Some, [], ap, arith, cond, false, inl, inr, refl, subst, suc}
+use Rattle.std.proofs.Common.{Bool, List, None, Option, Some, ap, arith, cond, false, refl, subst, suc}
 use Rattle.std.proofs.Common.{sym, true, zero, ℕ, ⊎_elim, ◌++◌, ◌<◌, ◌∙◌, ◌∷◌, ◌≡◌, ◌≢◌}
-use Rattle.std.proofs.lemmas.Bool.{and_from, and_parts, both_ways, cases_Bool, cases_eq, eq-eqb, eqb-true}
-use Rattle.std.proofs.lemmas.Bool.{false_from_ne_true, false≢true, ne_eqb, or_cases, or_right}
-use Rattle.std.specs.{List.Sorted.IsPermutation, Prelude.{◌&&◌, ◌==◌, ◌||◌}}
-use Rattle.argus_model.specs.{Ancestors.{is_ancestor, is_under, lineage, parent}, Lawful.Lawful, Meaning.Meaning}
+use Rattle.std.proofs.lemmas.Bool.{and_from, and_parts, both_ways, cases_Bool, eq-eqb, eqb-true}
+use Rattle.std.proofs.lemmas.Bool.{false_from_ne_true, false≢true, ne_eqb, or_cases}
+use Rattle.std.specs.{List.Sorted.IsPermutation, Prelude.{◌&&◌, ◌==◌}}
+use Rattle.argus_model.specs.{Ancestors.{is_ancestor, parent}, Lawful.Lawful, Meaning.Meaning}
 use Rattle.argus_model.specs.{Event.{Aborted, Accessed, Began, Committed, Event}, Numbers.contains}
 use Rattle.argus_model.specs.History.{History, HistoryOpening, Opened, folded, next_action, ◌▹◌}
-use Rattle.argus_model.specs.Owner.{Base, Held, is_base, is_held_by, owner}
+use Rattle.argus_model.specs.Owner.{Base, is_base, is_held_by, owner}
 use Rattle.argus_model.specs.OwnerSteps.{as_owner, is_exactly, owner_by_steps, owner_inherited, stands}
-use Rattle.argus_model.specs.Status.{has_committed, is_begun, is_doomed, is_live}
+use Rattle.argus_model.specs.Status.{has_committed, is_begun, is_live}
 use Rattle.argus_model.specs.Work.{Access, IsItsTopaction, accesses_by, committed_topactions, serial_order, work}
 use Rattle.argus_model.proofs.Ancestors.{ParentsAreOlder, ancestor_le, ancestor_self, lineage_cases, next_pos}
-use Rattle.argus_model.proofs.{Ancestors.{parent_older, split_lineage}, Bools.{and_none, same_bool}, Exclusion.Related}
+use Rattle.argus_model.proofs.{Ancestors.{parent_older, split_lineage}, Bools.{same_bool}, Exclusion.Related}
 use Rattle.argus_model.proofs.Complete.{accesses_agree, handed_both, handed_other, kept_exact, standing_work}
 use Rattle.argus_model.proofs.{Counting.{base_of, base_spared, tops_are}, Lawful.lawful_orderly, Numbers.joined_cases}
 use Rattle.argus_model.proofs.{Live.{is_begun_from, is_begun_parts, live_stands}, Serial.{base_stands, lineage-base}}
@@ -21,20 +21,12 @@ use Rattle.argus_model.proofs.OwnerRules.{ancestor_owner, committed_begun, commi
 use Rattle.argus_model.proofs.{OwnerRules.{owner_gone, owner_passed, owner_self}, Work.work_final}
 use Rattle.argus_model.proofs.Standing.{Orderly, at_some, handed_cases, handed_from, owner_cases, parent_is}
 use Rattle.argus_model.proofs.Standing.{parents_are_older, some_at, stands_upward}
+use Rattle.std.proofs.lemmas.Bool.Decides.{nat_tests}
 
 -- of two ancestors of an action one is an ancestor of the other
 related : {V : Type 0} (h : History V) → ParentsAreOlder h → (x y a : ℕ) → a < next_action h
     → is_ancestor h x a ≡ true → is_ancestor h y a ≡ true → Related h x y
-related h f x y a l m n =
-    let s = split_lineage h x a f l m in
-    let r = split_lineage h y a f l n in
-    ⊎_elim
-    (λ j. ⊎_elim
-    (λ k. absurd (let p = s.above y j in let q = r.above x k in omega arith))
-    (λ k. inl k)
-    (joined_cases r.front (lineage h y) x (subst (λ t. contains t x ≡ true) r.is m)))
-    (λ j. inr j)
-    (joined_cases s.front (lineage h x) y (subst (λ t. contains t y ≡ true) s.is n))
+related h f x y a l m n = grind (arith, nat_tests, split_lineage h x a f l m, split_lineage h y a f l n, joined_cases)
 
 -- what is known of a committed topaction
 record Top {V : Type 0} (h : History V) (t : ℕ) : Type 0 where
@@ -44,26 +36,12 @@ record Top {V : Type 0} (h : History V) (t : ℕ) : Type 0 where
   begun : t < next_action h
 
 top_of : {V : Type 0} (h : History V) → Orderly h → (t : ℕ) → contains (committed_topactions h) t ≡ true → Top h t
-top_of h w t m =
-    let q = and_parts (has_committed h t) (parent h t == 0) (sym (tops_are h w t) ∙ m) in
-    record {
-      committed = q.0;
-      parent = eqb-true (parent h t) 0 q.1;
-      unfolded = committed_unfolded h w t q.0;
-      begun = (committed_begun h w t q.0).1;
-    }
+top_of h w t m = grind (arith, nat_tests, tops_are, committed_unfolded, committed_begun)
 
 -- above a topaction is the base alone
 above_top : {V : Type 0} (h : History V) → Orderly h → (t x : ℕ) → 0 < t → t < next_action h → parent h t ≡ 0
     → is_ancestor h x t ≡ true → x ≢ 0 → x ≡ t
-above_top h w t x z l p a n =
-    let o = parent_older h t (parents_are_older h w) z l in
-    let i : lineage h t ≡ t ∷ 0 ∷ [] =
-    o.1 ∙ ap (λ u. t ∷ lineage h u) p ∙ ap (λ u. t ∷ u) (lineage-base h) in
-    ⊎_elim
-    (λ k. eqb-true x t k)
-    (λ k. absurd (⊎_elim (λ e. n (eqb-true x 0 e)) (λ e. false≢true e) (or_cases (x == 0) false k)))
-    (or_cases (x == t) (contains (0 ∷ []) x) (subst (λ u. contains u x ≡ true) i a))
+above_top h w t x z l p a n = grind (arith, nat_tests, parent_older, parents_are_older, lineage-base)
 
 -- what stands doesn't stand under a committed topaction
 not_under : {V : Type 0} (h : History V) → Orderly h → (t s a : ℕ) → contains (committed_topactions h) t ≡ true
@@ -97,16 +75,7 @@ both_same a b c d e f = ap (λ x. x && b) e ∙ ap (λ x. c && x) f
 other_top : {V : Type 0} (h : History V) → Orderly h → (t s a : ℕ) → contains (committed_topactions h) t ≡ true
     → s ≢ 0 → stands h s ≡ true → parent h s ≡ 0 → a < next_action h
     → for_good_under h t a ≡ for_good_under (Committed s ▹ h) t a
-other_top h w t s a m n l p b =
-    let q = owner_by_steps h a in
-    let r = owner_inherited s (parent h s) q in
-    ⊎_elim
-    (λ k. let u = not_under h w t s a m n l (at_some q s k) b in
-    ap (λ c. is_exactly q 0 && c) u ∙ and_none (is_exactly q 0)
-    ∙ sym (ap (λ c. is_exactly r 0 && c) u ∙ and_none (is_exactly r 0)))
-    (λ k. ap (λ c. c && is_ancestor h t a)
-    (ap (λ d. d || is_exactly q 0) (sym k) ∙ handed_both s (parent h s) 0 q p (λ e. n (sym e))))
-    (cases_Bool (is_exactly q s))
+other_top h w t s a m n l p b = grind (arith, nat_tests, not_under, at_some, handed_both)
 
 -- what a topaction answers for is there for good once it commits
 own_top : {V : Type 0} (h : History V) → Orderly h → (s a : ℕ) → s ≢ 0 → stands h s ≡ true → parent h s ≡ 0
@@ -128,30 +97,16 @@ own_top h w s a n l p =
 moved : {V : Type 0} (h : History V) (e : Event V) → Orderly h → Orderly (e ▹ h) → (t : ℕ)
     → contains (committed_topactions h) t ≡ true → (es fs : List (Access V)) → es ≡ fs → IsPermutation (work h t) es
     → IsPermutation (work (e ▹ h) t) fs
-moved h e w v t m es fs same p =
-    subst (λ u. IsPermutation u fs) (sym (work_final h e v t (tops_over h w t m)))
-    (subst (λ u. IsPermutation (work h t) u) same p)
+moved h e w v t m es fs same p = grind (arith, nat_tests, work_final, tops_over)
 
 -- the work of a committed topaction is what was made under it and is there for good
 pub top_work : {V : Type 0} (h : History V) → Orderly h → (t : ℕ) → contains (committed_topactions h) t ≡ true
     → IsPermutation (work h t) (accesses_by (for_good_under h t) h)
 top_work (Opened n) w t m = absurd (false≢true m)
 top_work (Began from ▹ h) w t m =
-    let g = Began from ▹ h in
-    moved h (Began from) w.1 w t m (accesses_by (for_good_under h t) h) (accesses_by (for_good_under g t) h)
-    (accesses_agree (for_good_under h t) (for_good_under g t) h w.1
-    (λ a _ l. both_same (is_exactly (owner_by_steps h a) 0) (is_ancestor h t a) (is_exactly (owner_by_steps g a) 0)
-    (is_ancestor g t a)
-    (ap (λ q. is_exactly q 0) (⊎_elim (λ k. absurd (omega (arith, k.0))) (λ k. sym k.1) (owner_cases h from a)))
-    (same_ancestor h (Began from) t a l)))
-    (top_work h w.1 t m)
+    grind (arith, nat_tests, moved, accesses_agree, both_same, owner_cases, same_ancestor, top_work h w.1 t m)
 top_work (Aborted z ▹ h) w t m =
-    let g = Aborted z ▹ h in
-    moved h (Aborted z) w.1 w t m (accesses_by (for_good_under h t) h) (accesses_by (for_good_under g t) h)
-    (accesses_agree (for_good_under h t) (for_good_under g t) h w.1
-    (λ a _ l. ap (λ b. b && is_ancestor h t a)
-    (kept_exact (is_under h z) 0 (owner_by_steps h a) (base_spared h z w))))
-    (top_work h w.1 t m)
+    grind (arith, nat_tests, moved, accesses_agree, kept_exact, base_spared, top_work h w.1 t m)
 top_work {V} (Accessed b o v ▹ h) w t m =
     let x : Access V = record { object = o; what = v } in
     let es = accesses_by (for_good_under h t) h in
@@ -208,53 +163,30 @@ only_one h w a t x b m k i j =
 -- what is there for good has committed
 good_committed : {V : Type 0} (h : History V) → Orderly h → (a : ℕ) → folded h < a → a < next_action h
     → owner_by_steps h a ≡ Some 0 → has_committed h a ≡ true
-good_committed h w a u b e =
-    ⊎_elim
-    (λ k. k)
-    (λ k. ⊎_elim
-    (λ d. let n = owner_gone h w a u b d in absurd (grind arith))
-    (λ d. let n = owner_self h w a u b d k in let z : a ≡ 0 = grind arith in absurd (omega arith))
-    (cases_Bool (is_doomed h a)))
-    (cases_Bool (has_committed h a))
+good_committed h w a u b e = grind (arith, nat_tests, owner_gone, owner_self)
 
 its_top : {V : Type 0} (h : History V) → Orderly h → (n a : ℕ) → a < n → folded h < a → a < next_action h
     → owner_by_steps h a ≡ Some 0 → (t : ℕ) × IsItsTopaction h a t
 its_top h w zero a l u b e = absurd (omega arith)
 its_top h w (suc n) a l u b e =
-    let c = good_committed h w a u b e in
-    let p = parent h a in
-    let o = parent_older h a (parents_are_older h w) (omega arith) b in
-    ⊎_elim
-    (λ k. let m : contains (committed_topactions h) a ≡ true =
-    tops_are h w a ∙ and_from (has_committed h a) (p == 0) c (eq-eqb p 0 k) in (
-      a,
-      record {
-        committed = m;
-        above = ancestor_self h a;
-        only = λ x j i. only_one h w a a x b m j (ancestor_self h a) i;
-      },
-    ))
-    (λ k. let r = its_top h w n p (omega (arith, o.0)) (parent_unfolded h w a u b k) (omega (arith, o.0))
-    (sym (owner_passed h w a c) ∙ e) in
-    let above : is_ancestor h r.0 a ≡ true =
-    subst (λ us. contains us r.0 ≡ true) (sym o.1)
-    (or_right (r.0 == a) (contains (lineage h p) r.0) r.1.above) in (
-      r.0,
-      record {
-        committed = r.1.committed;
-        above = above;
-        only = λ x j i. only_one h w a r.0 x b r.1.committed j above i;
-      },
-    ))
-    (cases_eq p 0)
+    grind (
+      arith,
+      nat_tests,
+      good_committed h w a u b e,
+      parent_older h a,
+      parents_are_older h w,
+      tops_are h w a,
+      ancestor_self h a,
+      only_one h w a a,
+      its_top h w n,
+      parent_unfolded h w a u b,
+      owner_passed h w a,
+      only_one h w a,
+    )
 
 base_exact : (q : Option ℕ) → is_exactly q 0 ≡ is_base (as_owner q)
 base_exact None = refl
-base_exact (Some x) =
-    ⊎_elim
-    (λ e. eq-eqb x 0 e ∙ sym (ap (λ b. is_base (cond b Base (Held x))) (eq-eqb x 0 e)))
-    (λ n. ne_eqb x 0 n ∙ sym (ap (λ b. is_base (cond b Base (Held x))) (ne_eqb x 0 n)))
-    (cases_eq x 0)
+base_exact (Some x) = grind (arith, nat_tests)
 
 plain_base : {V : Type 0} (h : History V) → Orderly h → (a : ℕ) → folded h < a → a < next_action h
     → is_exactly (owner_by_steps h a) 0 ≡ is_base (owner h a)
@@ -278,11 +210,7 @@ module _ {V C A : Type 0} (meaning : Meaning V C A) (opening : HistoryOpening C)
       → contains (committed_topactions h) t ≡ true
       → IsPermutation (work h t) (accesses_by (λ b. is_base (owner h b) && is_ancestor h t b) h)
   committed_complete h t l m =
-      let w = lawful_orderly meaning opening h l in
-      subst (λ es. IsPermutation (work h t) es)
-      (accesses_agree (for_good_under h t) (λ b. is_base (owner h b) && is_ancestor h t b) h w
-      (λ a u b. ap (λ c. c && is_ancestor h t a) (plain_base h w a u b)))
-      (top_work h w t m)
+      grind (arith, nat_tests, lawful_orderly meaning opening h l, accesses_agree, plain_base h, top_work h)
 
   -- the work of a live action is each access that it answers for
   pub live_complete : (h : History V) (a : ℕ) → Lawful meaning opening h → is_live h a ≡ true

@@ -1,13 +1,13 @@
 -- The serial order is the work of the committed topactions, one after another.
-use Rattle.std.proofs.Common.{ap, arith, cond, false, refl, subst, sym, true, ℕ, ⊎_elim, ◌++◌, ◌∙◌, ◌∷◌, ◌≡◌}
-use Rattle.std.proofs.lemmas.Bool.{both_ways, cases_Bool, eq-eqb, eqb-true, false_from_ne_true, ne_eqb, or_cases}
-use Rattle.std.proofs.lemmas.Bool.{or_left, or_right}
+use Rattle.std.proofs.Common.{arith, false, refl, true, ℕ, ◌≡◌}
+use Rattle.std.proofs.lemmas.Bool.{both_ways, cases_Bool, false_from_ne_true}
 use Rattle.std.specs.Prelude.{◌==◌}
 use Rattle.argus_model.specs.{Ancestors.parent, Event.{Aborted, Accessed, Began, Committed, Event}, Numbers.contains}
 use Rattle.argus_model.specs.{History.{History, Opened, ◌▹◌}, OwnerSteps.stands, Status.has_committed}
 use Rattle.argus_model.specs.Work.{all_of, committed_topactions, work}
 use Rattle.argus_model.proofs.{OwnerRules.stands_plain, Standing.{Orderly, parent_is, parents_are_older}}
 use Rattle.argus_model.proofs.Work.{all_of_agree, work_final}
+use Rattle.std.proofs.lemmas.Bool.Decides.{nat_tests}
 
 -- who is listed as a committed topaction has committed
 pub tops_committed : {V : Type 0} (h : History V) (z : ℕ) → contains (committed_topactions h) z ≡ true
@@ -16,17 +16,7 @@ tops_committed (Opened n) z m = m
 tops_committed (Began from ▹ h) z m = tops_committed h z m
 tops_committed (Aborted a ▹ h) z m = tops_committed h z m
 tops_committed (Accessed a o v ▹ h) z m = tops_committed h z m
-tops_committed (Committed s ▹ h) z m =
-    ⊎_elim
-    (λ e. ⊎_elim
-    (λ k. or_left (s == z) (has_committed h z) (eq-eqb s z (sym (eqb-true z s k))))
-    (λ k. or_right (s == z) (has_committed h z) (tops_committed h z k))
-    (or_cases (z == s) (contains (committed_topactions h) z)
-    (subst (λ b. contains (cond b (s ∷ committed_topactions h) (committed_topactions h)) z ≡ true) e m)))
-    (λ e. or_right (s == z) (has_committed h z)
-    (tops_committed h z
-    (subst (λ b. contains (cond b (s ∷ committed_topactions h) (committed_topactions h)) z ≡ true) e m)))
-    (cases_Bool (parent h s == 0))
+tops_committed (Committed s ▹ h) z m = grind (arith, nat_tests, tops_committed h z)
 
 -- who is listed as a committed topaction doesn't stand
 pub tops_over : {V : Type 0} (h : History V) → Orderly h → (z : ℕ) → contains (committed_topactions h) z ≡ true
@@ -45,19 +35,14 @@ pub serial_tops : {V : Type 0} (h : History V) → Orderly h → work h 0 ≡ al
 serial_tops (Opened n) w = refl
 serial_tops (Began from ▹ h) w = serial_tops h w.1
 serial_tops (Aborted z ▹ h) w = serial_tops h w.1
-serial_tops (Accessed a o v ▹ h) w =
-    ap (λ q. cond q (record { object = o; what = v } ∷ work h 0) (work h 0)) (ne_eqb a 0 w.0.not_base)
-    ∙ serial_tops h w.1 ∙ sym (tops_same h (Accessed a o v) w.1 w)
+serial_tops (Accessed a o v ▹ h) w = grind (arith, nat_tests, serial_tops h w.1, tops_same h (Accessed a o v) w.1 w)
 serial_tops (Committed s ▹ h) w =
-    let g = Committed s ▹ h in
-    let ps = parent_is h (parents_are_older h w.1) s w.0.not_base w.0.standing in
-    let own : work g s ≡ work h s =
-    ap (λ q. cond q (work h s ++ work h s) (work h s)) (ne_eqb (parent h s) s (omega (arith, ps.0))) in
-    let rest = serial_tops h w.1 ∙ sym (tops_same h (Committed s) w.1 w) in
-    ⊎_elim
-    (λ e. ap (λ q. cond q (work h s ++ work h 0) (work h 0)) e
-    ∙ ap (λ es. work h s ++ es) rest ∙ ap (λ es. es ++ all_of (work g) (committed_topactions h)) (sym own)
-    ∙ sym (ap (λ q. all_of (work g) (cond q (s ∷ committed_topactions h) (committed_topactions h))) e))
-    (λ e. ap (λ q. cond q (work h s ++ work h 0) (work h 0)) e ∙ rest
-    ∙ sym (ap (λ q. all_of (work g) (cond q (s ∷ committed_topactions h) (committed_topactions h))) e))
-    (cases_Bool (parent h s == 0))
+    grind (
+      arith,
+      nat_tests,
+      parent_is h (parents_are_older h w.1) s w.0.not_base w.0.standing,
+      parents_are_older h w.1,
+      serial_tops h w.1,
+      tops_same h (Committed s) w.1 w,
+      cases_Bool (parent h s == 0),
+    )
