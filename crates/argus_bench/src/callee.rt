@@ -19,6 +19,7 @@ pub(crate) trait Callee: Drop {
 }
 
 impl Callee for Guardian {
+    #[inline(always)]
     fn answer(&mut self, call: Call) -> Result<ReplySummary, BenchError> {
         Ok(ReplySummary::by(self.call(call)?))
     }

@@ -10,6 +10,8 @@ use argus_values::{Change, Heap, ObjId, Query, Value, read_content, read_shape};
 /// A guardian, or a seat of a shared one, which is called by values of `Call`. A reply of another
 /// kind than the call asks for is an error.
 ///
+/// The calls are inlined, as they would be in a program of their own, where their kinds are known.
+///
 /// ```text
 /// let mut client = Client::of(heap, Guardian::new(heap));
 /// client.declare_record(ObjId(0))?;
@@ -28,14 +30,17 @@ impl<K: Callee> Client<K> {
         Client { heap, callee }
     }
 
+    #[inline(always)]
     pub(crate) fn begin_top(&mut self) -> Result<ActionId, BenchError> {
         self.begin(Call::BeginTop)
     }
 
+    #[inline(always)]
     pub(crate) fn begin_sub(&mut self, parent: ActionId) -> Result<ActionId, BenchError> {
         self.begin(Call::BeginSub(parent))
     }
 
+    #[inline(always)]
     fn begin(&mut self, call: Call) -> Result<ActionId, BenchError> {
         match self.callee.answer(call)? {
             ReplySummary::Begun(a) => Ok(a),
@@ -45,10 +50,12 @@ impl<K: Callee> Client<K> {
         }
     }
 
+    #[inline(always)]
     pub(crate) fn commit(&mut self, a: ActionId) -> Result<(), BenchError> {
         self.have_done(Call::Commit(a))
     }
 
+    #[inline(always)]
     pub(crate) fn abort(&mut self, a: ActionId) -> Result<(), BenchError> {
         self.have_done(Call::Abort(a))
     }
@@ -60,15 +67,18 @@ impl<K: Callee> Client<K> {
     }
 
     /// Sets the integer of a record.
+    #[inline(always)]
     pub(crate) fn set(&mut self, a: ActionId, o: ObjId, number: i64) -> Result<(), BenchError> {
         self.have_done(Call::Alter(a, o, Change::SetField(0, Value::Int(number))))
     }
 
+    #[inline(always)]
     fn have_done(&mut self, call: Call) -> Result<(), BenchError> {
         self.callee.answer(call)?.expect_done()
     }
 
     /// The integer of a record.
+    #[inline(always)]
     pub(crate) fn get(&mut self, a: ActionId, o: ObjId) -> Result<i64, BenchError> {
         match self.callee.answer(Call::Ask(a, o, Query::Field(0)))? {
             ReplySummary::Number(number) => Ok(number),

@@ -40,6 +40,7 @@ impl<'a, N: Sharing, R: Wait + Drop> Seated<'a, N, R> {
 }
 
 impl<N: Sharing, R: Wait + Drop> Callee for Seated<'_, N, R> {
+    #[inline(always)]
     fn answer(&mut self, call: Call) -> Result<ReplySummary, BenchError> {
         let Seated { rt, shared, seat } = self;
         let answered = shared.answer(*rt, seat, call)?;

@@ -54,6 +54,7 @@ impl<N: Sharing, R: Wait + Drop> Locked<N, R> {
     /// same and the board is out of date. At `OutOfMemory` nothing has changed.
     ///
     /// It may wait for lookers that are reading.
+    #[inline(always)]
     pub fn answer(&mut self, seat: &mut Seat<N>, call: Call) -> Result<Answered, OutOfMemory>
         ensures at { IfOk result (λ answered. answered.at ≡ next_entry self.old.journal) }
         ensures reply { IfOk result (λ answered. plain_reply answered.reply

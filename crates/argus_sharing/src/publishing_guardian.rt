@@ -27,7 +27,7 @@ pub struct PublishingGuardian<N: Sharing, R: Wait + Drop> {
 impl<N: Sharing, R: Wait + Drop> PublishingGuardian<N, R> {
     /// Makes a call, and tries to publish what the commit of a topaction leaves. If that finds no
     /// memory, it stays pending. At `OutOfMemory` nothing has changed.
-    #[inline(never)]
+    #[inline(always)]
     pub(crate) fn answer(&mut self, call: Call) -> Result<Reply, OutOfMemory>
         ensures reply { IfOk result (λ reply. plain_reply reply
             ≡ reply_to self.old.guardian (plain_call call)) }
@@ -69,6 +69,7 @@ impl<N: Sharing, R: Wait + Drop> PublishingGuardian<N, R> {
         self.guardian.call(call)
     }
 
+    #[inline(never)]
     fn commit_and_publish(&mut self, a: ActionId) -> Result<Reply, OutOfMemory>
         ensures reply { IfOk result (λ reply. plain_reply reply
             ≡ reply_to self.old.guardian (commit a.0)) }

@@ -137,6 +137,7 @@ impl<N: Sharing, R: Wait + Drop> Shared<N, R> {
     /// ```text
     /// let Answered { at, reply } = shared.answer(&rt, &mut seat, Call::BeginTop)?;
     /// ```
+    #[inline(always)]
     pub fn answer(
         &self,
         rt: &impl Wait,
