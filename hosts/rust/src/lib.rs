@@ -78,7 +78,7 @@ pub use ready_commit::{NotReady, ReadyCommit};
 pub use record::struct_of;
 pub use record::{FieldType, Record};
 pub use reply::{Answer, Refusal, Reply, Signal};
-pub use resumption::{LineFault, RestoredGuardian, Resumption, TakenEnd, TakenLines};
+pub use resumption::{LineError, LineFault, RestoredGuardian, Resumption, TakenEnd, TakenLines};
 pub use shape::ShapeFault;
 pub use shared::Shared;
 pub use shared::action::SharedAction;

@@ -16,7 +16,6 @@ mod log_options;
 #[cfg(feature = "sqlite")]
 mod log_reading;
 mod logged;
-mod recovery;
 #[cfg(feature = "sqlite")]
 mod sqlite_log;
 
@@ -26,6 +25,5 @@ pub use group::LogCounts;
 #[cfg(feature = "sqlite")]
 pub use log_options::{LogFound, LogOptions};
 pub use logged::{Logged, LoggedAction};
-pub use recovery::{LineError, Recovery};
 #[cfg(feature = "sqlite")]
 pub use sqlite_log::SqliteLog;

@@ -113,9 +113,12 @@ impl Resumption {
         })
     }
 
-    // One that has taken nothing, and takes the ids that this one would.
-    #[cfg(all(feature = "logged", unix))]
-    pub(crate) fn anew(&self) -> Result<Resumption, Error> {
+    /// The same, in place of this one, of which no guardian comes.
+    ///
+    /// # Errors
+    ///
+    /// As for [`Guardian::new`].
+    pub fn anew(&self) -> Result<Resumption, Error> {
         Resumption::after(&self.guardian)
     }
 
@@ -164,6 +167,61 @@ impl Resumption {
         TakenLines { bytes, lines, end }
     }
 
+    /// Takes a text, of an opening or of entries, all of which has to be taken. At a fault the lines before that one
+    /// were taken, and no more can be.
+    ///
+    /// # Errors
+    ///
+    /// [`LineError`]: which line is at fault, and why.
+    ///
+    /// ```
+    /// use argus_guardian::{LineError, Resumption};
+    /// let mut resuming = Resumption::new()?;
+    /// resuming.take_whole("0 begin_top -> a0\n").expect("a journal's line");
+    /// let error = resuming.take_whole("1 commit a7 -> done\n").expect_err("no action a7");
+    /// let why = "`1 commit a7 -> done`: the journal before it gives the reply `refused NoAction`".to_owned();
+    /// assert_eq!(error, LineError::Fault { line: 0, why });
+    /// # Ok::<(), argus_guardian::Error>(())
+    /// ```
+    pub fn take_whole(&mut self, text: impl AsRef<[u8]>) -> Result<(), LineError> {
+        let text = text.as_ref();
+        let taken = self.take(text);
+        let why = match taken.end {
+            TakenEnd::Whole => return Ok(()),
+            TakenEnd::OutOfMemory => return Err(LineError::OutOfMemory),
+            TakenEnd::Torn => "it has no line feed".to_owned(),
+            TakenEnd::Fault(LineFault::NotAnOpening) => {
+                "it isn't the next line of an opening".to_owned()
+            }
+            TakenEnd::Fault(LineFault::NoLine { at }) => {
+                format!("it isn't the line of an entry, from byte {at} on")
+            }
+            TakenEnd::Fault(LineFault::NotNext { next }) => format!("entry {next} comes next"),
+            TakenEnd::Fault(LineFault::NotTheReply { reply: Some(reply) }) => {
+                format!("the journal before it gives the reply `{reply}`")
+            }
+            TakenEnd::Fault(other) => other.to_string(),
+        };
+        let text = String::from_utf8_lossy(&text[taken.bytes..]);
+        let text = text.lines().next().unwrap_or("");
+        let (line, why) = (taken.lines as u64, format!("`{text}`: {why}"));
+        Err(LineError::Fault { line, why })
+    }
+
+    /// The guardian of all that was taken. Actions that were live in it are live.
+    ///
+    /// # Errors
+    ///
+    /// [`LineError`]: also if an opening came that isn't whole.
+    pub fn into_whole(self) -> Result<Guardian, LineError> {
+        let opened = self.into_guardian().map_err(|_| LineError::OutOfMemory)?;
+        if opened.dropped > 0 {
+            let (line, why) = (0, LineFault::NotSound.to_string());
+            return Err(LineError::Fault { line, why });
+        }
+        Ok(opened.guardian)
+    }
+
     /// The guardian of what was taken. If an opening came without entries, it has as many of the
     /// opening's first objects as refer to none but one another.
     ///
@@ -202,6 +260,20 @@ impl From<Resumption> for Error {
 
 fn place(number: i64) -> usize {
     usize::try_from(number).unwrap_or(0)
+}
+
+/// Why not all of a text was taken: [`Resumption::take_whole`](crate::Resumption::take_whole).
+#[derive(Debug, Clone, PartialEq, Eq)]
+pub enum LineError {
+    /// A line isn't the next one of the journal's listing.
+    Fault {
+        /// Which line of the text it is, counted from 0.
+        line: u64,
+        /// Why it isn't.
+        why: String,
+    },
+    /// Out of memory.
+    OutOfMemory,
 }
 
 /// Why a line is not the next one of a journal's listing: the first of these that applies.

@@ -1,8 +1,8 @@
 //! Guardians made again from the listings of their journals.
 
 use argus_guardian::{
-    ActionId, Content, Error, Guardian, LineFault, Listing, ObjId, RestoredGuardian, Resumption,
-    Status, TakenEnd, Value,
+    ActionId, Content, Error, Guardian, LineError, LineFault, Listing, ObjId, RestoredGuardian,
+    Resumption, Status, TakenEnd, Value,
 };
 
 // Two topactions, of which the second one is live.
@@ -124,5 +124,37 @@ fn what_came_before_a_fault_is_a_guardian() -> Result<(), Error> {
     let guardian = resuming.into_guardian()?.guardian;
     let lines = "0 begin_top -> a0\n1 abort a0 -> done\n";
     assert_eq!(guardian.list(Listing::Journal)?, lines);
+    Ok(())
+}
+
+#[test]
+fn a_text_is_taken_whole_or_says_which_line_isnt() -> Result<(), Error> {
+    let fault = |line, why: &str| {
+        Err(LineError::Fault {
+            line,
+            why: why.to_owned(),
+        })
+    };
+    for (text, wanted) in [
+        (LINES.as_bytes(), Ok(())),
+        (
+            b"0 begin_top\xff -> a0\n",
+            fault(0, "`0 begin_top\u{fffd} -> a0`: not UTF-8 from byte 11 on"),
+        ),
+        (
+            b"0 begin_top -> a0\n2 commit",
+            fault(1, "`2 commit`: it has no line feed"),
+        ),
+        (
+            b"0 begin_top -> a0\n2 commit a0 -> done\n",
+            fault(1, "`2 commit a0 -> done`: entry 1 comes next"),
+        ),
+    ] {
+        assert_eq!(Resumption::new()?.take_whole(text), wanted);
+    }
+    let mut resumption = Resumption::new()?;
+    assert_eq!(resumption.take_whole(OPENING), Ok(()));
+    let why = "the opening refers to objects that aren't there";
+    assert_eq!(resumption.into_whole().map(|_| ()), fault(0, why));
     Ok(())
 }

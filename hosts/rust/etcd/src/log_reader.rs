@@ -9,8 +9,7 @@ use crate::log_error::LogError;
 use crate::log_head::LogHead;
 use crate::pages::{Page, first_page, next_page};
 use crate::position::Position;
-use argus_guardian::Error;
-use argus_guardian::log::LineError;
+use argus_guardian::{Error, LineError};
 
 /// What takes the batches of a log that is read.
 pub(crate) trait Takes {

@@ -2,8 +2,7 @@
 
 use crate::batch::Batch;
 use crate::log_reader::Takes;
-use argus_guardian::log::{LineError, Recovery};
-use argus_guardian::{Call, Error, Guardian, Listing};
+use argus_guardian::{Call, Error, Guardian, LineError, Listing, Resumption};
 
 /// A guardian made from the batches of a log: each call is made again, and its line is compared with the log's. At a
 /// checkpoint the objects have to hold what they held before it.
@@ -17,7 +16,7 @@ pub(crate) struct Replica {
 #[derive(Debug)]
 enum State {
     // Nothing was read from it yet: the library takes whole texts.
-    Recovering(Recovery),
+    Resuming(Resumption),
     // Each call is made, and the line that the library writes of it is compared.
     Made(Guardian),
     // It couldn't be made.
@@ -27,17 +26,17 @@ enum State {
 impl Replica {
     pub(crate) fn new() -> Result<Replica, Error> {
         Ok(Replica {
-            state: State::Recovering(Recovery::new()?),
+            state: State::Resuming(Resumption::new()?),
             before: None,
         })
     }
 
     /// The guardian of all that was taken.
     pub(crate) fn guardian(&mut self) -> Result<&Guardian, LineError> {
-        if let State::Recovering(_) = self.state {
+        if let State::Resuming(_) = self.state {
             self.state = match std::mem::replace(&mut self.state, State::Lost) {
-                State::Recovering(recovery) => {
-                    State::Made(recovery.into_guardian().map_err(|it| not_sound(&it))?)
+                State::Resuming(resumption) => {
+                    State::Made(resumption.into_whole().map_err(|it| not_sound(&it))?)
                 }
                 other => other,
             };
@@ -68,18 +67,18 @@ impl Takes for Replica {
     fn begin_anew(&mut self, is_next: bool) -> Result<(), LineError> {
         self.before = if is_next { Some(self.bases()?) } else { None };
         // Objects keep their ids: a reader may have some.
-        let recovery = match &self.state {
-            State::Recovering(recovery) => recovery.anew(),
-            State::Made(guardian) => Recovery::after(guardian),
-            State::Lost => Recovery::new(),
+        let resumption = match &self.state {
+            State::Resuming(resumption) => resumption.anew(),
+            State::Made(guardian) => Resumption::after(guardian),
+            State::Lost => Resumption::new(),
         };
-        self.state = State::Recovering(recovery.map_err(|_| LineError::OutOfMemory)?);
+        self.state = State::Resuming(resumption.map_err(|_| LineError::OutOfMemory)?);
         Ok(())
     }
 
     fn take(&mut self, batch: &Batch<'_>) -> Result<(), LineError> {
         match &mut self.state {
-            State::Recovering(recovery) => recovery.take(batch.lines),
+            State::Resuming(resumption) => resumption.take_whole(batch.lines),
             State::Made(guardian) => (0..)
                 .zip(batch.lines.lines())
                 .try_for_each(|(line, text)| make_again(guardian, line, text)),

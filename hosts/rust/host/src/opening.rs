@@ -1,8 +1,8 @@
 //! `open`: a guardian made again of its log, in a database or in etcd.
 
 use crate::arguments::ServeArguments;
-use argus_guardian::Shared;
-use argus_guardian::log::{LineError, LogOptions, Logged, Recovery};
+use argus_guardian::log::{LogOptions, Logged};
+use argus_guardian::{LineError, Resumption, Shared};
 use argus_guardian_etcd::{Campaign, EtcdLog, EtcdOptions, Leadership};
 use std::error::Error;
 use std::path::Path;
@@ -53,12 +53,12 @@ fn open_etcd(
     options: &EtcdOptions,
     leadership: Leadership,
 ) -> Result<OpenGuardian, Box<dyn Error>> {
-    let (mut recovery, mut entries) = (Recovery::new()?, 0);
+    let (mut resumption, mut entries) = (Resumption::new()?, 0);
     let log = EtcdLog::open(options, leadership.clone(), |batch| {
         entries += batch.entries;
-        recovery.take(batch.lines)
+        resumption.take_whole(batch.lines)
     })?;
-    let guardian = recovery.into_guardian().map_err(|error| match error {
+    let guardian = resumption.into_whole().map_err(|error| match error {
         LineError::Fault { why, .. } => why,
         LineError::OutOfMemory => "out of memory".to_owned(),
     })?;

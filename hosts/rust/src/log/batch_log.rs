@@ -16,17 +16,7 @@ pub trait BatchLog: Send {
 }
 
 /// A piece of a journal's listing: whole lines of entries that follow one another.
-///
-/// ```
-/// use argus_guardian::log::{EntryLines, Opening};
-/// let lines = EntryLines::new(7, "7 begin_top -> a3\n8 commit a3 -> done\n".into()).expect("whole lines");
-/// assert_eq!((lines.first, lines.next), (7, 9));
-/// assert_eq!(EntryLines::new(7, "7 begin_top -> a3".into()), None);
-/// let text = "opening entries 4 actions 1\nopening o0 atomic_record[n:int] {5}\n";
-/// let opening = Opening::new(4, text.into()).expect("whole lines");
-/// assert_eq!((opening.next, opening.text), (4, text.into()));
-/// ```
-#[derive(Debug, Clone, PartialEq, Eq, Default)]
+#[derive(Debug, Clone, PartialEq, Eq)]
 #[non_exhaustive]
 pub struct EntryLines {
     /// The number of the first line's entry.
@@ -55,12 +45,12 @@ impl EntryLines {
     #[must_use]
     pub fn new(first: u64, text: String) -> Option<EntryLines> {
         let next = first.saturating_add(line_feeds(text.as_bytes()));
-        let is_whole = text.is_empty() || text.ends_with('\n');
-        is_whole.then(|| EntryLines {
+        let (is_whole, names) = (text.is_empty() || text.ends_with('\n'), Vec::new());
+        is_whole.then_some(EntryLines {
             first,
             next,
             text,
-            names: Vec::new(),
+            names,
         })
     }
 }

@@ -72,13 +72,6 @@ pub enum LogFault {
 }
 
 /// Why a call of a logged guardian failed, or a log wasn't opened.
-///
-/// ```
-/// use argus_guardian::{Refusal, log::LoggedError};
-/// let failure = std::io::Error::other("no disk").into();
-/// assert_eq!(LoggedError::InDoubt(failure).to_string(), "in doubt: the log couldn't be written: no disk");
-/// assert!(LoggedError::from(Refusal::Conflict).is_conflict());
-/// ```
 #[derive(Debug, Clone)]
 #[non_exhaustive]
 pub enum LoggedError {
@@ -156,12 +149,10 @@ impl From<rusqlite::Error> for LoggedError {
             (Some(Code::DatabaseBusy | Code::DatabaseLocked), _) => LogFault::Locked,
             (Some(Code::DatabaseCorrupt), _) => LogFault::PagesDamaged,
             _ if is_damage => LogFault::PagesDamaged,
+            (None, Sql::QueryReturnedNoRows) => LogFault::RowMissing,
             (Some(_), _) | (None, Sql::InvalidPath(_) | Sql::NulError(_)) => LogFault::Unreadable,
             // What a row has is converted outside SQLite.
-            (None, _) => {
-                let what = "a row hasn't the types that it should have";
-                return LogFault::RowChanged.says(format!("{what}: {words}"));
-            }
+            (None, _) => LogFault::RowChanged,
         };
         fault.says(words)
     }

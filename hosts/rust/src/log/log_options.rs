@@ -3,26 +3,13 @@
 use crate::log::error::{LogFault, LoggedError};
 use crate::log::log_reading::read_log;
 use crate::log::logged::Logged;
-use crate::log::sqlite_log::{copy_log, make_log, resolved};
+use crate::log::sqlite_log::{SqliteLog, copy_log, make_log};
 use crate::{Guardian, Shared};
 use std::path::{Path, PathBuf};
 use std::sync::Mutex;
 use std::time::Duration;
 
 /// How a log in a database is opened or made.
-///
-/// ```
-/// use argus_guardian::log::LogOptions;
-/// # let path = std::env::temp_dir().join(format!("argus-options-{}", std::process::id()));
-/// let options = LogOptions { checkpoint_after: None, ..LogOptions::default() };
-/// let bank = options.open_or_create(&path)?;
-/// bank.declare_named("account", "atomic_record[balance:int]")?;
-/// drop(bank);
-/// assert_eq!(options.open(&path)?.found().entries, 1);
-/// # std::fs::remove_file(&path).expect("removed");
-/// # std::fs::remove_file(path.with_file_name(format!("argus-options-{}-owner", std::process::id()))).expect("removed");
-/// # Ok::<(), argus_guardian::log::LoggedError>(())
-/// ```
 #[derive(Debug, Clone, PartialEq, Eq)]
 pub struct LogOptions {
     /// How long an access waits for its lock at most: a second by default.
@@ -73,9 +60,9 @@ impl LogOptions {
     /// [`LoggedError::Database`]: nothing in the log has changed. [`LoggedError::InDoubt`]: the log was read, but the
     /// first append failed. [`LoggedError::Guardian`]: out of memory. The other calls here fail so, too.
     pub fn open(&self, path: impl AsRef<Path>) -> Result<Logged, LoggedError> {
-        let (mut log, guardian, names, found) = read_log(path.as_ref(), self)?;
-        log.begin()?;
-        let (mut logged, aborted) = Logged::resumed(guardian, Box::new(log), self.patience)?;
+        let (read, guardian, names, found) = read_log(path.as_ref(), self)?;
+        let log = Box::new(SqliteLog::begin(read)?);
+        let (mut logged, aborted) = Logged::resumed(guardian, log, self.patience)?;
         (logged.found, logged.found.aborted) = (found, aborted);
         logged.names = Some(Mutex::new(names));
         logged.checkpoint_after = self.checkpoint_after;
@@ -134,6 +121,6 @@ impl Logged {
         if self.found.path.as_os_str().is_empty() {
             return Err(LogFault::NoLog.says("the log isn't in a database"));
         }
-        copy_log(&self.found.path, &resolved(path.as_ref())?)
+        copy_log(&self.found.path, path.as_ref())
     }
 }

@@ -9,12 +9,12 @@ use crate::log::error::LogFault::{
 use crate::log::error::LoggedError;
 use crate::log::log_options::{LogFound, LogOptions};
 use crate::log::logged::Names;
-use crate::log::recovery::{LineError, Recovery};
-use crate::log::sqlite_log::{KEEPS_WAL, SqliteLog, connected, resolved};
-use crate::{Error, ObjId};
-use rusqlite::{Connection, ErrorCode, OpenFlags, OptionalExtension};
+use crate::log::sqlite_log::{KEEPS_WAL, connected, resolved};
+use crate::{Error, LineError, ObjId, Resumption};
+use rusqlite::{Connection, OpenFlags, Row};
 use std::cmp::Ordering::{Equal, Greater, Less};
 use std::fs;
+use std::num::Wrapping;
 use std::path::{Path, PathBuf};
 use std::time::Duration;
 
@@ -23,8 +23,10 @@ pub(crate) const APPLICATION: i64 = 0x4152_4755;
 /// The number of the format.
 pub(crate) const FORMAT: i64 = 1;
 
+/// The connections to a log that was read, and to the second database, which has the lock; and its row of `log`.
+pub(crate) type Connected = ([Connection; 2], Head);
 /// A log that was read, and what it has.
-pub(crate) type ReadLog = (SqliteLog, Guardian, Names, LogFound);
+pub(crate) type ReadLog = (Connected, Guardian, Names, LogFound);
 
 /// The row of `log`.
 #[derive(Debug)]
@@ -44,46 +46,42 @@ pub(crate) fn beside(path: &Path, suffix: &str) -> PathBuf {
 
 // Locks a second database, which the process has until it ends.
 fn lock(path: &Path) -> Result<Connection, LoggedError> {
-    let is_there = path.exists();
-    NoLog.unless(is_there, format!("no log is there: {}", path.display()))?;
+    let (is_there, shown) = (path.exists(), path.display());
+    NoLog.unless(is_there, format!("no log is there: {shown}"))?;
     // A pipe would have SQLite wait.
     let files = ["", "-wal", "-journal", "-owner"].map(|it| beside(path, it));
-    let is_other = |it: &&PathBuf| fs::metadata(it).is_ok_and(|it| !it.is_file());
-    if let Some(other) = files.iter().find(is_other) {
-        return Err(NotALog.says(format!("it isn't a file: {}", other.display())));
+    for file in &files {
+        let is_other = fs::metadata(file).is_ok_and(|it| !it.is_file());
+        NotALog.unless(!is_other, format!("it isn't a file: {}", file.display()))?;
     }
     let how = OpenFlags::SQLITE_OPEN_READ_WRITE | OpenFlags::SQLITE_OPEN_CREATE;
     let owner = connected(&files[3], how)?;
     owner.busy_timeout(Duration::ZERO)?;
     // Nothing is ever written there.
     let locked = owner.execute_batch("PRAGMA journal_mode=OFF; BEGIN EXCLUSIVE");
-    locked.map_err(|error| match error.sqlite_error_code() {
-        Some(ErrorCode::DatabaseBusy) => {
-            let who = "another process has the log, or another part of this one";
-            Locked.says(format!("{who}: {}", path.display()))
-        }
-        _ => error.into(),
+    let who = "another process has the log, or another part of this one";
+    locked.map_err(|error| match error.into() {
+        LoggedError::Database(Locked, _) => Locked.says(format!("{who}: {shown}")),
+        other => other,
     })?;
     Ok(owner)
 }
 
 /// Locks a log and reads it, and changes nothing.
 pub(crate) fn read_log(path: &Path, wanted: &LogOptions) -> Result<ReadLog, LoggedError> {
-    let path = &resolved(path)?;
-    let owner = lock(path)?;
+    let path = resolved(path)?;
+    let owner = lock(&path)?;
     // SQLite rolls back what was broken off without a WAL, and leaves a WAL where it is.
-    let database = connected(path, OpenFlags::SQLITE_OPEN_READ_WRITE)?;
+    let database = connected(&path, OpenFlags::SQLITE_OPEN_READ_WRITE)?;
     database.set_db_config(KEEPS_WAL, true)?;
     database.execute_batch("BEGIN")?;
-    let head = compared_head(path, &database, wanted)?;
-    let mut recovery = Recovery::new()?;
+    let head = compared_head(&path, &database, wanted)?;
+    let mut resumption = Resumption::new()?;
     let (first, batches) = check_rows(&database, &head, |what, lines| {
-        let text = std::str::from_utf8(lines);
-        OtherReply.unless(text.is_ok(), format!("{what} isn't UTF-8"))?;
-        let taken = recovery.take(&format!("{}\n", text.unwrap_or("")));
+        let taken = resumption.take_whole([lines, b"\n"].concat());
         taken.map_err(|it| not_taken(what, it))
     })?;
-    let guardian = recovery.into_guardian();
+    let guardian = resumption.into_whole();
     let guardian = guardian.map_err(|it| not_taken("the opening", it))?;
     let (taken, (epoch, next, _)) = (guardian.entries(), head.end);
     let words = format!("by the lines entry {taken} comes next, and by `log` entry {next}");
@@ -91,7 +89,7 @@ pub(crate) fn read_log(path: &Path, wanted: &LogOptions) -> Result<ReadLog, Logg
     let names = names_in(&database, &guardian)?;
     database.execute_batch("COMMIT")?;
     let found = LogFound {
-        path: path.to_owned(),
+        path,
         name: head.name.clone(),
         batches,
         entries: next - first,
@@ -100,13 +98,7 @@ pub(crate) fn read_log(path: &Path, wanted: &LogOptions) -> Result<ReadLog, Logg
         epoch,
         aborted: 0,
     };
-    let log = SqliteLog {
-        connections: Some([database, owner]),
-        head,
-        broken: None,
-        process: None,
-    };
-    Ok((log, guardian, names, found))
+    Ok((([database, owner], head), guardian, names, found))
 }
 
 fn not_taken(what: &str, error: LineError) -> LoggedError {
@@ -164,17 +156,17 @@ fn head_alone(path: &Path) -> Option<Head> {
 // The objects that have names, each with the shape that it was declared with.
 fn names_in(database: &Connection, guardian: &Guardian) -> Result<Names, LoggedError> {
     let select = "SELECT name, number, shape FROM object WHERE name IS NOT NULL";
-    let (mut select, mut names) = (database.prepare(select)?, Names::new());
-    let mut rows = select.query([])?;
-    while let Some(row) = rows.next()? {
-        let (name, number, shape): (String, u32, String) = row.try_into()?;
-        if number >= guardian.objects() || guardian.shape(ObjId::numbered(number))? != shape {
-            let which = format!("`{name}` is the name of object {number}");
-            return Err(RowChanged.says(format!("{which}, which hasn't the shape {shape}")));
-        }
-        names.insert(name, number);
-    }
-    Ok(names)
+    let mut select = database.prepare(select)?;
+    let rows = select.query_map([], |row| <(String, u32, String)>::try_from(row))?;
+    rows.map(|row| {
+        let (name, number, shape) = row?;
+        let is_there = number < guardian.objects();
+        let is_its = is_there && guardian.shape(ObjId::numbered(number))? == shape;
+        let which = format!("`{name}` is the name of object {number}");
+        RowChanged.unless(is_its, format!("{which}, which hasn't the shape {shape}"))?;
+        Ok((name, number))
+    })
+    .collect()
 }
 
 // The row of `log`, if it is a log, in a format that is known.
@@ -186,13 +178,9 @@ fn head_of(database: &Connection) -> Result<Head, LoggedError> {
     let words = format!("it has format {format}, which isn't known");
     OtherFormat.unless(format == FORMAT, words)?;
     let select = "SELECT name, is_open != 0, epoch, next_entry, sum FROM log";
-    let head = database.query_row(select, [], |row| {
-        let end = (row.get(2)?, row.get(3)?, row.get(4)?);
-        let (name, is_open) = (row.get(0)?, row.get(1)?);
-        Ok(Head { name, is_open, end })
-    });
-    head.optional()?
-        .ok_or_else(|| RowMissing.says("`log` has no row"))
+    let (name, is_open, epoch, next, sum) = database.query_row(select, [], |it| it.try_into())?;
+    let end = (epoch, next, sum);
+    Ok(Head { name, is_open, end })
 }
 
 /// Compares the copy of a log.
@@ -207,9 +195,8 @@ fn check_rows(
     head: &Head,
     mut take: impl FnMut(&str, &[u8]) -> Result<(), LoggedError>,
 ) -> Result<(u64, u64), LoggedError> {
-    let said = database.query_row("PRAGMA quick_check(1)", [], |row| {
-        Ok(String::from_utf8_lossy(row.get_ref(0)?.as_bytes()?).into_owned())
-    })?;
+    let check = "PRAGMA quick_check(1)";
+    let said: String = database.query_row(check, [], |row| row.get(0))?;
     PagesDamaged.unless(said == "ok", format!("the database isn't sound: {said}"))?;
     let opening = opening_of(database)?;
     let begins = match opening.strip_prefix(b"opening entries ") {
@@ -226,20 +213,21 @@ fn check_rows(
     let mut statement = database.prepare("SELECT first, lines, sum FROM batch ORDER BY first")?;
     let mut rows = statement.query([])?;
     while let Some(row) = rows.next()? {
-        let lines = row.get_ref(1)?.as_bytes();
-        let (first, lines) = (row.get(0)?, lines.map_err(rusqlite::Error::from)?);
+        let (first, lines) = (row.get(0)?, bytes_of(row, 1)?);
         check_place(first, entry, lines)?;
         let what = format!("batch {first}");
         sum = log_sum(&head.name, first, sum, lines);
-        if row.get::<_, u32>(2)? != sum {
-            let why = "it was changed, or what is before it";
-            return Err(RowChanged.says(format!("{what} hasn't the sum that it says: {why}")));
-        }
+        let why = "hasn't the sum that it says: it was changed, or what is before it";
+        RowChanged.unless(row.get::<_, u32>(2)? == sum, format!("{what} {why}"))?;
         take(&what, lines)?;
         (entry, batches) = (entry + line_feeds(lines) + 1, batches + 1);
     }
     check_end(head, entry, sum)?;
     Ok((begins, batches))
+}
+
+fn bytes_of<'r>(row: &'r Row<'_>, column: usize) -> rusqlite::Result<&'r [u8]> {
+    Ok(row.get_ref(column)?.as_bytes()?)
 }
 
 // The opening's lines; none before the first checkpoint.
@@ -250,8 +238,7 @@ fn opening_of(database: &Connection) -> Result<Vec<u8>, LoggedError> {
         let is_next = row.get::<_, i64>(0)? == count;
         RowMissing.unless(is_next, format!("line {count} of the opening isn't there"))?;
         lines.extend((count > 0).then_some(b'\n'));
-        let text = row.get_ref(1)?.as_bytes();
-        lines.extend_from_slice(text.map_err(rusqlite::Error::from)?);
+        lines.extend_from_slice(bytes_of(row, 1)?);
         count += 1;
     }
     Ok(lines)
@@ -267,24 +254,23 @@ fn number_in(text: &[u8]) -> Option<u64> {
 fn check_place(first: u64, entry: u64, lines: &[u8]) -> Result<(), LoggedError> {
     let begins = number_in(lines).unwrap_or(first);
     let place = format!("in the place of batch {first} are the lines of entry {begins}");
-    Err(match (first.cmp(&entry), begins.cmp(&first)) {
+    let comes = format!("batch {first} comes where entry {entry} comes next");
+    let (fault, words) = match (first.cmp(&entry), begins.cmp(&first)) {
         (Equal, Equal) => return Ok(()),
-        (Equal, Greater) => RowSwapped.says(format!("{place} and those after it")),
-        (Equal, Less) => RowDoubled.says(format!("{place} once more")),
-        (Less, _) => RowDoubled.says(format!(
-            "batch {first} comes where entry {entry} comes next"
-        )),
+        (Equal, Greater) => (RowSwapped, place + " and those after it"),
+        (Equal, Less) => (RowDoubled, place + " once more"),
+        (Less, _) => (RowDoubled, comes),
         (Greater, _) => {
             let missing = format!("the entries {entry} to {} aren't there", first - 1);
-            RowMissing.says(format!("{missing}: batch {first} comes next"))
+            (RowMissing, format!("{missing}: batch {first} comes next"))
         }
-    })
+    };
+    Err(fault.says(words))
 }
 
 fn check_end(head: &Head, entry: u64, sum: u32) -> Result<(), LoggedError> {
     let (_, next, last) = head.end;
-    let words =
-        format!("the log ends before entry {entry}, and `log` says that entry {next} comes next");
+    let words = format!("the log ends before entry {entry}, and by `log` entry {next} comes next");
     LogCut.unless(entry >= next, words)?;
     let words = format!("`log` is older than the batches: it says {next}, in place of {entry}");
     LogOld.unless(entry <= next, words)?;
@@ -347,15 +333,12 @@ fn word(bytes: &[u8], at: usize) -> u32 {
     bytes.fold(0, |word, byte| word << 8 | u32::from(*byte))
 }
 
-fn summed(is_big: bool, data: &[u8], sums: (u32, u32)) -> (u32, u32) {
-    let swapped = |it: u32| if is_big { it } else { it.swap_bytes() };
-    data.chunks_exact(8).fold(sums, |(first, second), it| {
-        let first = first
-            .wrapping_add(swapped(word(it, 0)))
-            .wrapping_add(second);
-        let second = second
-            .wrapping_add(swapped(word(it, 4)))
-            .wrapping_add(first);
-        (first, second)
-    })
+fn summed(is_big: bool, data: &[u8], (one, two): (u32, u32)) -> (u32, u32) {
+    let read = |it| Wrapping(if is_big { it } else { u32::swap_bytes(it) });
+    let (mut one, mut two) = (Wrapping(one), Wrapping(two));
+    for it in data.chunks_exact(8) {
+        one += read(word(it, 0)) + two;
+        two += read(word(it, 4)) + one;
+    }
+    (one.0, two.0)
 }

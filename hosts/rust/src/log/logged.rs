@@ -106,7 +106,7 @@ impl Logged {
         }
     }
 
-    /// Takes a guardian that a [`Recovery`](crate::log::Recovery) has restored from this log's lines: aborts what is
+    /// Takes a guardian that a [`Resumption`](crate::Resumption) has restored from this log's lines: aborts what is
     /// live, and returns when the log has that, with the number of entries that it took. Check first that the
     /// guardian's next entry is the log's.
     pub fn resumed(
@@ -308,19 +308,6 @@ impl Logged {
 /// What it does with objects is in the trait [`Access`](crate::Access). What it reads may come from commits that aren't
 /// in the log yet: to pass it on without committing, call [`Logged::barrier`] first. Each call fails as its namesake of
 /// [`SharedAction`], or with [`LoggedError::Broken`], and then it isn't made.
-///
-/// ```
-/// # use argus_guardian::{Access, log::Logged};
-/// # let logged = Logged::in_memory()?;
-/// let record = logged.declare("atomic_record[n:int]")?;
-/// let top = logged.topaction()?;
-/// top.create(record, (1,))?;
-/// let sub = top.subaction()?;
-/// sub.set(record, 0, 2)?;
-/// sub.commit()?; // to its parent: nothing is waited for
-/// top.commit()?; // acknowledged
-/// # Ok::<(), argus_guardian::log::LoggedError>(())
-/// ```
 #[derive(Debug)]
 #[must_use = "an action that is dropped aborts"]
 pub struct LoggedAction<'l> {

@@ -4,7 +4,7 @@ use crate::log::batch_log::{BatchLog, EntryLines, Opening, log_sum};
 use crate::log::error::LogFault::{Exists, Locked, LogCut, Unreadable};
 use crate::log::error::{Failure, LoggedError};
 use crate::log::log_options::LogOptions;
-use crate::log::log_reading::{APPLICATION, FORMAT, Head, beside, check_copy, read_log};
+use crate::log::log_reading::{APPLICATION, Connected, FORMAT, Head, beside, check_copy, read_log};
 use rusqlite::backup::{Backup, StepResult};
 pub(crate) use rusqlite::config::DbConfig::SQLITE_DBCONFIG_NO_CKPT_ON_CLOSE as KEEPS_WAL;
 use rusqlite::{Connection, OpenFlags, params, version_number};
@@ -80,7 +80,7 @@ pub(crate) fn make_log(path: &Path) -> Result<(), LoggedError> {
 
 /// Copies the log as it is at one moment, and compares the copy's rows.
 pub(crate) fn copy_log(path: &Path, into: &Path) -> Result<(), LoggedError> {
-    make(into, |copy| {
+    make(&resolved(into)?, |copy| {
         let source = connected(path, OpenFlags::SQLITE_OPEN_READ_ONLY)?;
         if Backup::new(&source, copy)?.step(-1)? != StepResult::Done {
             return Err(Locked.says("a program has the database locked"));
@@ -125,52 +125,43 @@ fn make(
 #[derive(Debug)]
 pub struct SqliteLog {
     // That which writes; and that of the second database, which has the lock and is closed last. None when dropped.
-    pub(crate) connections: Option<[Connection; 2]>,
-    pub(crate) head: Head,
-    pub(crate) broken: Option<Failure>,
-    // The one that writes, by now: SQLite's connections mustn't even be closed in a process that is forked from it.
-    pub(crate) process: Option<u32>,
+    connections: Option<[Connection; 2]>,
+    head: Head,
+    broken: Option<Failure>,
+    // The one that writes: SQLite's connections mustn't even be closed in a process that is forked from it.
+    process: u32,
 }
 
 impl SqliteLog {
-    /// Makes a log, for a program that writes a journal's lines into it itself. An opening may come first. It fails as
-    /// [`LogOptions::create`].
-    ///
-    /// ```
-    /// use argus_guardian::log::{BatchLog, LogOptions, Opening, SqliteLog};
-    /// # let path = std::env::temp_dir().join(format!("argus-lines-{}", std::process::id()));
-    /// let opening = "opening entries 4 actions 1\nopening o0 atomic_record[n:int] {5}\n";
-    /// let mut log = SqliteLog::create(&path)?;
-    /// log.restart(&Opening::new(4, opening.into()).expect("whole lines")).expect("written");
-    /// drop(log);
-    /// let found = LogOptions::default().check(&path)?;
-    /// assert_eq!((found.next, found.objects), (4, 1));
-    /// # std::fs::remove_file(&path).expect("removed");
-    /// # std::fs::remove_file(path.with_file_name(format!("argus-lines-{}-owner", std::process::id()))).expect("removed");
-    /// # Ok::<(), argus_guardian::log::LoggedError>(())
-    /// ```
+    /// Makes a log, for a program that writes a journal's lines into it itself, as the example `log_of_files` does. An
+    /// opening may come first. It fails as [`LogOptions::create`].
     pub fn create(path: impl AsRef<Path>) -> Result<SqliteLog, LoggedError> {
         make_log(path.as_ref())?;
-        let (mut log, ..) = read_log(path.as_ref(), &LogOptions::default())?;
-        log.begin()?;
-        Ok(log)
+        let (read, ..) = read_log(path.as_ref(), &LogOptions::default())?;
+        SqliteLog::begin(read)
     }
 
-    /// Makes it this process's: from now on whoever had it before is refused.
-    pub(crate) fn begin(&mut self) -> Result<(), LoggedError> {
-        let (database, (epoch, next, sum)) = (self.writing(), self.head.end);
+    /// Makes one that was read this process's: from now on whoever had it before is refused.
+    pub(crate) fn begin((connections, head): Connected) -> Result<SqliteLog, LoggedError> {
+        let (database, (epoch, next, sum)) = (&connections[0], head.end);
         database.execute_batch(DURABLE)?;
         let mode: String = database.query_row("PRAGMA journal_mode=WAL", [], |row| row.get(0))?;
         let words = format!("the database can't have a WAL: SQLite says {mode}");
         Unreadable.unless(mode == "wal", words)?;
         database.busy_timeout(PATIENT)?;
-        self.process = Some(process::id());
+        let mut log = SqliteLog {
+            connections: Some(connections),
+            head,
+            broken: None,
+            process: process::id(),
+        };
         let begin = |it: &Connection| it.execute(BEGIN, [VERSION]).map(drop);
-        self.change((epoch + 1, next, sum), begin)?;
+        log.change((epoch + 1, next, sum), begin)?;
         // What was read and isn't on disk, since whoever wrote it was killed, is on disk now; and the file says that
         // there is a WAL. So it is moved into the file, as far as no reader is in the way.
-        let mut checkpoint = self.writing().prepare("PRAGMA wal_checkpoint(PASSIVE)")?;
-        Ok(checkpoint.query_row([], |_| Ok(()))?)
+        let moved = "PRAGMA wal_checkpoint(PASSIVE)";
+        log.writing().query_row(moved, [], |_| Ok(()))?;
+        Ok(log)
     }
 
     fn writing(&self) -> &Connection {
@@ -210,11 +201,10 @@ impl SqliteLog {
         // As rows have lines.
         let text = lines.strip_suffix('\n').unwrap_or(lines);
         let sum = log_sum(&self.head.name, first, before, text.as_bytes());
-        let put = if first == at || text.starts_with("opening ") && at == 0 {
-            self.change((epoch, next, sum), |database| work(database, text, sum))
-        } else {
-            Err(LogCut.says(format!("entry {first} where {at} is the next one")))
-        };
+        let is_next = first == at || text.starts_with("opening ") && at == 0;
+        let words = format!("entry {first} where {at} is the next one");
+        let put = LogCut.unless(is_next, words);
+        let put = put.and_then(|()| self.change((epoch, next, sum), |it| work(it, text, sum)));
         put.map_err(|error| {
             let _ = self.writing().execute_batch("ROLLBACK");
             self.broken.insert(io::Error::other(error).into()).clone()
@@ -260,9 +250,9 @@ impl BatchLog for SqliteLog {
 
 impl Drop for SqliteLog {
     fn drop(&mut self) {
-        if self.process.is_some_and(|it| it != process::id()) {
+        if self.process != process::id() {
             mem::forget(self.connections.take());
-        } else if self.process.is_some() && self.broken.is_none() {
+        } else if self.broken.is_none() {
             // The file says that it has no WAL. If that fails, the WAL stays, as if the process had been killed.
             let say = |it: &Connection| it.execute_batch("UPDATE log SET is_open=0");
             if self.change(self.head.end, say).is_ok() {

@@ -1,7 +1,7 @@
 //! Commits that wait for a log together, and what they are told when it fails.
 
 use crate::gated_log::{Gate, GatedLog, Piece, Say};
-use argus_guardian::log::{Logged, LoggedAction, LoggedError};
+use argus_guardian::log::{EntryLines, Logged, LoggedAction, LoggedError, Opening};
 use argus_guardian::{Access, Change, Error, Guardian, ObjId, Refusal, Value};
 use std::sync::Arc;
 use std::sync::mpsc::{Receiver, channel};
@@ -25,6 +25,25 @@ fn until_entries(logged: &Logged, entries: u64) {
     while logged.entries() < entries {
         thread::yield_now();
     }
+}
+
+#[test]
+fn lines_are_whole() {
+    let text = "7 begin_top -> a3\n8 commit a3 -> done\n";
+    let lines = EntryLines::new(7, text.into()).expect("whole lines");
+    assert_eq!((lines.first, lines.next, &lines.text[..]), (7, 9, text));
+    assert_eq!(EntryLines::new(7, "7 begin_top -> a3".into()), None);
+    let text = "opening entries 4 actions 1\n";
+    let opening = Opening::new(4, text.into()).expect("whole lines");
+    assert_eq!((opening.next, &opening.text[..]), (4, text));
+    assert_eq!(Opening::new(4, "opening".into()), None);
+}
+
+#[test]
+fn what_is_in_doubt_says_why() {
+    let failure = std::io::Error::other("no disk").into();
+    let words = LoggedError::InDoubt(failure).to_string();
+    assert_eq!(words, "in doubt: the log couldn't be written: no disk");
 }
 
 #[test]

@@ -6,8 +6,8 @@ use crate::leading::begins_opening;
 use crate::ledger::Ledger;
 use crate::node::Node;
 use crate::replica::{options, sum_of};
-use argus_guardian::Listing;
-use argus_guardian::log::{BatchLog, EntryLines, Failure, Logged, Opening, Recovery};
+use argus_guardian::log::{BatchLog, EntryLines, Failure, Logged, Opening};
+use argus_guardian::{Listing, Resumption};
 use argus_guardian_etcd::EtcdLog;
 use std::collections::BTreeSet;
 use std::io::{Error, ErrorKind};
@@ -198,7 +198,7 @@ impl Hosts {
 
     // The bank, made of the log as it is read now.
     fn read_anew(&self) -> Logged {
-        let mut recovery = Recovery::new().expect("made");
+        let mut resumption = Resumption::new().expect("made");
         let endpoints = self
             .cluster
             .nodes
@@ -207,12 +207,12 @@ impl Hosts {
         let options = options(endpoints.collect());
         EtcdLog::read(&options, |batch| {
             if begins_opening(batch) {
-                recovery = Recovery::new().expect("made");
+                resumption = Resumption::new().expect("made");
             }
-            recovery.take(batch.lines)
+            resumption.take_whole(batch.lines)
         })
         .expect("whole");
-        let guardian = recovery.into_guardian().expect("made");
+        let guardian = resumption.into_whole().expect("made");
         Logged::over(guardian, Box::new(ReadOnlyLog), LONG)
     }
 }
