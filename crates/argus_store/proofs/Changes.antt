@@ -1,8 +1,10 @@
 -- What a statement that changed rows of a log has done.
 use Rattle.std.proofs.Common.{◌≡◌, ◌⊎◌, inl, inr, ℕ, ℤ, pos, List, [], ◌∷◌, ◌++◌, arith, map, length, Bool, true, false}
-use Rattle.std.proofs.Common.{◌&&◌, cond, Some, None, Ok, Err, Result, refl, sym, ap, subst, ◌∙◌, Ordering, Less, Equal}
-use Rattle.std.proofs.Common.{Greater, is_eq, int_cmp, true≢false, unwrap_or, IsPermutation}
-use Rattle.std.proofs.{lemmas.List.Sorted.length_permutation, lemmas.Cmp.{int_ranked, tied_itself, int_cmp_total}}
+use Rattle.std.proofs.Common.{◌&&◌, cond, Some, None, Ok, Err, Result, refl, sym, ap, ap₂, subst, ◌∙◌, Ordering, Less}
+use Rattle.std.proofs.Common.{Equal, Greater, is_eq, int_cmp, true≢false, unwrap_or, IsPermutation}
+use Rattle.std.proofs.{lemmas.List.Sorted.length_permutation, lemmas.Map.Lookups.exact_bytes}
+use Rattle.std.proofs.lemmas.Cmp.{int_ranked, tied_itself, int_cmp_total, nat_list_cmp_total}
+use Rattle.std.specs.{Cmp.Lexicographic.slice_cmp, Ordering.nat_cmp}
 use Rattle.sqlite.specs.{declared.types.Value.Value, declared.types.Value.TheVariants.{Null, Int, Text}, Order.Row}
 use Rattle.sqlite.specs.{Collation.TheVariants.Binary, Ops.{unary, binary, is_true, from_truth}, Program.overlay}
 use Rattle.sqlite.specs.{Kind.TheVariants.Integer, Source.TheVariants.Values, Command.TheVariants.{Insert, Update}}
@@ -13,7 +15,7 @@ use Rattle.sqlite_sql.specs.{declared.ops.BinaryOp.TheVariants.Compare, declared
 use Rattle.sqlite_schema.specs.declared.schema.Keys.TheVariants.{Enforced}
 use Rattle.sqlite_rules.specs.Calls.{ids_of}
 use Rattle.sqlite.proofs.Callers.{statement_of, runs_as, one_step, one_permutation}
-use Rattle.sqlite_value.proofs.OrderLemmas.{value_cmp-Int}
+use Rattle.sqlite_value.proofs.OrderLemmas.{value_cmp-Int, value_cmp-Text}
 use Rattle.argus_store.specs.{Tables.{log_table, batch_table, log_schema}, Appending.{move_text, put_text, move_row}}
 use Rattle.argus_store.specs.Journal.{Batch, Journal, ending_at, batch_row, shown_batch, log_row, HoldsRows, AreBelow}
 use Rattle.argus_store.proofs.Statements.{move_query, move_program, move_is, move_plain, put_terms, put_is, put_plain}
@@ -89,14 +91,31 @@ puts old new j b count has rows below h =
 
 -- ---- the log's end is moved
 
+read_truth : (b : Bool) → is_true (from_truth (Some b)) ≡ b
+read_truth true = refl
+read_truth false = refl
+
 -- WHERE keeps the row whose next entry is this one
 equal_test : (m n : ℤ) → is_true (binary (Compare Eq Binary) (Int m) (Int n)) ≡ is_eq (int_cmp m n)
 unfolding binary
-equal_test m n = rw (value_cmp-Int m n) (read (is_eq (int_cmp m n)))
-  where
-    read : (b : Bool) → is_true (from_truth (Some b)) ≡ b
-    read true = refl
-    read false = refl
+equal_test m n = rw (value_cmp-Int m n) (read_truth (is_eq (int_cmp m n)))
+
+same_text_test : (xs ys : List ℕ) → is_true (binary (Compare Eq Binary) (Text xs) (Text ys))
+    ≡ is_eq (slice_cmp nat_cmp xs ys)
+unfolding binary
+same_text_test xs ys = rw (value_cmp-Text xs ys) (read_truth (is_eq (slice_cmp nat_cmp xs ys)))
+
+-- what a statement takes for the log's end: its name, the next entry and the last sum
+pub record Place : Type 0 where
+  pub name : List ℕ
+  pub next : ℤ
+  pub sum : ℤ
+
+abbrev pub place_of : Journal → Place
+place_of j = record { name = j.name; next = j.next; sum = j.sum }
+
+abbrev pub place_before : List ℕ → ℤ → Batch → Place
+place_before name before b = record { name = name; next = b.first; sum = before }
 
 -- the row of `log` as the UPDATE gives it, behind its old key
 abbrev moved_row : Journal → Batch → ℤ → Row
@@ -106,19 +125,31 @@ moved_row j b next = Int (pos 0) ∷ Int (pos 0) ∷ Null ∷ Text j.name ∷ Te
 abbrev moved_output : Journal → Batch → ℤ → Output
 moved_output j b next = ([], moved_row j b next)
 
-abbrev fits : Journal → Batch → Bool
-fits j b = is_eq (int_cmp j.next b.first)
+-- the three tests
+abbrev fits : Journal → Place → Bool
+fits j e = is_eq (int_cmp j.next e.next)
+    && (is_eq (int_cmp j.sum e.sum) && is_eq (slice_cmp nat_cmp j.name e.name))
 
-abbrev before : Journal → Batch → ℤ → List Row
-before j b next = move_row b.first b.sum next ∷ log_row j ∷ []
+abbrev pub given_row : Place → Batch → ℤ → Row
+given_row e b next = move_row e.name e.next e.sum b.sum next
 
-outputs : (all : Trees) (j : Journal) (b : Batch) (next : ℤ) → all 0 ≡ log_row j ∷ []
-    → map (output move_query) (matches_as Null all move_query.filter (inner 0 end) (move_row b.first b.sum next ∷ []))
-    ≡ cond (fits j b) (moved_output j b next ∷ []) []
-outputs all j b next log =
-    rw (log, equal_test j.next b.first) (elim (fits j b) as (λ t. map (output move_query)
-    (cond (t && true) (before j b next ∷ []) [] ++ []) ≡ cond t (moved_output j b next ∷ []) [])
-    [ true ↦ refl | false ↦ refl ])
+abbrev before : Journal → Place → Batch → ℤ → List Row
+before j e b next = given_row e b next ∷ log_row j ∷ []
+
+outputs : (all : Trees) (j : Journal) (e : Place) (b : Batch) (next : ℤ) → all 0 ≡ log_row j ∷ []
+    → map (output move_query) (matches_as Null all move_query.filter (inner 0 end) (given_row e b next ∷ []))
+    ≡ cond (fits j e) (moved_output j b next ∷ []) []
+outputs all j e b next log =
+    rw (log, equal_test j.next e.next, equal_test j.sum e.sum, same_text_test j.name e.name)
+    (each (is_eq (int_cmp j.next e.next)) (is_eq (int_cmp j.sum e.sum)) (is_eq (slice_cmp nat_cmp j.name e.name)))
+  where
+    each : (s t u : Bool) → map (output move_query)
+        (cond (s && (t && (u && true))) (before j e b next ∷ []) [] ++ [])
+        ≡ cond (s && (t && u)) (moved_output j b next ∷ []) []
+    each true true true = refl
+    each true true false = refl
+    each true false u = refl
+    each false t u = refl
 
 one_or_none : (t : Bool) (o : Output) (kept ordered : List Output) → kept ≡ cond t (o ∷ []) []
     → IsPermutation kept ordered → ordered ≡ cond t (o ∷ []) []
@@ -131,17 +162,17 @@ one_or_none false o kept (x ∷ more) is same = absurd (omega (
       is,
 ))
 
-abbrev paged : Batch → ℤ → List Output → List Row
-paged b next os = page move_query (move_row b.first b.sum next) (map (λ (p : Output). p.1) os)
+abbrev paged : Place → Batch → ℤ → List Output → List Row
+paged e b next os = page move_query (given_row e b next) (map (λ (p : Output). p.1) os)
 
-found : (all : Trees) (j : Journal) (b : Batch) (next : ℤ) (given : List Row) → all 0 ≡ log_row j ∷ []
-    → IsAnswer move_query all (move_row b.first b.sum next) given
-    → given ≡ cond (fits j b) (moved_row j b next ∷ []) []
-found all j b next given log a =
-    let kept = a.distinct ∙ ap (map (output move_query)) a.grouped ∙ outputs all j b next log in
-    let ordered = one_or_none (fits j b) (moved_output j b next) a.kept a.ordered kept a.same in
-    a.shown ∙ ap (paged b next) ordered
-    ∙ elim (fits j b) as (λ t. paged b next (cond t (moved_output j b next ∷ []) [])
+found : (all : Trees) (j : Journal) (e : Place) (b : Batch) (next : ℤ) (given : List Row) → all 0 ≡ log_row j ∷ []
+    → IsAnswer move_query all (given_row e b next) given
+    → given ≡ cond (fits j e) (moved_row j b next ∷ []) []
+found all j e b next given log a =
+    let kept = a.distinct ∙ ap (map (output move_query)) a.grouped ∙ outputs all j e b next log in
+    let ordered = one_or_none (fits j e) (moved_output j b next) a.kept a.ordered kept a.same in
+    a.shown ∙ ap (paged e b next) ordered
+    ∙ elim (fits j e) as (λ t. paged e b next (cond t (moved_output j b next ∷ []) [])
     ≡ cond t (moved_row j b next ∷ []) []) [ true ↦ refl | false ↦ refl ]
 
 -- the rows after a step on `log`
@@ -174,24 +205,47 @@ equal_only Less h = absurd (true≢false (sym h))
 equal_only Equal h = refl
 equal_only Greater h = absurd (true≢false (sym h))
 
-same_entry : (m n : ℤ) → is_eq (int_cmp m n) ≡ true → n ≡ m
-same_entry m n h = sym (int_ranked m n Equal (sym (equal_only (int_cmp m n) h)))
+same_number : (m n : ℤ) → is_eq (int_cmp m n) ≡ true → n ≡ m
+same_number m n h = sym (int_ranked m n Equal (sym (equal_only (int_cmp m n) h)))
+
+same_text : (xs ys : List ℕ) → is_eq (slice_cmp nat_cmp xs ys) ≡ true → ys ≡ xs
+same_text xs ys h = sym (exact_bytes xs ys (equal_only (slice_cmp nat_cmp xs ys) h))
+
+both_true : (s t : Bool) → s && t ≡ true → (s ≡ true) × (t ≡ true)
+both_true true true h = (refl, refl)
+both_true true false h = absurd (true≢false (sym h))
+both_true false t h = absurd (true≢false (sym h))
+
+same_place : (j : Journal) (e : Place) → fits j e ≡ true → e ≡ place_of j
+same_place j e h =
+    let one = both_true _ _ h in
+    let two = both_true _ _ one.1 in
+    ap (λ name. record e { name = name }) (same_text j.name e.name two.1)
+    ∙ ap₂ (λ next sum. record { name = j.name; next = next; sum = sum }) (same_number j.next e.next one.0)
+    (same_number j.sum e.sum two.0)
+
+fits_itself : (j : Journal) → fits j (place_of j) ≡ true
+fits_itself j = rw (
+  tied_itself int_cmp_total j.next,
+  tied_itself int_cmp_total j.sum,
+  tied_itself nat_list_cmp_total j.name,
+) refl
 
 -- what the UPDATE did, whatever it counted
-record Step (old new : State) (j : Journal) (b : Batch) (next : ℤ) (count : ℕ) : Type 0 where
+record Step (old new : State) (j : Journal) (e : Place) (b : Batch) (next : ℤ) (count : ℕ) : Type 0 where
   given : List Row
-  is : given ≡ cond (fits j b) (moved_row j b next ∷ []) []
+  is : given ≡ cond (fits j e) (moved_row j b next ∷ []) []
   one : count ≡ length (edit_of old.now.trees log_table (ids_of given) Given 1 given).news
   schema : new.now.schema ≡ log_schema
   applies : Applies log_schema Enforced old.now.trees (edit_of old.now.trees log_table (ids_of given) Given 1 given)
       new.now.trees
 
-steps : (old new : State) (j : Journal) (b : Batch) (next : ℤ) (count : ℕ) → old.now.schema ≡ log_schema
+steps : (old new : State) (j : Journal) (e : Place) (b : Batch) (next : ℤ) (count : ℕ) → old.now.schema ≡ log_schema
     → HoldsRows old.now.trees j
-    → Executes move_text (move_row b.first b.sum next) old new (Ok count) → Step old new j b next count
-steps old new j b next count has rows h =
+    → Executes move_text (given_row e b next) old new (Ok count) → Step old new j e b next count
+steps old new j e b next count has rows h =
     let db = old.now.trees in
-    let params = move_row b.first b.sum next in
+    let params = given_row e b next in
     let text = statement_of move_text (understood log_schema move_text) in
     let w = runs_as move_text params old new log_schema has (Update 0 move_program) move_is move_plain count h in
     let done = went (subst (λ s. Does old.step_limit (mode_of old) params (record old.now { schema = s }) text None
@@ -208,41 +262,41 @@ steps old new j b next count has rows h =
     ∙ ap (λ (it : Written). Some (length it.rows)) whole in
     record {
       given = given.0;
-      is = found (overlay db []) j b next given.0 rows.log (given.1.answer Null);
+      is = found (overlay db []) j e b next given.0 rows.log (given.1.answer Null);
       one = w.counted ∙ ap (λ o. unwrap_or o 0) counted;
       schema = ap (λ (p : Tally × Database). p.1.schema) last;
       applies = subst (Applies log_schema Enforced db edit) (sym all) applied;
     }
 
 -- the row that was changed fits
-decided : (t : Bool) (old new : State) (j : Journal) (b : Batch) (next : ℤ) (it : Step old new j b next 1) → fits j b
+decided : (t : Bool) (old new : State) (j : Journal) (e : Place) (b : Batch) (next : ℤ) (it : Step old new j e b next 1) → fits j e
     ≡ t → it.given ≡ cond t (moved_row j b next ∷ []) []
-    → HoldsRows old.now.trees j → (b.first ≡ j.next) × HoldsRows new.now.trees (ending_at j next b.sum)
-decided true old new j b next it e is rows = (
-  same_entry j.next b.first e,
+    → HoldsRows old.now.trees j → (e ≡ place_of j) × HoldsRows new.now.trees (ending_at j next b.sum)
+decided true old new j e b next it fit is rows = (
+  same_place j e fit,
   move_rows old.now.trees new.now.trees j b
       next it.given is rows it.applies,
 )
-decided false old new j b next it e is rows =
+decided false old new j e b next it fit is rows =
     let none : length (edit_of old.now.trees log_table (ids_of it.given) Given 1 it.given).news
     ≡ 0 = ap (λ all. length (edit_of old.now.trees log_table (ids_of all) Given 1 all).news) is in
     absurd (omega (arith, it.one, none))
 
-pub moves : (old new : State) (j : Journal) (b : Batch) (next : ℤ) → old.now.schema ≡ log_schema
+pub moves : (old new : State) (j : Journal) (e : Place) (b : Batch) (next : ℤ) → old.now.schema ≡ log_schema
     → HoldsRows old.now.trees j
-    → Executes move_text (move_row b.first b.sum next) old new (Ok 1)
-    → (b.first ≡ j.next) × (new.now.schema ≡ log_schema) × HoldsRows new.now.trees (ending_at j next b.sum)
-moves old new j b next has rows h =
-    let it = steps old new j b next 1 has rows h in
-    let both = decided (fits j b) old new j b next it refl it.is rows in
+    → Executes move_text (given_row e b next) old new (Ok 1)
+    → (e ≡ place_of j) × (new.now.schema ≡ log_schema) × HoldsRows new.now.trees (ending_at j next b.sum)
+moves old new j e b next has rows h =
+    let it = steps old new j e b next 1 has rows h in
+    let both = decided (fits j e) old new j e b next it refl it.is rows in
     (both.0, it.schema, both.1)
 
 -- the row that fits is changed
-pub counts : (old new : State) (j : Journal) (b : Batch) (next : ℤ) (count : ℕ) → old.now.schema ≡ log_schema
+pub counts : (old new : State) (j : Journal) (e : Place) (b : Batch) (next : ℤ) (count : ℕ) → old.now.schema ≡ log_schema
     → HoldsRows old.now.trees j
-    → Executes move_text (move_row b.first b.sum next) old new (Ok count) → b.first ≡ j.next → count ≡ 1
-counts old new j b next count has rows h at =
-    let it = steps old new j b next count has rows h in
-    let fit : fits j b ≡ true = ap (λ n. is_eq (int_cmp j.next n)) at ∙ ap is_eq (tied_itself int_cmp_total j.next) in
+    → Executes move_text (given_row e b next) old new (Ok count) → e ≡ place_of j → count ≡ 1
+counts old new j e b next count has rows h at =
+    let it = steps old new j e b next count has rows h in
+    let fit : fits j e ≡ true = ap (fits j) at ∙ fits_itself j in
     let is : it.given ≡ moved_row j b next ∷ [] = it.is ∙ ap (λ t. cond t (moved_row j b next ∷ []) []) fit in
     it.one ∙ ap (λ all. length (edit_of old.now.trees log_table (ids_of all) Given 1 all).news) is

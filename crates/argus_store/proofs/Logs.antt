@@ -1,15 +1,16 @@
 -- From one log to the next: what holds of a store after an append, whether it returned or a crash came first.
-use Rattle.std.proofs.Common.{◌≡◌, inl, inr, ℤ, List, [], ◌∷◌, ◌++◌, arith, IsTrue, Bool, true, false, Ok, Err, Result}
-use Rattle.std.proofs.{Common.{IfOk, OnErr, ◌≢◌, int_le, refl, sym, ap, subst, ◌∙◌, Less, int_cmp}, lemmas.Int.ints}
-use Rattle.std.proofs.lemmas.Cmp.{int_cmp_total}
+use Rattle.std.proofs.Common.{◌≡◌, ◌≢◌, ◌≤◌, ◌<◌, ◌+◌, ◌==◌, if◌then◌else◌, inl, inr, ℕ, ℤ, pos, List, [], ◌∷◌, ◌++◌}
+use Rattle.std.proofs.Common.{arith, IsTrue, true, false, fold, sym, ap, ap₂, subst, ◌∙◌, Less, int_cmp}
+use Rattle.std.proofs.{lemmas.Cmp.int_cmp_total, lemmas.Int.ints}
 use Rattle.std.specs.List.{AllByRecursion}
-use Rattle.sqlite.specs.{declared.error.Error.Error, Tree.Trees, Store.Ghosts, Effect.Database, Held.{Held, state}}
-use Rattle.sqlite.specs.State.{State, HasCleanDisk, Survives}
+use Rattle.sqlite.specs.{Tree.Trees, Store.Ghosts, Effect.Database, State.{State, HasCleanDisk, Survives}}
+use Rattle.sqlite.specs.Held.{Held, state}
 use Rattle.sqlite_keyed.proofs.ListLemmas.{all_weaker}
-use Rattle.argus_store.specs.{Tables.log_schema, Store.{HasLog, Leaves, LeavesEither}}
+use Rattle.argus_store.specs.{Tables.log_schema, Store.{HasLog, Leaves, LeavesEither}, Summing.after_line_byte}
 use Rattle.argus_store.specs.Journal.{Batch, Journal, ending_at, with_batch, HoldsRows, HoldsLog, AreBelow, AreRising}
-use Rattle.argus_store.specs.Appending.{Appends, IsElsewhere, IsSettled, IsAsBefore}
-use Rattle.argus_store.proofs.Changes.{moves, puts, counts}
+use Rattle.argus_store.specs.{Appending.{Appends, IsElsewhere, IsSettled}, declared.end.End.End}
+use Rattle.argus_store.specs.End.{EndsAt, end_after}
+use Rattle.argus_store.proofs.Changes.{Place, place_of, place_before, moves, puts, counts}
 
 all_last : {X : Type 0} (P : X → Type 0) (xs : List X) (x : X) → AllByRecursion P xs → P x
     → AllByRecursion P (xs ++ x ∷ [])
@@ -36,28 +37,30 @@ longer db j b next at more up below rows =
           (below_next j.batches b.first next more under) more;
     }
 
-module _ {S : Type 0} (g : Ghosts S) (old : Held S) (j : Journal) (b : Batch) (next : ℤ)
+module _ {S : Type 0} (g : Ghosts S) (old : Held S) (j : Journal) (name : List ℕ) (before : ℤ) (b : Batch) (next : ℤ)
     (was : HasLog (state g old) j) (more : int_cmp b.first next ≡ Less) where
   -- the database that the transaction makes
-  pub appended : (db : Database) → Appends g b next old db → (b.first ≡ j.next) × (db.schema ≡ log_schema)
+  pub appended : (db : Database) → Appends g name before b next old db → (place_before name before b ≡ place_of j)
+      × (db.schema ≡ log_schema)
       × HoldsLog db.trees (with_batch j b next)
   appended db it =
-      let one = moves (state g (record old { in_transaction = true })) (state g it.mid) j b next was.schema
-      was.holds.rows it.moved in
-      let under : AreBelow b.first j.batches = subst (λ n. AreBelow n j.batches) (sym one.0) was.holds.below in
+      let one = moves (state g (record old { in_transaction = true })) (state g it.mid) j
+      (place_before name before b) b next was.schema was.holds.rows it.moved in
+      let at : b.first ≡ j.next = ap (λ (e : Place). e.next) one.0 in
+      let under : AreBelow b.first j.batches = subst (λ n. AreBelow n j.batches) (sym at) was.holds.below in
       let two = puts (state g it.mid) (state g it.last) (ending_at j next b.sum) b it.count one.1 one.2 under it.put
       in
       let rows : HoldsRows db.trees (with_batch j b next) = subst
       (λ (d : Database). HoldsRows d.trees (with_batch j b next)) (sym it.is) two.1 in (
         one.0,
         ap (λ (d : Database). d.schema) it.is ∙ two.0,
-        longer db.trees j b next one.0 more was.holds.rising
+        longer db.trees j b next at more was.holds.rising
             was.holds.below rows,
       )
 
   -- at `Ok`
-  pub acknowledged : (new : State) → Appends g b next old new.committed → IsSettled new → (b.first ≡ j.next)
-      × HasLog new (with_batch j b next)
+  pub acknowledged : (new : State) → Appends g name before b next old new.committed → IsSettled new
+      → (place_before name before b ≡ place_of j) × HasLog new (with_batch j b next)
   acknowledged new it settled =
       let made = appended new.committed it in
       let same = settled.committed in (
@@ -73,7 +76,7 @@ module _ {S : Type 0} (g : Ghosts S) (old : Held S) (j : Journal) (b : Batch) (n
 
   -- whatever was returned, a crash leaves the log from before, or the longer one
   pub crashes : (new : State) → (HasCleanDisk (state g old) → Leaves (state g old) j) → HasCleanDisk new
-      → Survives (state g old) new (λ trees. (db : Database) × Appends g b next old db × (trees ≡ db.trees))
+      → Survives (state g old) new (λ trees. (db : Database) × Appends g name before b next old db × (trees ≡ db.trees))
       → LeavesEither new j (with_batch j b next)
   crashes new kept clean s db left = elim (s.crash clean db left) [
     | inl before ↦ inl (kept (omega (arith, s.clean)) db before)
@@ -97,21 +100,40 @@ unchanged old new j was is_open autocommit now committed = record {
   committed = committed ∙ was.committed ∙ sym now;
 }
 
--- the same of an append that returned no `Ok(true)`
-pub kept_by : (old new : State) (j : Journal) (r : Result Bool Error) → HasLog old j → IsTrue new.is_open
-    → new.in_transaction ≡ false
-    → IfOk r (λ done. done ≡ false → IsAsBefore old new) → OnErr r (IsAsBefore old new) → r ≢ Ok true → HasLog new j
-kept_by old new j (Ok true) was is_open autocommit refused failed other = absurd (other refl)
-kept_by old new j (Ok false) was is_open autocommit refused failed other = unchanged old new j was is_open autocommit
-    (refused refl).now (refused refl).committed
-kept_by old new j (Err e) was is_open autocommit refused failed other = unchanged old new j was is_open autocommit
-    failed.now failed.committed
+at_least : (n : ℕ) (xs : List ℕ) → n ≤ fold after_line_byte n xs
+at_least n [] = omega arith
+at_least n (x ∷ xs) = elim (x == 10) as (λ t. n ≤ fold after_line_byte (if t then n + 1 else n) xs) [
+  | true ↦ omega (arith, at_least (n + 1) xs)
+  | false ↦ at_least n xs
+]
 
-pub has_entry : (first next : ℤ) → int_le next first ≡ false → int_cmp first next ≡ Less
-has_entry first next h = grind (arith, ints)
+-- a batch has an entry
+pub goes_up : (name : List ℕ) (e : End) (lines : List ℕ) (a : End) → a ≡ end_after name e lines → e.next < a.next
+goes_up name e lines a same = omega (arith, at_least 1 lines, ap (λ (a : End). a.next) same)
+
+pub longer_by : (name : List ℕ) (e : End) (lines : List ℕ) (a : End) → a ≡ end_after name e lines
+    → int_cmp (pos e.next) (pos a.next) ≡ Less
+longer_by name e lines a same = let more = goes_up name e lines a same in grind (arith, ints)
+
+-- the log ends where the append says
+pub ends_at : (j : Journal) (name : List ℕ) (e : End) (b : Batch) → place_before name (pos e.sum) (record b {
+  first =
+      pos e.next;
+}) ≡ place_of j → EndsAt j name e
+ends_at j name e b same = record {
+  name_is = sym (ap (λ (p : Place). p.name) same);
+  next_is = sym (ap (λ (p : Place). p.next) same);
+  sum_is = sym (ap (λ (p : Place). p.sum) same);
+}
+
+pub place_at : (j : Journal) (name : List ℕ) (e : End) (b : Batch) → EndsAt j name e
+    → place_before name (pos e.sum) (record b { first = pos e.next }) ≡ place_of j
+place_at j name e b at =
+    ap (λ name. place_before name (pos e.sum) (record b { first = pos e.next })) (sym at.name_is)
+    ∙ ap₂ (λ next sum. place_before j.name sum (record b { first = next })) (sym at.next_is) (sym at.sum_is)
 
 -- the log's end stood elsewhere
-pub elsewhere : {S : Type 0} (g : Ghosts S) (old : Held S) (j : Journal) (b : Batch) (next : ℤ)
-    → HasLog (state g old) j → IsElsewhere g b next old → b.first ≢ j.next
-elsewhere g old j b next was it at = it.other (counts (state g (record old { in_transaction = true }))
-    (state g it.mid) j b next it.count was.schema was.holds.rows it.moved at)
+pub elsewhere : {S : Type 0} (g : Ghosts S) (old : Held S) (j : Journal) (name : List ℕ) (before : ℤ) (b : Batch)
+    (next : ℤ) → HasLog (state g old) j → IsElsewhere g name before b next old → place_before name before b ≢ place_of j
+elsewhere g old j name before b next was it at = it.other (counts (state g (record old { in_transaction = true }))
+    (state g it.mid) j (place_before name before b) b next it.count was.schema was.holds.rows it.moved at)

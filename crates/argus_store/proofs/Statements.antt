@@ -14,7 +14,8 @@ use Rattle.argus_store.specs.{Tables.log_schema, Appending.{move_text, put_text}
 abbrev pub move_query : Query
 move_query = record {
   from = inner 0 end;
-  filter = op2 (Compare Eq Binary) (col 1 6) (col 0 2) ∷ [];
+  filter = op2 (Compare Eq Binary) (col 1 6) (col 0 2) ∷ op2 (Compare Eq Binary) (col 1 7) (col 0 3)
+      ∷ op2 (Compare Eq Binary) (col 1 2) (col 0 4) ∷ [];
   group = None;
   project = col 1 0 ∷ col 1 0 ∷ lit Null ∷ col 1 2 ∷ col 1 3 ∷ col 1 4 ∷ col 1 5 ∷ col 0 0 ∷ col 0 1 ∷ [];
   distinct = false;

@@ -49,10 +49,6 @@ with_batch j b next = record (ending_at j next b.sum) { batches = j.batches ++ b
 abbrev pub a_batch : ℤ → List ℕ → ℤ → Batch
 a_batch first lines sum = record { first = first; lines = lines; sum = sum }
 
--- the log with them behind it, after which this entry comes next
-abbrev pub with_lines : Journal → ℤ → List ℕ → ℤ → ℤ → Journal
-with_lines j first lines sum next = with_batch j (a_batch first lines sum) next
-
 -- a batch as its row is kept, whose key stands in front; and as the row is shown
 abbrev pub batch_row : Batch → Row
 batch_row b = Int b.first ∷ Null ∷ Words b.lines ∷ Int b.sum ∷ []

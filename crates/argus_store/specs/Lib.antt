@@ -4,3 +4,4 @@ pub mod Store
 pub mod Appending
 pub mod Making
 pub mod Summing
+pub mod End

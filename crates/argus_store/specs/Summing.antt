@@ -1,5 +1,5 @@
 -- The sum of a batch, as docs/DURABLE.md has it.
-use Rattle.std.specs.Prelude.{ℕ, ◌%◌, ◌/◌, ◌==◌, if◌then◌else◌, bit_xor, fold, decimal, codes, List, ◌++◌}
+use Rattle.std.specs.Prelude.{ℕ, ◌%◌, ◌/◌, ◌==◌, if◌then◌else◌, bit_xor, fold, decimal, codes, List, ◌++◌, ◌+◌}
 
 -- the last bit goes out, and if it is 1 the polynomial is taken off
 unfoldable pub shifted : ℕ → ℕ
@@ -18,3 +18,11 @@ crc32 bytes = bit_xor (fold after_byte 0xffffffff bytes) 0xffffffff
 abbrev pub log_sum : List ℕ → ℕ → ℕ → List ℕ → ℕ
 log_sum name first before lines =
     crc32 (name ++ codes " " ++ decimal first ++ codes " " ++ decimal before ++ codes "\n" ++ lines)
+
+-- one more, if the byte ends a line
+abbrev pub after_line_byte : ℕ → ℕ → ℕ
+after_line_byte count byte = if byte == 10 then count + 1 else count
+
+-- how many lines there are, each of which but the last ends in a line feed
+abbrev pub entries_in : List ℕ → ℕ
+entries_in = fold after_line_byte 1

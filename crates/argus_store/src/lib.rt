@@ -3,11 +3,11 @@
 #![tactic(auto)]
 
 mod appending;
+mod end;
 mod making;
 mod store;
 mod summing;
-#[cfg(test)]
-mod tests;
 
+pub use end::End;
 pub use store::Store;
 pub use summing::log_sum;

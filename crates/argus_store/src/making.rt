@@ -1,6 +1,6 @@
 //! Makes the tables of a log, in one transaction.
 
-ghost use Rattle.std.specs.Prelude.{◌≡◌, ◌≢◌, ◌↔◌, IsTrue, IfOk, false};
+ghost use Rattle.std.specs.Prelude.{◌≡◌, ◌≢◌, ◌↔◌, IsTrue, IfOk, false, pos};
 ghost use Rattle.sqlite.specs.{State.{HasCleanDisk, Survives, ExecutesInside}, Held.state};
 ghost use Rattle.argus_store.specs.{Tables.no_schema, Journal.new_journal, Store.HasLog};
 ghost use Rattle.argus_store.specs.Making.{begin_row, begin_text};
@@ -20,19 +20,19 @@ fn begin<S: Alter>(
     tx: &mut Transaction<'_, S>,
     name: &str,
     version: &str,
-    sum: i64,
+    sum: u32,
 ) -> Result<usize, Error>
     ensures same_reference { tx.new.conn.ghost_name ≡ tx.old.conn.ghost_name }
     ensures runs { HasCleanDisk (state S.Store tx.new.conn.now)
         → IsTrue (state S.Store tx.old.conn.now).in_transaction
-        → ExecutesInside 0 begin_text (begin_row name.now version.now sum)
+        → ExecutesInside 0 begin_text (begin_row name.now version.now (pos sum))
         (state S.Store tx.old.conn.now) (state S.Store tx.new.conn.now) result }
     ensures survives { Survives
         (state S.Store tx.old.conn.now) (state S.Store tx.new.conn.now) (λ _. ⊥) }
 {
     tx.execute(
         "INSERT INTO log VALUES (0, ?1, ?2, 0, 0, 0, ?3)",
-        params![name, version, sum],
+        params![name, version, i64::from(sum)],
     )
 }
 
@@ -41,10 +41,10 @@ pub(crate) fn make<S: Alter>(
     conn: &mut Connection<S>,
     name: &str,
     version: &str,
-    sum: i64,
+    sum: u32,
 ) -> Result<bool, Error>
     ensures made { HasCleanDisk (state S.Store conn.new) → IfOk result (λ done. IsTrue done
-        → HasLog (state S.Store conn.new) (new_journal name.now version.now sum)) }
+        → HasLog (state S.Store conn.new) (new_journal name.now version.now (pos sum))) }
     ensures refused { conn.old.in_transaction ≡ false
         → IfOk result (λ done. done ≡ false → conn.old.schema ≢ no_schema) }
 {

@@ -1,13 +1,14 @@
 //! `Store`: a guardian's log in a SQLite database.
 
-ghost use Rattle.std.specs.Prelude.{◌≡◌, ◌≢◌, ◌⊎◌, ◌≤ℤ◌, IfOk, IfSome, IsTrue, None, Ok, false};
-ghost use Rattle.std.specs.Prelude.{map, true};
+ghost use Rattle.std.specs.Prelude.{◌≡◌, ◌≢◌, ◌⊎◌, ◌≤◌, IfOk, IfSome, IsErr, IsSome, IsTrue, None};
+ghost use Rattle.std.specs.Prelude.{Ok, map, pos, false};
 ghost use Rattle.sqlite.specs.{State.HasCleanDisk, Held.state, Files.file_state, View.IsClean};
 ghost use Rattle.sqlite.specs.{FileStore.view, WalFiles.image_at};
-ghost use Rattle.argus_store.specs.Tables.{no_schema};
-ghost use Rattle.argus_store.specs.Journal.{Journal, new_journal, with_lines, shown_batch};
+ghost use Rattle.argus_store.specs.{Tables.no_schema, Journal.{Journal, new_journal, shown_batch}};
+ghost use Rattle.argus_store.specs.End.{EndsAt, end_after, end_of_new, with_lines};
 ghost use Rattle.argus_store.specs.Store.{HasLog, Leaves, LeavesEither, FilesHold, Keeps};
 
+use crate::end::End;
 use crate::{appending, making};
 use sqlite::{Alter, Connection, Error, FileFrom, FileStore, Row, Start};
 use sqlite_disk::Disk;
@@ -37,60 +38,65 @@ impl<S: Alter> Model for Store<S> {
 }
 
 impl<S: Alter> Store<S> {
-    /// Makes a log in an empty database: its tables, and whose log it is. `sum` is the sum of an
-    /// opening with no line. `None` if the database has a table, an index or a view.
+    /// Makes a log in an empty database: its tables, and whose log it is. `None` if the database has
+    /// a table, an index or a view. The log ends at `End::of_new`.
     pub fn create(
         mut conn: Connection<S>,
         name: &str,
         version: &str,
-        sum: i64,
     ) -> Result<Option<Store<S>>, Error>
     where
         S: Drop,
         ensures made { IfOk result (λ made. IfSome made (λ store. HasCleanDisk (state S.Store store)
-            → HasLog (state S.Store store) (new_journal name.now version.now sum))) }
+            → HasLog (state S.Store store) (new_journal name.now version.now (pos (end_of_new name.now).sum)))) }
         ensures durable { IfOk result (λ made. IfSome made (λ store. HasCleanDisk (state S.Store store)
-            → Leaves (state S.Store store) (new_journal name.now version.now sum))) }
+            → Leaves (state S.Store store) (new_journal name.now version.now (pos (end_of_new name.now).sum)))) }
         ensures refused { conn.in_transaction ≡ false
             → IfOk result (λ made. made ≡ None → conn.schema ≢ no_schema) }
     {
-        if making::make(&mut conn, name, version, sum)? {
+        if making::make(&mut conn, name, version, End::of_new(name).sum)? {
             Ok(Some(Store { conn }))
         } else {
             Ok(None)
         }
     }
 
-    /// Appends the lines of a journal from entry `first` on, with their sum, after which the entry
-    /// `next` comes. `Ok(true)`: they are in the log, and each crash from now on leaves them there.
-    /// `Ok(false)`: another entry comes next in the log, or they have no entry, and nothing changed.
+    /// Appends lines of a journal's entries to the log of this name, which ends there. `Some`: they
+    /// are in the log, which ends there now, and each crash from now on leaves them there. `None`: the
+    /// log has another name or another end, or its number would be too large, and nothing changed.
     /// At an error the log is as before, if it is still open. A crash leaves the log from before or
     /// the longer one: the clause says so of the call's end, and that it holds at each moment of the
     /// call is the kit's argument (sqlite_wal).
-    pub fn append(&mut self, first: i64, lines: &str, sum: i64, next: i64) -> Result<bool, Error>
+    pub fn append(&mut self, name: &str, end: End, lines: &str) -> Result<Option<End>, Error>
+        ensures end { IfOk result (λ made. IfSome made (λ e. e ≡ end_after name.now end lines.now)) }
         ensures appended { (j : Journal) → HasLog (state S.Store self.old) j
             → HasCleanDisk (state S.Store self.new)
-            → IfOk result (λ done. IsTrue done → (first ≡ j.next)
-            × HasLog (state S.Store self.new) (with_lines j first lines.now sum next)) }
+            → IfOk result (λ made. IsSome made → EndsAt j name.now end
+            × HasLog (state S.Store self.new) (with_lines j name.now end lines.now)) }
         ensures durable { (j : Journal) → HasLog (state S.Store self.old) j
             → HasCleanDisk (state S.Store self.new)
-            → IfOk result (λ done. IsTrue done
-            → Leaves (state S.Store self.new) (with_lines j first lines.now sum next)) }
+            → IfOk result (λ made. IsSome made
+            → Leaves (state S.Store self.new) (with_lines j name.now end lines.now)) }
         ensures kept { (j : Journal) → HasLog (state S.Store self.old) j
-            → HasCleanDisk (state S.Store self.new)
-            → IsTrue (state S.Store self.new).is_open → result ≢ Ok true
-            → HasLog (state S.Store self.new) j }
+            → HasCleanDisk (state S.Store self.new) → IsTrue (state S.Store self.new).is_open
+            → (result ≡ Ok None) ⊎ IsErr result → HasLog (state S.Store self.new) j }
         ensures refused { (j : Journal) → HasLog (state S.Store self.old) j
             → HasCleanDisk (state S.Store self.new)
-            → IfOk result (λ done. done ≡ false → (first ≢ j.next) ⊎ (next ≤ℤ first)) }
+            → result ≡ Ok None → ¬ EndsAt j name.now end
+            ⊎ (9223372036854775808 ≤ (end_after name.now end lines.now).next) }
         ensures crash { (j : Journal) → HasLog (state S.Store self.old) j
             → HasCleanDisk (state S.Store self.new)
-            → LeavesEither (state S.Store self.new) j (with_lines j first lines.now sum next) }
+            → LeavesEither (state S.Store self.new) j (with_lines j name.now end lines.now) }
     {
-        if next <= first {
-            return Ok(false);
+        let Some(after) = end.after(name, lines) else {
+            return Ok(None);
+        };
+        let (first, next) = (end.next as i64, after.next as i64);
+        if appending::append(&mut self.conn, name, first, end.sum, lines, after.sum, next)? {
+            Ok(Some(after))
+        } else {
+            Ok(None)
         }
-        appending::append(&mut self.conn, first, lines, sum, next)
     }
 
     /// The batches in the order of their entries, each as its number, its lines and its sum.

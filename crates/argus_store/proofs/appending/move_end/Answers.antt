@@ -1,8 +1,23 @@
-use Rattle.std.proofs.Common.{to_z-of_z}
+use Rattle.std.proofs.{Common.{to_z-of_z, arith, w64}, lemmas.Int.to_z_pos}
 use Rattle.argus_store.proofs.appending.move_end.Goals as goal
 
 pub returns-clause-runs : goal.returns-clause-runs
 returns-clause-runs g c clean inside =
-    simp (to_z-of_z, c.ranges.first, c.ranges.sum, c.ranges.next) at
-    (rw (c.params-to_sql.ensures, c.params-to_sql-2.ensures, c.params-to_sql-3.ensures) at
+    simp (
+      to_z-of_z,
+      c.ranges.first,
+      c.ranges.next,
+      c.from.ensures,
+      c.from-2.ensures,
+      to_z_pos w64 c.args.sum
+          (omega (arith, c.ranges.sum)),
+      to_z_pos w64 c.args.before (omega (arith, c.ranges.before)),
+    ) at
+    (rw (
+      c.params-to_sql.ensures,
+      c.params-to_sql-2.ensures,
+      c.params-to_sql-3.ensures,
+      c.params-to_sql-4.ensures,
+      c.params-to_sql-5.ensures,
+    ) at
     (c.execute.ensures.runs clean inside))

@@ -1,4 +1,4 @@
-use Rattle.std.proofs.Common.{◌≡◌, subst, arith, rules, to_z-of_z}
+use Rattle.std.proofs.Common.{◌≡◌, pos, subst, arith, rules}
 use Rattle.sqlite.specs.{State.HasCleanDisk, Held.state}
 use Rattle.argus_store.specs.{Tables.no_schema, Journal.new_journal, Store.HasLog}
 use Rattle.argus_store.proofs.Makes.{makes, has_new_log}
@@ -32,15 +32,15 @@ returns-clause-made g c clean _ =
     let five = c.in_ok-begin.ensures.runs clean_last four.1.mode in
     let blank : start.schema ≡ no_schema = search rules in
     let made = makes (state g.S.Store start) (state g.S.Store first) (state g.S.Store second) (state g.S.Store third)
-    (state g.S.Store fourth) (state g.S.Store last) c.args.name.now c.args.version.now c.args.sum (
+    (state g.S.Store fourth) (state g.S.Store last) c.args.name.now c.args.version.now (pos c.args.sum) (
       c.in_ok-execute.field-0,
       c.in_ok-execute-2.field-0,
       c.in_ok-execute-3.field-0,
       c.in_ok-execute-4.field-0,
       c.in_ok-begin.field-0,
-    ) blank one.0 two.0 three.0 four.0 (simp (to_z-of_z, c.ranges.sum) at five.0) in
+    ) blank one.0 two.0 three.0 four.0 five.0 in
     let done = (c.in_ok-commit.ensures.ok late).1 in
-    subst (λ h. HasLog (state g.S.Store h) (new_journal c.args.name.now c.args.version.now c.args.sum)) same
+    subst (λ h. HasLog (state g.S.Store h) (new_journal c.args.name.now c.args.version.now (pos c.args.sum))) same
     (has_new_log (state g.S.Store last) (state g.S.Store end)
-    (new_journal c.args.name.now c.args.version.now c.args.sum) made done.is_open done.mode done.now_is
+    (new_journal c.args.name.now c.args.version.now (pos c.args.sum)) made done.is_open done.mode done.now_is
     done.committed_is)

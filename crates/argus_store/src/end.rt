@@ -1,0 +1,61 @@
+//! `End`: where a log ends.
+
+ghost use Rattle.std.specs.Prelude.{◌≡◌, ◌≤◌, IfSome, None};
+ghost use Rattle.argus_store.specs.{Summing.entries_in, End.{end_after, end_of_new}};
+
+use crate::summing::log_sum;
+
+/// Where a log ends: the number of its next entry, and the sum of its last batch.
+#[derive(Clone, Copy, Debug, PartialEq, Eq)]
+pub struct End {
+    pub next: u64,
+    pub sum: u32,
+}
+
+impl End {
+    /// Where a new log of this name ends: nothing was appended to it.
+    pub fn of_new(name: &str) -> End
+        ensures { result ≡ end_of_new name.now }
+    {
+        End {
+            next: 0,
+            sum: log_sum(name, 0, 0, ""),
+        }
+    }
+
+    /// Where a log of this name ends with these lines behind it, each an entry's. `None` if the
+    /// number is one that a database can't hold.
+    ///
+    /// ```text
+    /// End::of_new(name).after(name, "0 begin_top -> a0")
+    /// ```
+    pub fn after(self, name: &str, lines: &str) -> Option<End>
+        ensures some { IfSome result (λ end. (end ≡ end_after name.now self lines.now)
+            × (end.next ≤ 9223372036854775807)) }
+        ensures none { result ≡ None → 9223372036854775808 ≤ (end_after name.now self lines.now).next }
+    {
+        let next = self.next.checked_add(entries_in(lines))?;
+        if next > i64::MAX as u64 {
+            return None;
+        }
+        Some(End {
+            next,
+            sum: log_sum(name, self.next, self.sum, lines),
+        })
+    }
+}
+
+// How many lines there are.
+fn entries_in(lines: &str) -> u64
+    ensures { result ≡ entries_in lines.now }
+{
+    let mut count = 1;
+    let mut bytes = lines.as_bytes();
+    while let [byte, more @ ..] = bytes {
+        if *byte == b'\n' {
+            count += 1;
+        }
+        bytes = more;
+    }
+    count
+}

@@ -1,0 +1,5 @@
+//! Tests of argus_store.
+#![tactic(auto)]
+
+#[cfg(test)]
+mod tests;

@@ -1,0 +1,78 @@
+//! Each public function of argus_store on its happy path, over a file. What works on a store does it
+//! whatever the store is on: a proof for the whole type of one on a file takes ten times as long.
+
+use argus_store::{End, Store};
+use sqlite::{Alter, Connection, Error, FileStore, Row, Unknown};
+use sqlite_disk::Disk;
+use std::fs;
+use std::test::Fail;
+
+const NAME: &str = "0123";
+
+const BEGIN: &str = "0 begin_top -> a0";
+
+const REST: &str = "1 commit a0 -> done\n2 begin_top -> a1";
+
+// A new log that has taken two batches, if it has them.
+fn filled<S: Alter + Drop>(conn: Connection<S>) -> Result<Option<Store<S>>, Error> {
+    match Store::create(conn, NAME, "1")? {
+        Some(mut store) => Ok(if fill(&mut store)? { Some(store) } else { None }),
+        None => Ok(None),
+    }
+}
+
+// Whether both are taken, and read back, and one that doesn't follow refused.
+fn fill<S: Alter>(store: &mut Store<S>) -> Result<bool, Error> {
+    let start = End::of_new(NAME);
+    let Some(end) = store.append(NAME, start, BEGIN)? else {
+        return Ok(false);
+    };
+    let is_last = store.append(NAME, end, REST)? == end.after(NAME, REST);
+    let is_refused = store.append(NAME, end, REST)?.is_none();
+    Ok(end.sum == 0xf401_020e && is_last && is_refused && has_both(store.batches()?.as_slice())?)
+}
+
+fn has_both(rows: &[Row]) -> Result<bool, Error> {
+    match rows {
+        [begin, rest] => Ok(has(begin, BEGIN)? && has(rest, REST)?),
+        _ => Ok(false),
+    }
+}
+
+fn has(row: &Row, lines: &str) -> Result<bool, Error> {
+    let kept: String = row.get(1)?;
+    Ok(kept.as_str() == lines)
+}
+
+fn end<D: Disk + Drop>(made: Option<Store<FileStore<D>>>) -> bool {
+    match made {
+        Some(store) => {
+            drop(store.stop());
+            true
+        }
+        None => false,
+    }
+}
+
+fn make(rt: &HostRuntime, path: &str) -> Result<bool, Error> {
+    Ok(end(filled(Connection::open(rt, path)?)?))
+}
+
+fn open(rt: &HostRuntime, path: &str) -> Result<bool, Error> {
+    Ok(end(kept(Store::open(rt, path, Unknown)?)?))
+}
+
+// The store, if it has both.
+fn kept<S: Alter + Drop>(mut store: Store<S>) -> Result<Option<Store<S>>, Error> {
+    let is_same = has_both(store.batches()?.as_slice())?;
+    Ok(if is_same { Some(store) } else { None })
+}
+
+#[test]
+fn over_a_file(rt: HostRuntime) -> Result<(), Fail> {
+    let _ = fs::remove_file(&rt, "argus_store_test.db");
+    assert!(rt; make(&rt, "argus_store_test.db")?);
+    assert!(rt; open(&rt, "argus_store_test.db")?);
+    fs::remove_file(&rt, "argus_store_test.db")?;
+    Ok(())
+}
