@@ -9,7 +9,7 @@ use crate::telling::{
 };
 use crate::word_reading::{action, first_word, object};
 use argus_guardian::resume_laws::calls_are_well_formed;
-use argus_guardian::{FailStop, Guardian, replay_base, replay_for, resume};
+use argus_guardian::{FailStop, Guardian, Resumed, replay_base, replay_for, resume};
 use argus_journal::owner_of;
 use argus_values::{OutOfMemory, Room};
 
@@ -56,7 +56,8 @@ pub(crate) fn answer_alone(
 
 fn last(setting: Setting) -> Result<Guardian, OutOfMemory> {
     let mut reader = FailStop::new(LAST.as_bytes());
-    Ok(resume(setting.heap, &mut reader)?.guardian)
+    let Resumed { guardian, .. } = resume(setting.heap, &mut reader)?;
+    Ok(guardian)
 }
 
 fn tell_of_journal(

@@ -2,7 +2,7 @@
 //! spells none is `NotSpelled`.
 
 use crate::row_fault::RowFault;
-use argus_guardian::{ReadEntryError, read_entry};
+use argus_guardian::read_entry;
 use argus_journal::{Call, Entry, Refusal, Reply};
 use argus_values::Heap;
 use std::mem;
@@ -25,9 +25,6 @@ fn entry_of(heap: Heap, call: &str, reply: &str) -> Result<Entry, RowFault> {
     line.push_str(call)?;
     line.push_str(" -> ")?;
     line.push_str(reply)?;
-    match read_entry(heap, line.as_str()) {
-        Ok((_, entry)) => Ok(entry),
-        Err(ReadEntryError::Fault(_)) | Err(ReadEntryError::Shape(_)) => Err(RowFault::NotSpelled),
-        Err(ReadEntryError::OutOfMemory) => Err(RowFault::OutOfMemory),
-    }
+    let (_at, entry) = read_entry(heap, line.as_str())?;
+    Ok(entry)
 }

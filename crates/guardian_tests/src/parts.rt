@@ -9,46 +9,54 @@ use argus_journal::{Call, Reply};
 use argus_objects::{Cell, Holdings};
 use argus_values::{Heap, ObjId};
 
+const TOP: ActionId = ActionId(0);
+
+const SUB: ActionId = ActionId(1);
+
+const OTHER: ActionId = ActionId(2);
+
 /// Makes each. An error says what isn't so.
 pub(crate) fn call_parts(heap: Heap) -> Result<()> {
-    let (top, sub, other) = (ActionId(0), ActionId(1), ActionId(2));
+    let tree = tree_of(heap)?;
+    walk(&tree);
+    let is_exclusive = read_lock_excludes(heap, &tree)? && version_excludes(heap, &tree)?;
+    ensure!(is_exclusive, "a lock is free beside another, or none is");
+    ensure!(is_passed_on(heap)?, "a list isn't passed on");
+    ensure!(is_reply_taken(), "a receipt has another reply");
+    Ok(())
+}
+
+// A topaction with a subaction, and another topaction.
+fn tree_of(heap: Heap) -> Result<ActionTree> {
     let mut tree = ActionTree::new(heap);
+    let begun = tree.begin_top() == Ok(TOP) && tree.begin_sub(TOP) == Ok(SUB);
     ensure!(
-        tree.begin_top() == Ok(top) && tree.begin_sub(top) == Ok(sub),
+        begun && tree.begin_top() == Ok(OTHER),
         "an action has another number"
     );
-    ensure!(
-        tree.begin_top() == Ok(other),
-        "a topaction has another number"
-    );
-    tree.subs_in_turn(top);
-    tree.children_in_turn(top);
-    if tree.is_ancestor(top, sub) && tree.status(sub) == Some(Status::Live) {
-        tree.ancestor_is_live(top, sub);
+    Ok(tree)
+}
+
+fn walk(tree: &ActionTree) {
+    tree.subs_in_turn(TOP);
+    tree.children_in_turn(TOP);
+    if tree.is_ancestor(TOP, SUB) && tree.status(SUB) == Some(Status::Live) {
+        tree.ancestor_is_live(TOP, SUB);
     }
-    let mut read = Cell::new(heap, None);
-    grant(&mut read, &tree, other, false)?;
-    ensure!(
-        read.may_read(&tree, sub) && !read.may_write(&tree, sub),
-        "a lock is free beside a reader, or none is"
-    );
-    let mut written = Cell::new(heap, None);
-    grant(&mut written, &tree, sub, true)?;
-    ensure!(
-        written.may_write(&tree, sub) && !written.may_read(&tree, other),
-        "a lock is free beside a version, or none is"
-    );
-    pass_on(heap, sub, top)?;
-    let receipt = Receipt {
-        at: 0,
-        call: Call::BeginTop,
-        reply: Reply::Begun(top),
-    };
-    ensure!(
-        receipt.into_reply() == Reply::Begun(top),
-        "a receipt has another reply"
-    );
-    Ok(())
+}
+
+// Whether an object that the other topaction reads may be read, and not written.
+fn read_lock_excludes(heap: Heap, tree: &ActionTree) -> Result<bool> {
+    let mut cell = Cell::new(heap, None);
+    grant(&mut cell, tree, OTHER, false)?;
+    Ok(cell.may_read(tree, SUB) && !cell.may_write(tree, SUB))
+}
+
+// Whether an object that the subaction writes may be written by it, and not read by others.
+fn version_excludes(heap: Heap, tree: &ActionTree) -> Result<bool> {
+    let mut cell = Cell::new(heap, None);
+    grant(&mut cell, tree, SUB, true)?;
+    Ok(cell.may_write(tree, SUB) && !cell.may_read(tree, OTHER))
 }
 
 // A read lock, or a write lock, in room that is made first.
@@ -66,18 +74,21 @@ fn grant(cell: &mut Cell, tree: &ActionTree, a: ActionId, is_write: bool) -> Res
     Ok(())
 }
 
-// The subaction's list has one object, which its parent then has.
-fn pass_on(heap: Heap, sub: ActionId, parent: ActionId) -> Result<()> {
+// Whether the topaction has the one object of the subaction's list, once that is passed on.
+fn is_passed_on(heap: Heap) -> Result<bool> {
     let mut lists = Holdings::new(heap);
-    lists.reserve(sub)?;
-    lists.note(sub, ObjId(5));
-    lists.reserve_pass(sub, parent)?;
-    if sub.0 != parent.0 {
-        lists.pass(sub, parent);
-    }
-    ensure!(
-        lists.of(sub).is_empty() && lists.of(parent) == [ObjId(5)].as_slice(),
-        "a list isn't passed on"
-    );
-    Ok(())
+    lists.reserve(SUB)?;
+    lists.note(SUB, ObjId(5));
+    lists.reserve_pass(SUB, TOP)?;
+    lists.pass(SUB, TOP);
+    Ok(lists.of(SUB).is_empty() && lists.of(TOP) == [ObjId(5)].as_slice())
+}
+
+fn is_reply_taken() -> bool {
+    let receipt = Receipt {
+        at: 0,
+        call: Call::BeginTop,
+        reply: Reply::Begun(TOP),
+    };
+    receipt.into_reply() == Reply::Begun(TOP)
 }

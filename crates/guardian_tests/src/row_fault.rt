@@ -1,5 +1,6 @@
 //! `RowFault`: why a row has no answer.
 
+use argus_guardian::ReadEntryError;
 use argus_values::OutOfMemory;
 use std::alloc::{AllocError, AllocFailed};
 use std::num::ParseIntError;
@@ -29,6 +30,15 @@ impl RowFault {
             RowFault::OutOfMemory => "out of memory",
             RowFault::Changed => "a refused allocation has changed something",
             RowFault::NeverAnswered => "out of memory, whatever is allowed",
+        }
+    }
+}
+
+impl From<ReadEntryError> for RowFault {
+    fn from(error: ReadEntryError) -> RowFault {
+        match error {
+            ReadEntryError::Fault(_) | ReadEntryError::Shape(_) => RowFault::NotSpelled,
+            ReadEntryError::OutOfMemory => RowFault::OutOfMemory,
         }
     }
 }
