@@ -8,7 +8,7 @@
 
 A check saves each module when it is done, so the time between two files is the later one's. These are seconds on
 the clock: run nothing beside. Where a function is slow, count its locals that own memory: each way out of it drops
-them, and in two functions half of them cost a tenth.
+them. One with six parts took 197 seconds, and as six functions 20.
 """
 
 import collections
