@@ -3,10 +3,12 @@ use Rattle.std.specs.{List.range_with_len, Prelude.{List, Option, map, true, ℕ
 use mathlib.Core.List.{IsPrefix}
 use Rattle.argus_board.specs.BoardView.{BoardView}
 use Rattle.argus_contents.specs.{Effect.Effect, Content.PlainContent}
+use Rattle.argus_core.specs.ReadyCommit.{added_by_call}
 use Rattle.argus_entries.specs.Call.{PlainCall, abort, abort_others, alter, ask, begin_nested, begin_sub, begin_top}
 use Rattle.argus_entries.specs.{Call.{commit, declare, test_read, test_write}, Reply.PlainReply}
 use Rattle.argus_journal.specs.{Legal.Legal, Objects.declared, Opening.{KeepsNumbers, content_in, is_sound}}
-use Rattle.argus_journal.specs.{JournalFacts.{base_of, effects_of}, JournalView.{JournalView, next_entry, reply_to}}
+use Rattle.argus_journal.specs.JournalFacts.{base_of, effects_of}
+use Rattle.argus_journal.specs.JournalView.{JournalView, after, next_entry, reply_to}
 use Rattle.argus_model.specs.Effects.{table}
 use Rattle.argus_sharing.specs.Locked.{LockedState}
 
@@ -41,6 +43,16 @@ IsFollowed opening start state = IsSharedJournal start state.journal
 abbrev pub GoesOn : BoardView → BoardView → List Effect → Type 0
 GoesOn was now added = IsPrefix was.published now.published
     × (now.published ++ now.pending ≡ (was.published ++ was.pending) ++ added)
+
+-- the call came into the journal, and what it adds onto the board
+abbrev pub IsMade : LockedState → LockedState → PlainCall → Type 0
+IsMade was now call = (now.journal ≡ after was.journal call)
+    × GoesOn was.board now.board (added_by_call was.journal call)
+
+-- before, a shared guardian may have the journal, and after it the board follows the journal
+abbrev pub GoesFrom : (ℕ → Option PlainContent) → ℕ → LockedState → LockedState → Type 0
+GoesFrom opening start was now = IsSharedJournal start was.journal
+    × FollowsJournal opening now.journal (now.board.published ++ now.board.pending)
 
 -- the call isn't a commit
 abbrev pub IsNoCommit : PlainCall → Type 0

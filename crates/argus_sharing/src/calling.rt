@@ -1,10 +1,9 @@
 //! Calls under the mutex.
 
-ghost use Rattle.std.specs.Prelude.{IfOk, OnErr, OnOk, ◌++◌, ◌+◌, ◌≡◌};
+ghost use Rattle.std.specs.Prelude.{IfOk, OnErr, OnOk, ◌+◌, ◌≡◌};
 ghost use Rattle.argus_entries.specs.{Call.plain_call, Reply.plain_reply};
-ghost use Rattle.argus_core.specs.ReadyCommit.{added_by_call};
-ghost use Rattle.argus_sharing.specs.Following.{FollowsJournal, GoesOn, IsSharedJournal};
-ghost use Rattle.argus_journal.specs.JournalView.{after, next_entry, reply_to};
+ghost use Rattle.argus_sharing.specs.Following.{GoesFrom, IsMade};
+ghost use Rattle.argus_journal.specs.JournalView.{next_entry, reply_to};
 
 use crate::answered::Answered;
 use crate::locked::Locked;
@@ -28,15 +27,10 @@ impl<N: Sharing, R: Wait + Drop> Locked<N, R> {
         ensures call { IfOk result (λ receipt. plain_call receipt.call ≡ plain_call call) }
         ensures reply { IfOk result (λ receipt. plain_reply receipt.reply
             ≡ reply_to self.old.journal (plain_call call)) }
-        ensures journal { OnOk result (self.new.journal
-            ≡ after self.old.journal (plain_call call)) }
-        ensures goes_on { OnOk result (GoesOn self.old.board self.new.board
-            (added_by_call self.old.journal (plain_call call))) }
+        ensures call_made { OnOk result (IsMade self.old self.new (plain_call call)) }
         ensures made { OnOk result (seat.new.made ≡ seat.old.made + 1) }
         ensures err { OnErr result ((self.new ≡ self.old) × (seat.new.made ≡ seat.old.made)) }
-        ensures shared { IsSharedJournal N.start self.old.journal }
-        ensures board { FollowsJournal N.opening_contents self.new.journal
-            (self.new.board.published ++ self.new.board.pending) }
+        ensures shared { GoesFrom N.opening_contents N.start self.old self.new }
     {
         // A caller that gets `OutOfMemory` has both facts from the state as it is.
         self.journal();
@@ -59,15 +53,10 @@ impl<N: Sharing, R: Wait + Drop> Locked<N, R> {
         ensures at { IfOk result (λ answered. answered.at ≡ next_entry self.old.journal) }
         ensures reply { IfOk result (λ answered. plain_reply answered.reply
             ≡ reply_to self.old.journal (plain_call call)) }
-        ensures journal { OnOk result (self.new.journal
-            ≡ after self.old.journal (plain_call call)) }
-        ensures goes_on { OnOk result (GoesOn self.old.board self.new.board
-            (added_by_call self.old.journal (plain_call call))) }
+        ensures call_made { OnOk result (IsMade self.old self.new (plain_call call)) }
         ensures made { OnOk result (seat.new.made ≡ seat.old.made + 1) }
         ensures err { OnErr result ((self.new ≡ self.old) × (seat.new.made ≡ seat.old.made)) }
-        ensures shared { IsSharedJournal N.start self.old.journal }
-        ensures board { FollowsJournal N.opening_contents self.new.journal
-            (self.new.board.published ++ self.new.board.pending) }
+        ensures shared { GoesFrom N.opening_contents N.start self.old self.new }
     {
         // Both are there for the contract: what the journal is, and that it is legal.
         self.journal();
