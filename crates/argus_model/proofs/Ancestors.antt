@@ -18,11 +18,10 @@ ParentsAreOlder (Accessed a o v ▹ older) = ParentsAreOlder older
 
 -- the next number is positive
 pub next_pos : {V : Type 0} (h : History V) → 0 < next_action h
-next_pos (Opened n) = omega arith
-next_pos (Began from ▹ h) = omega arith
 next_pos (Committed a ▹ h) = next_pos h
 next_pos (Aborted a ▹ h) = next_pos h
 next_pos (Accessed a o v ▹ h) = next_pos h
+next_pos _ = omega arith
 
 -- the lineage of what began last is itself, then its parent's; every other lineage stays
 pub lineage_cases : {V : Type 0} (h : History V) (from : Origin) (y : ℕ)

@@ -34,25 +34,19 @@ its_begin h a k = let q = is_begun_parts h a k in begin_of h a q.0 q.1
 parent_stays : {V : Type 0} (h : History V) (e : Event V) (a : ℕ) → a < next_action h → parent (e ▹ h) a ≡ parent h a
 parent_stays h (Began from) a l =
     ap (λ b. cond b (origin_parent from) (parent h a)) (ne_eqb a (next_action h) (λ e. omega arith))
-parent_stays h (Committed s) a l = refl
-parent_stays h (Aborted z) a l = refl
-parent_stays h (Accessed b o v) a l = refl
+parent_stays h _ a l = refl
 
 -- and who began it
 begun_by_stays : {V : Type 0} (h : History V) (e : Event V) (a : ℕ) → a < next_action h
     → begun_by (e ▹ h) a ≡ begun_by h a
 begun_by_stays h (Began from) a l =
     ap (λ b. cond b (origin_begun_by from) (begun_by h a)) (ne_eqb a (next_action h) (λ e. omega arith))
-begun_by_stays h (Committed s) a l = refl
-begun_by_stays h (Aborted z) a l = refl
-begun_by_stays h (Accessed b o v) a l = refl
+begun_by_stays h _ a l = refl
 
 -- numbers go up
 number_stays : {V : Type 0} (h : History V) (e : Event V) (a : ℕ) → a < next_action h → a < next_action (e ▹ h)
 number_stays h (Began from) a l = omega arith
-number_stays h (Committed s) a l = l
-number_stays h (Aborted z) a l = l
-number_stays h (Accessed b o v) a l = l
+number_stays h _ a l = l
 
 parent_later : {V : Type 0} (h : History V) (later : List (Event V)) (a : ℕ) → a < next_action h
     → parent (followed_by h later) a ≡ parent h a

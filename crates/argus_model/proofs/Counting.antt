@@ -68,9 +68,7 @@ as_held x n = ap (λ b. cond b Base (Held x)) (ne_eqb x 0 n)
 -- what is begun stays begun
 pub begun_stays : {V : Type 0} (h : History V) (e : Event V) (a : ℕ) → is_begun h a ≡ true → is_begun (e ▹ h) a ≡ true
 begun_stays h (Began from) a k = grind (arith, nat_tests, is_begun_parts h a k, is_begun_from (Began from ▹ h) a)
-begun_stays h (Committed s) a k = k
-begun_stays h (Aborted z) a k = k
-begun_stays h (Accessed b o v) a k = k
+begun_stays h _ a k = k
 
 -- the base stands under none of those that are aborted
 pub base_spared : {V : Type 0} (h : History V) (z : List ℕ) → Orderly (Aborted z ▹ h) → is_under h z 0 ≡ false

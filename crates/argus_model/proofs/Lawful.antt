@@ -1,7 +1,7 @@
 -- A lawful history is lawful by the events' own forms.
 use Rattle.std.proofs.Common.{List, false, subst, sym, true, ℕ, ◌∙◌, ◌≡◌}
 use Rattle.std.specs.{List.list_all, Prelude.{◌==◌, ◌||◌}}
-use Rattle.argus_model.specs.Event.{Aborted, Accessed, Began, Committed, Event, Nested, Origin, Sub, Top}
+use Rattle.argus_model.specs.Event.{Aborted, Accessed, Began, Committed, Event, Origin, Sub}
 use Rattle.argus_model.specs.{Event.{origin_begun_by, origin_parent}, History.{History, Opened, HistoryOpening, ◌▹◌}}
 use Rattle.argus_model.specs.{HolderSteps.may_by_steps, Meaning.{Fits, Meaning}}
 use Rattle.argus_model.specs.{Lawful.{Allowed, Lawful, may_access}, OwnerSteps.{AllStand, StandsAlone, stands}}
@@ -14,9 +14,8 @@ use Rattle.std.proofs.lemmas.Bool.Decides.{nat_tests}
 -- the parent of an action that may begin stands
 pub parent_stands : {V : Type 0} (h : History V) → Orderly h → (from : Origin)
     → (origin_begun_by from == 0 || is_live h (origin_begun_by from)) ≡ true → stands h (origin_parent from) ≡ true
-parent_stands h w Top e = base_stands h w
-parent_stands h w (Nested c) e = base_stands h w
 parent_stands h w (Sub p) e = grind (arith, nat_tests, base_stands, live_stands)
+parent_stands h w _ e = base_stands h w
 
 -- live actions all stand, and none of them is the base
 pub all_stand : {V : Type 0} (h : History V) → Orderly h → (actions : List ℕ) → list_all (is_live h) actions ≡ true

@@ -111,9 +111,8 @@ increasing_more x y ys l rest = grind (arith, nat_tests)
 
 -- a rising list is strictly increasing, in the library's words
 pub increasing : (xs : List ℕ) → IsRising xs → IsStrictlyIncreasing xs
-increasing [] r = λ k l. absurd (omega (arith, l))
-increasing (x ∷ []) r = λ k l. absurd (omega (arith, l))
 increasing (x ∷ y ∷ ys) r = increasing_more x y ys (r.0 y (contains_first y ys)) (increasing (y ∷ ys) r.1)
+increasing _ r = λ k l. absurd (omega (arith, l))
 
 -- a number that a list doesn't have differs from each on it
 pub different : (x : ℕ) (xs : List ℕ) → contains xs x ≡ false → AllByRecursion (λ y. (x == y) ≡ false) xs

@@ -64,9 +64,7 @@ same_ancestor : {V : Type 0} (h : History V) (e : Event V) (t a : ℕ) → a < n
     → is_ancestor h t a ≡ is_ancestor (e ▹ h) t a
 same_ancestor h (Began from) t a l =
     ⊎_elim (λ k. absurd (omega (arith, k.0))) (λ k. sym (ap (λ u. contains u t) k.1)) (lineage_cases h from a)
-same_ancestor h (Committed s) t a l = refl
-same_ancestor h (Aborted z) t a l = refl
-same_ancestor h (Accessed b o v) t a l = refl
+same_ancestor h _ t a l = refl
 
 both_same : (a b c d : Bool) → a ≡ c → b ≡ d → (a && b) ≡ (c && d)
 both_same a b c d e f = ap (λ x. x && b) e ∙ ap (λ x. c && x) f

@@ -23,10 +23,9 @@ no_work (Accessed a o v ▹ h) w y l = grind (arith, nat_tests, stands_begun, no
 -- the work of what doesn't stand stays as it is
 pub work_final : {V : Type 0} (h : History V) (e : Event V) → Orderly (e ▹ h) → (y : ℕ) → stands h y ≡ false
     → work (e ▹ h) y ≡ work h y
-work_final h (Began from) w y n = refl
 work_final h (Committed s) w y n = grind (arith, nat_tests, parents_are_older, stands_upward, parent_is)
-work_final h (Aborted z) w y n = refl
 work_final h (Accessed a o v) w y n = grind (arith, nat_tests)
+work_final h _ w y n = refl
 
 -- all of joined lists is all of the first, then all of the second
 pub all_of-append : {X : Type 0} (f : ℕ → List X) (ys zs : List ℕ) → all_of f (ys ++ zs) ≡ all_of f ys ++ all_of f zs
