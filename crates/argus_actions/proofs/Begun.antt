@@ -1,14 +1,11 @@
 -- The nodes after an action was begun.
-use Rattle.std.proofs.Common.{◌≡◌, ℕ, suc, ◌+◌, ◌<◌, ◌≤◌, Bool, false, cond, ltb, ◌&&◌, List, [], ◌∷◌, ◌++◌, length}
-use Rattle.std.proofs.Common.{get_or, Option, Some, None, IfSome, subst, refl, sym, ◌∙◌, ap, arith, inl, inr, ◌⊎◌}
-use Rattle.std.proofs.{Math.Bool.{and-false, and-true}, lemmas.List.{length-append, get_or_append_left, get_or_push}}
-use Rattle.std.proofs.lemmas.Bool.{eq-eqb, ne_eqb, lt-ltb, le-ltb, cases_eq, cases_Bool}
+use Rattle.std.proofs.Common.{◌≡◌, ℕ, suc, ◌+◌, ◌<◌, ◌≤◌, Bool, false, cond, ltb, List, [], ◌∷◌, ◌++◌, length, get_or}
+use Rattle.std.proofs.{Common.{Some, None, refl, sym, ◌∙◌, ap, arith, inl, inr, ◌⊎◌}, lemmas.Bool.Decides.nat_tests}
+use Rattle.std.proofs.lemmas.{Bool.{le-ltb, cases_eq}, List.{length-append, get_or_append_left, get_or_push}}
 use Rattle.argus_contents.specs.declared.limits.TheConstants.{MAX_ACTIONS, MAX_ACTION_DEPTH}
-use Rattle.argus_actions.specs.{declared.node.Node.Node, declared.origin.Origin.Origin, Rows.newest_child_below}
-use Rattle.argus_actions.specs.declared.origin.Origin.TheVariants.{Top, Sub, Nested}
-use Rattle.argus_actions.specs.declared.status.Status.TheVariants.{Live}
-use Rattle.argus_actions.specs.Row.{Row, at_parent, under_of, is_sub_of, is_begun_under, is_live}
-use Rattle.argus_actions.specs.Rows.{depth_at, is_live_under, live_count, newest_where, newest_below}
+use Rattle.argus_actions.specs.declared.{node.Node.Node, origin.Origin.Origin, status.Status.TheVariants.Live}
+use Rattle.argus_actions.specs.Rows.{newest_child_below, depth_at, is_live_under, live_count, newest_where}
+use Rattle.argus_actions.specs.{Rows.newest_below, Row.{Row, at_parent, under_of, is_sub_of, is_begun_under}}
 use Rattle.argus_actions.specs.Nodes.{row_of_node, rows_of, IsBegunBetween, AreLinked, AreNodes, IsNode, link_to}
 use Rattle.argus_actions.specs.Nodes.{adopted, fresh, older_sub_link, older_child_link}
 use Rattle.argus_actions.proofs.{RowsLemmas.depth_at_older, Marks.{at_parent_same, each_under}}
@@ -18,10 +15,7 @@ use Rattle.argus_actions.proofs.NodesLemmas.{length-rows_of, rows_of-push, rows_
 pub newest_where_all : (test : Origin → Bool) (n : ℕ) (rows : List Row) (b c : ℕ) → n + length rows ≤ b
     → n + length rows ≤ c → newest_where test n rows b ≡ newest_where test n rows c
 newest_where_all test n [] b c past_b past_c = refl
-newest_where_all test n (row ∷ older) b c past_b past_c =
-    rw (lt-ltb (n + length older) b (omega arith), lt-ltb (n + length older) c (omega arith))
-    (ap (λ o. cond (test row.origin) (Some (n + length older)) o)
-    (newest_where_all test n older b c (omega arith) (omega arith)))
+newest_where_all test n (row ∷ older) b c past_b past_c = grind (arith, nat_tests, newest_where_all test n older b c)
 
 -- the newest action is not below its own number
 pub newest_where_own : (test : Origin → Bool) (n : ℕ) (row : Row) (older : List Row) (b : ℕ) → b ≤ n + length older
@@ -30,21 +24,10 @@ newest_where_own test n row older b low = rw (le-ltb (n + length older) b low)
 
 -- an action that was not begun, or is folded, has nothing under it
 pub not_own : (n high a : ℕ) (o : Origin) → IsBegunBetween n high o → (high ≤ a) ⊎ (a < n) → is_begun_under a o ≡ false
-not_own n high a Top between outside = refl
-not_own n high a (Sub p) between outside =
-    ne_eqb p a (λ e. elim outside [ inl past ↦ omega (arith, between.1) | inr low ↦ omega (arith, between.0) ])
-not_own n high a (Nested c) between outside =
-    ne_eqb c a (λ e. elim outside [ inl past ↦ omega (arith, between.1) | inr low ↦ omega (arith, between.0) ])
+not_own n high a o between outside = grind (arith, nat_tests)
 
 pub not_own_sub : (n high a : ℕ) (o : Origin) → IsBegunBetween n high o → (high ≤ a) ⊎ (a < n) → is_sub_of a o ≡ false
-not_own_sub n high a Top between outside = refl
-not_own_sub n high a (Sub p) between outside = not_own n high a (Sub p) between outside
-not_own_sub n high a (Nested c) between outside = refl
-
-before : (n : ℕ) (older : List Row) (row : Row) (a : ℕ) → (n + length (row ∷ older) ≤ a) ⊎ (a < n)
-    → (n + length older ≤ a) ⊎ (a < n)
-before n older row a (inl past) = inl (omega arith)
-before n older row a (inr low) = inr low
+not_own_sub n high a o between outside = grind (arith, nat_tests)
 
 -- where no origin passes the test, no action does
 pub newest_where_none : (test : Origin → Bool) (n : ℕ) (rows : List Row) (a b : ℕ) → AreLinked n rows
@@ -53,11 +36,7 @@ pub newest_where_none : (test : Origin → Bool) (n : ℕ) (rows : List Row) (a 
     → newest_where test n rows b ≡ None
 newest_where_none test n [] a b linked outside fails = refl
 newest_where_none test n (row ∷ older) a b linked outside fails =
-    rw (
-      fails (n + length older) row.origin linked.0 (before n older row a outside),
-      and-false (ltb (n + length older) b),
-    )
-    (newest_where_none test n older a b linked.1 (before n older row a outside) fails)
+    grind (arith, nat_tests, newest_where_none test n older a b linked.1)
 
 pub newest_below_none : (n : ℕ) (rows : List Row) (a b : ℕ) → AreLinked n rows → (n + length rows ≤ a) ⊎ (a < n)
     → newest_below n rows a b ≡ None
@@ -72,26 +51,16 @@ newest_child_none n rows a b linked outside =
 pub live_count_none : (n : ℕ) (rows : List Row) (a : ℕ) → AreLinked n rows → (n + length rows ≤ a) ⊎ (a < n)
     → live_count rows a ≡ 0
 live_count_none n [] a linked outside = refl
-live_count_none n (row ∷ older) a linked outside =
-    let others : live_count older a ≡ 0 = live_count_none n older a linked.1 (before n older row a outside) in
-    rw (not_own n (n + length older) a row.origin linked.0 (before n older row a outside), others)
+live_count_none n (row ∷ older) a linked outside = grind (arith, nat_tests, not_own, live_count_none n older a linked.1)
 
 pub live_count-le-length : (rows : List Row) (a : ℕ) → live_count rows a ≤ length rows
 live_count-le-length [] a = omega arith
-live_count-le-length (row ∷ older) a =
-    let others : live_count older a ≤ length older = live_count-le-length older a in
-    elim (cases_Bool (is_begun_under a row.origin && is_live row.status))
-    [ inl e ↦ rw e (omega arith) | inr e ↦ rw e (omega arith) ]
+live_count-le-length (row ∷ older) a = grind (arith, nat_tests, live_count-le-length older a)
 
 -- some live action was begun under this one where any are counted
 pub is_live_under_is : (rows : List Row) (a : ℕ) → is_live_under rows a ≡ ltb 0 (live_count rows a)
 is_live_under_is [] a = refl
-is_live_under_is (row ∷ older) a =
-    elim (cases_Bool (is_begun_under a row.origin && is_live row.status)) [
-      | inl e ↦ rw e (sym (lt-ltb 0 (1 + live_count older a) (omega arith)))
-      | inr e ↦ rw e (is_live_under_is older a ∙ ap (ltb 0)
-          (let same : live_count older a ≡ 0 + live_count older a = omega arith in same))
-    ]
+is_live_under_is (row ∷ older) a = grind (arith, nat_tests, is_live_under_is older a)
 
 -- a count of children has room for one more
 pub child_fits : (n : ℕ) (nodes : List Node) (a k : ℕ) (d : Node) → AreNodes n nodes → a ≡ n + k → k < length nodes
@@ -102,9 +71,7 @@ child_fits n nodes a k d kept at below =
 
 pub under_between : (n high under : ℕ) (o : Origin) → IsBegunBetween n high o → under_of o ≡ Some under
     → (n ≤ under) × (under < high)
-under_between n high under o between is =
-    let P : Option ℕ → Type 0 = λ u. IfSome u (λ a. (n ≤ a) × (a < high)) in
-    subst P is between
+under_between n high under o between is = grind (arith, nat_tests)
 
 module _ (n : ℕ) (nodes new : List Node) (origin : Origin) (number older child depth : ℕ)
     (kept : AreNodes n nodes) (next : number ≡ n + length nodes) (few : number < MAX_ACTIONS)
@@ -133,13 +100,7 @@ module _ (n : ℕ) (nodes new : List Node) (origin : Origin) (number older child
       (newest_where test n (rows_of nodes) (n + length (rows_of nodes)))
       → cond (test origin) number link ≡ link_to (newest_where test n (begun ∷ rows_of nodes)
       (n + suc (length (rows_of nodes))))
-  newest_now test link was =
-      rw (lt-ltb (n + length (rows_of nodes)) (n + suc (length (rows_of nodes))) (omega arith))
-      (elim (cases_Bool (test origin)) [
-        | inl e ↦ rw e last
-        | inr e ↦ rw e (was ∙ ap link_to (newest_where_all test n (rows_of nodes) (n + length (rows_of nodes))
-            (n + suc (length (rows_of nodes))) (omega arith) (omega arith)))
-      ])
+  newest_now test link was = grind (arith, nat_tests, last, newest_where_all)
 
   -- an older action's node, with one row more
   older_node : (a k : ℕ) (d : Node) → a ≡ n + k → k < length nodes
@@ -149,62 +110,40 @@ module _ (n : ℕ) (nodes new : List Node) (origin : Origin) (number older child
       let low : a ≤ n + length (rows_of nodes) = omega (arith, last) in
       record {
         newest = newest_now (is_sub_of a) (get_or nodes k d).newest_sub was.newest;
-        older = was.older ∙ ap link_to (at_parent_same None (get_or nodes k d).origin _ _
-            (λ p. sym (newest_where_own (is_sub_of p) n begun (rows_of nodes) a low)));
+        older = grind (arith, nat_tests, at_parent_same, newest_where_own);
         newest_child = newest_now (is_begun_under a) (get_or nodes k d).newest_child was.newest_child;
-        older_child = was.older_child ∙ ap link_to (each_under (under_of (get_or nodes k d).origin) _ _
-            (λ u. sym (newest_where_own (is_begun_under u) n begun (rows_of nodes) a low)));
-        children = rw (and-true (is_begun_under a origin)) (let count : (get_or nodes k d).live_children
-            ≡ live_count (rows_of nodes) a = was.children in omega arith);
+        older_child = grind (arith, nat_tests, each_under, newest_where_own);
+        children = grind (arith, nat_tests);
         depth = was.depth ∙ sym (depth_at_older n begun (rows_of nodes) a (λ e. omega (arith, last)));
         shallow = was.shallow;
       }
 
   newest_node : IsNode n (begun ∷ rows_of nodes) number (fresh origin older child depth)
   newest_node =
-      let past : n + length (rows_of nodes) ≤ number = omega (arith, last) in
-      let own : number ≤ n + length (rows_of nodes) = omega (arith, last) in
-      let all : (test : Origin → Bool) → newest_where test n (rows_of nodes) (n + length (rows_of nodes))
-      ≡ newest_where test n (begun ∷ rows_of nodes) number
-      = λ test. newest_where_all test n (rows_of nodes) (n + length (rows_of nodes)) number (omega arith) past
-      ∙ sym (newest_where_own test n begun (rows_of nodes) number own) in
-      record {
-        newest = rw (
-          not_own_sub n number number origin between (inl (omega arith)),
-          and-false (ltb (n + length (rows_of nodes)) (n + suc (length (rows_of nodes)))),
-          newest_below_none n (rows_of nodes) number (n + suc (length (rows_of nodes))) kept.linked (inl past),
-        );
-        older = older_is ∙ ap link_to (at_parent_same None origin _ _ (λ p. all (is_sub_of p)));
-        newest_child = rw (
-          not_own n number number origin between (inl (omega arith)),
-          and-false (ltb (n + length (rows_of nodes)) (n + suc (length (rows_of nodes)))),
-          newest_child_none n (rows_of nodes) number (n + suc (length (rows_of nodes))) kept.linked (inl past),
-        );
-        older_child = child_is ∙ ap link_to (each_under (under_of origin) _ _ (λ u. all (is_begun_under u)));
-        children = rw (
-          not_own n number number origin between (inl (omega arith)),
-          live_count_none n (rows_of nodes) number kept.linked (inl past),
-        );
-        depth = rw (eq-eqb number (n + length (rows_of nodes)) last) depth_is;
-        shallow = shallow;
-      }
+      grind (
+        arith,
+        nat_tests,
+        last,
+        newest_where_all,
+        newest_where_own,
+        not_own_sub,
+        newest_below_none,
+        at_parent_same,
+        not_own,
+        newest_child_none,
+        each_under,
+        live_count_none,
+      )
 
   pub begun_nodes : AreNodes n (new ++ fresh origin older child depth ∷ [])
   begun_nodes =
       record {
         few = rw (length-append new (fresh origin older child depth ∷ [])) (omega arith);
-        linked = rw begun_rows (
-          (let P : ℕ → Type 0 = λ high. IsBegunBetween n high origin in subst P last between),
-          kept.linked,
-        );
+        linked = grind (arith, nat_tests, begun_rows, last);
         each = λ a k d at below.
             let below' : k < length new + 1 = rw (length-append new (fresh origin older child depth ∷ [])) at below in
             rw begun_rows (elim (cases_eq k (length nodes)) [
-              | inl e ↦
-                  let here : get_or (new ++ fresh origin older child depth ∷ []) k d ≡ fresh origin older child depth =
-                  get_or_push new (fresh origin older child depth) d k (omega arith) in
-                  let same : a ≡ number = omega arith in
-                  rw (here, same) newest_node
+              | inl e ↦ grind (arith, nat_tests, get_or_push, newest_node)
               | inr ne ↦
                   let in_old : k < length nodes = omega arith in
                   rw (

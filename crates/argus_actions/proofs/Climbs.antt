@@ -1,9 +1,8 @@
 -- The walk up to an ancestor.
-use Rattle.std.proofs.Common.{◌≡◌, ℕ, ◌+◌, ◌<◌, ◌≤◌, true, false, eqb, ◌||◌, List, length, get_or, subst, refl, ◌∙◌, ap}
-use Rattle.std.proofs.{Common.{arith, ◌⊎◌, inl, inr}, lemmas.Bool.{eq-eqb, ne_eqb}}
-use Rattle.argus_actions.specs.{declared.node.Node.Node, declared.origin.Origin.Origin, Row.at_parent, Rows.is_above}
-use Rattle.argus_actions.specs.declared.origin.Origin.TheVariants.{Top, Sub, Nested}
-use Rattle.argus_actions.specs.Nodes.{row_of_node, rows_of, IsBegunBetween, AreLinked}
+use Rattle.std.proofs.Common.{◌≡◌, ℕ, ◌+◌, ◌<◌, ◌≤◌, true, false, eqb, ◌||◌, List, length, get_or, subst, ◌∙◌, ap}
+use Rattle.std.proofs.{Common.{arith, ◌⊎◌}, lemmas.Bool.{Decides.nat_tests, eq-eqb}}
+use Rattle.argus_actions.specs.declared.{node.Node.Node, origin.Origin.{Origin, TheVariants.{Top, Sub, Nested}}}
+use Rattle.argus_actions.specs.{Row.at_parent, Rows.is_above, Nodes.{row_of_node, rows_of, IsBegunBetween, AreLinked}}
 use Rattle.argus_actions.proofs.{RowsLemmas.{linked_at, is_above_step}, NodesLemmas.row_at}
 
 -- the action of a node was begun under an older one
@@ -24,23 +23,11 @@ module _ (n : ℕ) (nodes : List Node) (x y k : ℕ) (d : Node) (linked : AreLin
 
   pub climbed_up : x < y → (p : ℕ) → (get_or nodes k d).origin ≡ Sub p
       → is_above n (rows_of nodes) x y ≡ is_above n (rows_of nodes) x p
-  climbed_up less p is = step
-      ∙ ap (λ b. b || at_parent false (get_or nodes k d).origin (is_above n (rows_of nodes) x))
-      (ne_eqb x y (λ same. omega arith))
-      ∙ ap (λ (o : Origin). at_parent false o (is_above n (rows_of nodes) x)) is
-
-  out : (o : Origin) → at_parent false o (is_above n (rows_of nodes) x) ≡ false → (get_or nodes k d).origin ≡ o → x < y
-      → is_above n (rows_of nodes) x y ≡ false
-  out o none is less = step
-      ∙ ap (λ b. b || at_parent false (get_or nodes k d).origin (is_above n (rows_of nodes) x))
-      (ne_eqb x y (λ same. omega arith))
-      ∙ ap (λ (o : Origin). at_parent false o (is_above n (rows_of nodes) x)) is
-      ∙ none
+  climbed_up less p is = grind (arith, nat_tests, step)
 
   pub climbed_out : x < y → ((get_or nodes k d).origin ≡ Top) ⊎ ((c : ℕ) × ((get_or nodes k d).origin ≡ Nested c))
       → is_above n (rows_of nodes) x y ≡ false
-  climbed_out less (inl is) = out Top refl is less
-  climbed_out less (inr is) = out (Nested is.0) refl is.1 less
+  climbed_out less o = grind (arith, nat_tests, step)
 
   pub parent_before : (p : ℕ) → (get_or nodes k d).origin ≡ Sub p → (n ≤ p) × (p < y)
   parent_before p is =

@@ -1,20 +1,14 @@
 -- Where the links of a node lead.
-use Rattle.std.proofs.Common.{◌≡◌, ℕ, ◌+◌, ◌<◌, Bool, List, length, get_or, Option, Some, None, subst, refl, sym, ◌∙◌}
-use Rattle.std.proofs.{Common.{ap, arith}, lemmas.Bool.ne_eqb}
-use Rattle.std.specs.Option.{option_and_then}
-use Rattle.argus_actions.specs.{declared.node.TheConstants.NONE, declared.node.Node.Node, declared.origin.Origin.Origin}
-use Rattle.argus_actions.specs.{declared.origin.Origin.TheVariants.{Top, Sub, Nested}, Tree.named}
-use Rattle.argus_actions.specs.Row.{at_parent, under_of, is_sub_of, is_begun_under}
-use Rattle.argus_actions.specs.Rows.{newest_where, newest_below, newest_child_below}
-use Rattle.argus_actions.specs.Nodes.{rows_of, AreNodes, IsNode, link_to, link_end}
+use Rattle.std.proofs.Common.{◌≡◌, ℕ, ◌+◌, ◌<◌, Bool, List, length, get_or, Option, Some, None, subst, sym, ◌∙◌, ap}
+use Rattle.std.{proofs.{Common.arith, lemmas.Bool.Decides.nat_tests}, specs.Option.option_and_then}
+use Rattle.argus_actions.specs.{declared.{node.{TheConstants.NONE, Node.Node}, origin.Origin.Origin}, Tree.named}
+use Rattle.argus_actions.specs.{Row.{at_parent, under_of, is_sub_of, is_begun_under}, Rows.{newest_where, newest_below}}
+use Rattle.argus_actions.specs.{Rows.newest_child_below, Nodes.{rows_of, AreNodes, IsNode, link_to, link_end}}
 use Rattle.argus_actions.proofs.{NodesLemmas.length-rows_of, Newest.newest_where_at}
 
 -- a link leads to the action that it was made for
 link_end-link_to : (o : Option ℕ) → ((a : ℕ) → o ≡ Some a → a < NONE) → link_end (link_to o) ≡ named o
-link_end-link_to None small = refl
-link_end-link_to (Some a) small =
-    let less : a < NONE = small a refl in
-    rw (ne_eqb a NONE (λ e. omega arith))
+link_end-link_to o small = grind (arith, nat_tests)
 
 module _ (n : ℕ) (nodes : List Node) (kept : AreNodes n nodes) where
   -- the actions that pass a test have small numbers, and a link leads to them
@@ -26,15 +20,12 @@ module _ (n : ℕ) (nodes : List Node) (kept : AreNodes n nodes) where
   parent_end : (o : Origin) (bound : ℕ) → link_end (link_to
       (at_parent None o (λ p. newest_below n (rows_of nodes) p bound)))
       ≡ named (at_parent None o (λ p. newest_below n (rows_of nodes) p bound))
-  parent_end Top bound = refl
-  parent_end (Sub p) bound = where_end (is_sub_of p) bound
-  parent_end (Nested c) bound = refl
+  parent_end o bound = grind (arith, nat_tests, where_end)
 
   under_end : (o : Option ℕ) (bound : ℕ)
       → link_end (link_to (option_and_then (λ u. newest_child_below n (rows_of nodes) u bound) o))
       ≡ named (option_and_then (λ u. newest_child_below n (rows_of nodes) u bound) o)
-  under_end None bound = refl
-  under_end (Some u) bound = where_end (is_begun_under u) bound
+  under_end o bound = grind (arith, nat_tests, where_end)
 
   module _ (a k : ℕ) (node : Node) (at : a ≡ n + k) (begun : k < length nodes) (is : node ≡ get_or nodes k node) where
     known : IsNode n (rows_of nodes) a node

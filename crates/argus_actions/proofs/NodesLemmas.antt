@@ -1,14 +1,12 @@
 -- Nodes, oldest first, and the rows that they show.
-use Rattle.std.proofs.Common.{◌≡◌, ℕ, suc, ◌+◌, ◌-◌, ◌<◌, ◌≤◌, true, cond, eqb, List, [], ◌∷◌, ◌++◌, length, reverse}
-use Rattle.std.proofs.Common.{map, get_or, Option, Some, None, IfSome, subst, refl, sym, ◌∙◌, ap, arith, inl, inr}
-use Rattle.std.proofs.lemmas.Bool.{eq-eqb, cases_eq}
+use Rattle.std.proofs.Common.{◌≡◌, ℕ, ◌+◌, ◌-◌, ◌<◌, ◌≤◌, true, cond, eqb, List, [], ◌∷◌, ◌++◌, length, reverse, map}
+use Rattle.std.proofs.{Common.{get_or, Some, None, refl, sym, ◌∙◌, ap, arith}, lemmas.Bool.{Decides.nat_tests, eq-eqb}}
 use Rattle.std.proofs.lemmas.List.{length-reverse, length-map, get_or-reverse, get_or-map, reverse-append}
-use Rattle.argus_actions.specs.{declared.node.Node.Node, declared.origin.Origin.TheVariants.Top}
-use Rattle.argus_actions.specs.{declared.status.Status.TheVariants.Live, declared.status.Status.Status}
-use Rattle.argus_actions.specs.Row.{Row, under_of, is_begun_under, is_live, with_status}
-use Rattle.argus_actions.specs.{Rows.{numbered, mark, live_count}, Nodes.{row_of_node, rows_of, AreNodes}}
-use Rattle.argus_actions.proofs.RowsLemmas.{some_row, none_some, linked_at, numbered_newest, numbered_older}
-use Rattle.argus_actions.proofs.{RowsLemmas.{numbered_past, same_numbered}, Marks.{length-mark, numbered-mark}}
+use Rattle.argus_actions.specs.declared.{node.Node.Node, origin.Origin.TheVariants.Top, status.Status.TheVariants.Live}
+use Rattle.argus_actions.specs.{declared.status.Status.Status, Row.{Row, under_of, is_begun_under, is_live}}
+use Rattle.argus_actions.specs.{Row.with_status, Rows.{numbered, mark, live_count}, Nodes.{row_of_node, rows_of}}
+use Rattle.argus_actions.{specs.Nodes.AreNodes, proofs.RowsLemmas.{none_some, linked_at, numbered_past, same_numbered}}
+use Rattle.argus_actions.proofs.Marks.{length-mark, numbered-mark}
 
 pub length-rows_of : (nodes : List Node) → length (rows_of nodes) ≡ length nodes
 length-rows_of nodes = length-map (reverse nodes) row_of_node ∙ length-reverse nodes
@@ -17,33 +15,16 @@ length-rows_of nodes = length-map (reverse nodes) row_of_node ∙ length-reverse
 numbered_place : (n : ℕ) (rows : List Row) (k : ℕ) (d : Row) → k < length rows
     → numbered n rows (n + k) ≡ Some (get_or rows (length rows - 1 - k) d)
 numbered_place n [] k d below = absurd (omega arith)
-numbered_place n (row ∷ older) k d below =
-    elim (cases_eq k (length older)) [
-      | inl e ↦
-          let place : length (row ∷ older) - 1 - k ≡ 0 = omega arith in
-          rw (numbered_newest n row older (n + k) (ap (λ i. n + i) e), place)
-      | inr ne ↦
-          let place : length (row ∷ older) - 1 - k ≡ suc (length older - 1 - k) = omega arith in
-          rw (numbered_older n row older (n + k) (λ e. ne (omega arith)), place)
-          (numbered_place n older k d (omega arith))
-    ]
+numbered_place n (row ∷ older) k d below = grind (arith, nat_tests, numbered_place n older k d)
 
 -- the row of a number, by its node
 pub row_at : (n : ℕ) (nodes : List Node) (a k : ℕ) (d : Node) → a ≡ n + k → k < length nodes
     → numbered n (rows_of nodes) a ≡ Some (row_of_node (get_or nodes k d))
 row_at n nodes a k d e below =
-    let in_rows : k < length (rows_of nodes) = rw (length-rows_of nodes) below in
     let in_reverse : length nodes - 1 - k < length (reverse nodes) = rw (length-reverse nodes) (omega arith) in
-    let place : length nodes - 1 - k < length nodes = omega arith in
-    let back : length nodes - 1 - (length nodes - 1 - k) ≡ k = omega arith in
-    ap (numbered n (rows_of nodes)) e
-    ∙ numbered_place n (rows_of nodes) k (row_of_node d) in_rows
-    ∙ ap Some (rw (
-      length-rows_of nodes,
-      get_or-map row_of_node (reverse nodes) (length nodes - 1 - k) d (row_of_node d) in_reverse,
-      get_or-reverse nodes (length nodes - 1 - k) d place,
-      back,
-    ))
+    let by_place = numbered_place n (rows_of nodes) k (row_of_node d) in
+    let by_or-map = get_or-map row_of_node (reverse nodes) (length nodes - 1 - k) d (row_of_node d) in_reverse in
+    grind (arith, by_place, length-rows_of nodes, by_or-map, get_or-reverse nodes (length nodes - 1 - k) d)
 
 pub no_row_at : (n : ℕ) (nodes : List Node) (a : ℕ) → n + length nodes ≤ a → numbered n (rows_of nodes) a ≡ None
 no_row_at n nodes a past = numbered_past n (rows_of nodes) a (rw (length-rows_of nodes) past)
@@ -95,36 +76,22 @@ rows_of-marked n nodes new ended s long each =
 pub rows_of-same : (n : ℕ) (nodes new : List Node) → length new ≡ length nodes
     → ((k : ℕ) (d : Node) → k < length nodes → row_of_node (get_or new k d) ≡ row_of_node (get_or nodes k d))
     → rows_of new ≡ rows_of nodes
-rows_of-same n nodes new long each =
-    rows_are n new (rows_of nodes) (long ∙ sym (length-rows_of nodes))
-    (λ a k e below.
-    let k_old : k < length nodes = omega arith in
-    ap Some (each k some_node k_old) ∙ sym (row_at n nodes a k some_node e k_old))
+rows_of-same n nodes new long each = grind (arith, nat_tests, rows_are n new, length-rows_of nodes, row_at n nodes)
 
 -- the action under which one was begun has a node
 pub under_is_there : (n : ℕ) (nodes : List Node) (a i under : ℕ) (d : Node) → AreNodes n nodes → a ≡ n + i
     → i < length nodes → under_of (get_or nodes i d).origin ≡ Some under
     → (n ≤ under) × (under < a)
 under_is_there n nodes a i under d kept at in_a is =
-    let row : numbered n (rows_of nodes) a ≡ Some (row_of_node (get_or nodes i d)) = row_at n nodes a i d at in_a in
-    let between = linked_at n (rows_of nodes) a (row_of_node (get_or nodes i d)) kept.linked row in
-    let P : Option ℕ → Type 0 = λ o. IfSome o (λ u. (n ≤ u) × (u < a)) in
-    subst P is between
+    let by_at = linked_at n (rows_of nodes) a (row_of_node (get_or nodes i d)) kept.linked
+    (row_at n nodes a i d at in_a) in
+    grind (arith, by_at)
 
 -- a live child counts
 live_counts : (n : ℕ) (rows : List Row) (a under : ℕ) (row : Row) → numbered n rows a ≡ Some row
     → is_begun_under under row.origin ≡ true → is_live row.status ≡ true → 0 < live_count rows under
 live_counts n [] a under row at came live = elim (none_some row at) [ ]
-live_counts n (r ∷ older) a under row at came live =
-    elim (cases_eq a (n + length older)) [
-      | inl e ↦
-          let same : r ≡ row = some_row r row (sym (numbered_newest n r older a e) ∙ at) in
-          rw (same, came, live) (omega arith)
-      | inr ne ↦
-          let rest : 0 < live_count older under =
-          live_counts n older a under row (sym (numbered_older n r older a ne) ∙ at) came live in
-          omega arith
-    ]
+live_counts n (r ∷ older) a under row at came live = grind (arith, nat_tests, live_counts n older a under row)
 
 pub under_has_live : (n : ℕ) (nodes : List Node) (a i under j : ℕ) (d e : Node) → AreNodes n nodes → a ≡ n + i
     → i < length nodes → under ≡ n + j

@@ -1,46 +1,29 @@
 -- The walk over the siblings of an action, the newest first: which rows are Aborted so far, which sibling comes next,
 -- and how many live ones are left.
 use Rattle.std.proofs.Common.{◌≡◌, ℕ, ◌+◌, ◌-◌, ◌<◌, ◌≤◌, Bool, true, false, cond, eqb, leb, not, ◌||◌, ◌&&◌, List}
-use Rattle.std.proofs.Common.{length, get_or, Option, Some, None, IfSome, subst, refl, sym, ◌∙◌, ap, arith, inl, inr}
-use Rattle.std.proofs.{Math.Bool.{and-false, or-false}, lemmas.Bool.and_from}
-use Rattle.std.proofs.lemmas.Bool.{eq-eqb, ne_eqb, eqb-true, le-leb, lt-leb, cases_eq, cases_lt, cases_Bool, and_parts}
+use Rattle.std.proofs.Common.{length, get_or, Option, Some, None, IfSome, subst, refl, sym, ◌∙◌, ap, arith}
+use Rattle.std.proofs.{lemmas.Bool.{Decides.nat_tests, and_from, eq-eqb, lt-leb}, Math.Bool.{and-false, or-false}}
 use Rattle.std.specs.Option.{option_and_then, option_map_or}
-use Rattle.argus_actions.specs.{declared.node.TheConstants.NONE, declared.node.Node.Node, declared.origin.Origin.Origin}
-use Rattle.argus_actions.specs.declared.origin.Origin.TheVariants.{Top, Sub, Nested}
-use Rattle.argus_actions.specs.declared.status.Status.TheVariants.{Aborted}
-use Rattle.argus_actions.specs.Row.{Row, under_of, is_begun_under, is_live, with_status}
-use Rattle.argus_actions.specs.Rows.{numbered, is_above, mark, newest_child_below, under_at, is_live_at, is_child_of}
-use Rattle.argus_actions.specs.Rows.{is_live_sibling_of, has_ancestor, live_count}
-use Rattle.argus_actions.specs.Nodes.{row_of_node, rows_of, AreNodes, link_to}
+use Rattle.argus_actions.specs.declared.{node.Node.Node, origin.Origin.Origin, status.Status.TheVariants.Aborted}
+use Rattle.argus_actions.specs.{Row.{Row, under_of, is_begun_under, is_live, with_status}, Rows.{numbered, is_above}}
+use Rattle.argus_actions.specs.Rows.{mark, newest_child_below, under_at, is_live_at, is_child_of, is_live_sibling_of}
+use Rattle.argus_actions.specs.{Rows.{has_ancestor, live_count}, Nodes.{row_of_node, rows_of, AreNodes, link_to}}
 use Rattle.argus_actions.proofs.{RowsLemmas.{some_row, row_begun, linked_at}, Counted.{is_live_child_of, live_count_is}}
-use Rattle.argus_actions.proofs.Counted.{count, count_same, count_none, count_some, count_down, count_but}
-use Rattle.argus_actions.proofs.Marks.{one, newest_where-mark, is_above-mark, mark-mark, mark-same, mark_none}
-use Rattle.argus_actions.proofs.{Marks.numbered-mark, NodesLemmas.{some_node, length-rows_of, row_at}}
-use Rattle.argus_actions.proofs.Newest.{came_row, newest_where_at, newest_where_most, newest_where_no}
-use Rattle.argus_actions.proofs.Ancestry.{has_ancestor_same, has_ancestor_or, has_ancestor_one, has_ancestor_none}
-use Rattle.argus_actions.proofs.Walks.{link_some, link_none, steps_left, fewer_steps}
+use Rattle.argus_actions.proofs.{Counted.{count, count_same, count_none, count_some, count_down, count_but}, Marks.one}
+use Rattle.argus_actions.proofs.Marks.{newest_where-mark, is_above-mark, mark-mark, mark-same, mark_none, numbered-mark}
+use Rattle.argus_actions.proofs.{NodesLemmas.{some_node, length-rows_of, row_at}, Newest.{came_row, newest_where_at}}
+use Rattle.argus_actions.proofs.{Newest.{newest_where_most, newest_where_no}, Ancestry.has_ancestor_same}
+use Rattle.argus_actions.proofs.{Ancestry.{has_ancestor_or, has_ancestor_one, has_ancestor_none}, Walks.link_some}
+use Rattle.argus_actions.proofs.Walks.{link_none, steps_left, fewer_steps}
 
 -- who was begun under an action
 pub comes_under : (o : Origin) (u : ℕ) → is_begun_under u o ≡ true → under_of o ≡ Some u
-comes_under Top u e = absurd (false_true e)
-  where
-    false_true : false ≡ true → ⊥
-    false_true e = cc
-comes_under (Sub p) u e = ap Some (eqb-true p u e)
-comes_under (Nested c) u e = ap Some (eqb-true c u e)
+comes_under o u e = grind (arith, nat_tests)
 
 -- the row of one that was begun under another
 pub under_row : (n : ℕ) (rows : List Row) (a u : ℕ) → under_at n rows a ≡ Some u
     → (row : Row) × ((numbered n rows a ≡ Some row) × (under_of row.origin ≡ Some u))
-under_row n rows a u e = found (numbered n rows a) refl e
-  where
-    none_some : {x : ℕ} → None ≡ Some x → ⊥
-    none_some e = cc
-
-    found : (o : Option Row) → numbered n rows a ≡ o → option_and_then (λ row. under_of row.origin) o ≡ Some u
-        → (row : Row) × ((numbered n rows a ≡ Some row) × (under_of row.origin ≡ Some u))
-    found None at e = absurd (none_some e)
-    found (Some row) at e = (row, (at, e))
+under_row n rows a u e = grind (arith, nat_tests)
 
 -- the live siblings from the bound on
 abbrev pub is_swept : ℕ → List Row → ℕ → ℕ → ℕ → Bool
@@ -50,13 +33,7 @@ module _ (n : ℕ) (rows : List Row) (a under : ℕ) (came : under_at n rows a �
   -- a live sibling is a child of the same action
   pub sibling_row : (k : ℕ) → is_live_sibling_of n rows a k ≡ true
       → (row : Row) × ((numbered n rows k ≡ Some row) × (is_begun_under under row.origin ≡ true))
-  sibling_row k e =
-      let both = and_parts (is_live_at n rows k) (not (eqb k a)
-      && option_map_or (λ u. is_child_of n rows u k) (under_at n rows a) false) e in
-      let child =
-      and_parts (not (eqb k a)) (option_map_or (λ u. is_child_of n rows u k) (under_at n rows a) false) both.1 in
-      came_row (is_begun_under under) n rows k (ap (λ o. option_map_or (λ u. is_child_of n rows u k) o false) (sym came)
-      ∙ child.1)
+  sibling_row k e = grind (arith, nat_tests, came_row)
 
   -- from past the newest action on there is none
   pub swept_first : (bound k : ℕ) → k < bound → is_swept n rows a bound k ≡ false
@@ -65,37 +42,11 @@ module _ (n : ℕ) (rows : List Row) (a under : ℕ) (came : under_at n rows a �
   -- between the newest child below the bound and the bound there is no other
   pub swept_more : (bound link k : ℕ) → newest_child_below n rows under bound ≡ Some link
       → is_swept n rows a link k ≡ (is_swept n rows a bound k || (eqb k link && is_live_sibling_of n rows a link))
-  swept_more bound link k found =
-      let is = newest_where_at (is_begun_under under) n rows bound link found in
-      elim (cases_eq k link) [
-        | inl e ↦ rw (e, le-leb link link (omega arith), lt-leb bound link is.1.1.0, eq-eqb link link refl) refl
-        | inr ne ↦ rw (ne_eqb k link ne) (elim (cases_lt k bound) [
-          | inl below ↦ rw (lt-leb bound k below) (elim (cases_Bool (is_live_sibling_of n rows a k)) [
-            | inl sib ↦
-                let row = sibling_row k sib in
-                let most : k ≤ link =
-                newest_where_most (is_begun_under under) n rows bound link k row.0 found row.1.0 row.1.1 below in
-                ap (λ b. b && is_live_sibling_of n rows a k) (lt-leb link k (omega arith))
-            | inr isnt ↦ ap (λ b. leb link k && b) isnt ∙ and-false (leb link k)
-          ])
-          | inr past ↦ rw (le-leb bound k past, le-leb link k (omega (arith, is.1.1.0)))
-              (sym (or-false (is_live_sibling_of n rows a k)))
-        ])
-      ]
+  swept_more bound link k found = grind (arith, nat_tests, newest_where_at, sibling_row, newest_where_most)
 
   -- a live sibling is a live child, and another
   sibling_is : (x : ℕ) → is_live_sibling_of n rows a x ≡ (is_live_child_of n rows under x && not (eqb x a))
-  sibling_is x =
-      ap (λ o. is_live_at n rows x && (not (eqb x a) && option_map_or (λ u. is_child_of n rows u x) o false)) came
-      ∙ turned (is_live_at n rows x) (not (eqb x a)) (is_child_of n rows under x)
-    where
-      turned : (live other child : Bool) → (live && (other && child)) ≡ ((child && live) && other)
-      turned true true true = refl
-      turned true true false = refl
-      turned true false true = refl
-      turned true false false = refl
-      turned false other true = refl
-      turned false other false = refl
+  sibling_is x = grind (arith, nat_tests)
 
   -- of the live children of the same action all but one are its live siblings
   pub others_first : is_live_at n rows a ≡ true
@@ -118,50 +69,21 @@ module _ (n : ℕ) (rows : List Row) (a under : ℕ) (came : under_at n rows a �
   others_step bound link found =
       count_down (is_live_sibling_of n rows a) bound link
       (newest_where_at (is_begun_under under) n rows bound link found).1.1.0
-      (λ x past below. elim (cases_Bool (is_live_sibling_of n rows a x)) [
-        | inl is ↦
-            let row = sibling_row x is in
-            let most : x ≤ link =
-            newest_where_most (is_begun_under under) n rows bound link x row.0 found row.1.0 row.1.1 below in
-            absurd (omega arith)
-        | inr isnt ↦ isnt
-      ])
+      (λ x past below. grind (arith, nat_tests, sibling_row, newest_where_most))
 
   -- where some are left, there is a child below the bound
   pub others_there : (bound : ℕ) → 0 < count (is_live_sibling_of n rows a) bound
       → newest_child_below n rows under bound ≡ None → ⊥
-  others_there bound some none =
-      let no_more : count (is_live_sibling_of n rows a) bound ≡ 0 =
-      count_none (is_live_sibling_of n rows a) bound
-      (λ x below. elim (cases_Bool (is_live_sibling_of n rows a x)) [
-        | inl is ↦
-            let row = sibling_row x is in
-            let past : bound ≤ x =
-            newest_where_no (is_begun_under under) n rows bound x row.0 none row.1.0 row.1.1 in
-            absurd (omega arith)
-        | inr isnt ↦ isnt
-      ]) in
-      omega arith
+  others_there bound some none = grind (arith, nat_tests, count, count_none, sibling_row, newest_where_no)
 
   -- where none is left, all are from the bound on
   pub others_past : (bound k : ℕ) → count (is_live_sibling_of n rows a) bound ≡ 0
       → is_live_sibling_of n rows a k ≡ true → bound ≤ k
-  others_past bound k none is =
-      elim (cases_lt k bound) [
-        | inl below ↦
-            let some : 0 < count (is_live_sibling_of n rows a) bound =
-            count_some (is_live_sibling_of n rows a) bound k below is in
-            absurd (omega arith)
-        | inr past ↦ past
-      ]
+  others_past bound k none is = grind (arith, nat_tests, count_some (is_live_sibling_of n rows a) bound k)
 
   pub swept_all : (bound k : ℕ) → count (is_live_sibling_of n rows a) bound ≡ 0
       → is_swept n rows a bound k ≡ is_live_sibling_of n rows a k
-  swept_all bound k none =
-      elim (cases_Bool (is_live_sibling_of n rows a k)) [
-        | inl is ↦ ap (λ b. b && is_live_sibling_of n rows a k) (le-leb bound k (others_past bound k none is))
-        | inr isnt ↦ ap (λ b. leb bound k && b) isnt ∙ and-false (leb bound k) ∙ sym isnt
-      ]
+  swept_all bound k none = grind (arith, nat_tests, others_past)
 
 -- of the old rows those are Aborted that have a live sibling from the bound on as an ancestor; the next sibling has
 -- this link; and so many live ones are below the bound
@@ -198,11 +120,7 @@ module _ (n : ℕ) (old : List Node) (a under : ℕ) (kept : AreNodes n old)
   sweep_start j at live = record {
     bound = n + length (rows_of old);
     next = (kept.each under j some_node at (omega (arith, under_begun.1))).newest_child;
-    rows = sym (mark_none n (has_ancestor (is_swept n (rows_of old) a (n + length (rows_of old))) n (rows_of old))
-        Aborted (rows_of old)
-        (λ y low high. has_ancestor_none (is_swept n (rows_of old) a (n + length (rows_of old))) n (rows_of old)
-        y kept.linked
-        (λ x le. swept_first n (rows_of old) a under came (n + length (rows_of old)) x (omega arith))));
+    rows = grind (arith, nat_tests, mark_none, has_ancestor_none, swept_first);
     others = omega (arith, first_others j at live);
   }
 
@@ -217,21 +135,10 @@ module _ (n : ℕ) (old : List Node) (a under : ℕ) (kept : AreNodes n old)
 
     module _ (some : 0 < left) where
       found : newest_child_below n (rows_of old) under swept.bound ≡ Some link
-      found =
-          link_some (newest_child_below n (rows_of old) under swept.bound) link swept.next
-          (λ none. others_there n (rows_of old) a under came swept.bound (omega (arith, swept.others))
-          (link_none (newest_child_below n (rows_of old) under swept.bound) link swept.next none
-          (λ c e. omega (
-            arith,
-            (newest_where_at (is_begun_under under) n (rows_of old) swept.bound c e).1.0,
-            length-rows_of old,
-            kept.few,
-          ))))
+      found = grind (arith, nat_tests, link_some, others_there, link_none, newest_where_at, length-rows_of)
 
       pub sweep_begun : (n ≤ link) × (link < n + length old)
-      sweep_begun =
-          let is = newest_where_at (is_begun_under under) n (rows_of old) swept.bound link found in
-          (is.0, omega (arith, is.1.0, length-rows_of old))
+      sweep_begun = grind (arith, nat_tests, newest_where_at, found, length-rows_of)
 
       -- whether this one is a live sibling is seen in its node
       pub sibling_seen : (i : ℕ) (d : Node) → link ≡ n + i → length nodes ≡ length old
@@ -251,20 +158,7 @@ module _ (n : ℕ) (old : List Node) (a under : ℕ) (kept : AreNodes n old)
           let same : row_of_node (get_or nodes i d) ≡ is.1.1.1.0 =
           some_row (row_of_node (get_or nodes i d)) is.1.1.1.0 (sym
           (row_at n nodes link i d at (omega (arith, sweep_begun.1))) ∙ now) in
-          ap (λ o. option_map_or (λ (row : Row). is_live row.status) o false
-          && (not (eqb link a) && option_map_or (λ u. is_child_of n (rows_of old) u link)
-          (under_at n (rows_of old) a) false)) in_rows
-          ∙ ap (λ o. is_live is.1.1.1.0.status && (not (eqb link a)
-          && option_map_or (λ u. is_child_of n (rows_of old) u link) o false)) came
-          ∙ ap (λ o. is_live is.1.1.1.0.status && (not (eqb link a)
-          && option_map_or (λ (row : Row). is_begun_under under row.origin) o false)) in_rows
-          ∙ ap (λ b. is_live is.1.1.1.0.status && (not (eqb link a) && b)) is.1.1.1.1.1
-          ∙ ap (λ b. is_live is.1.1.1.0.status && b) (and_true (not (eqb link a)))
-          ∙ ap (λ (w : Row). is_live w.status && not (eqb link a)) (sym same)
-        where
-          and_true : (b : Bool) → (b && true) ≡ b
-          and_true true = refl
-          and_true false = refl
+          grind (arith, nat_tests)
 
       -- how many are left
       left_is : left ≡ one (is_live_sibling_of n (rows_of old) a link)
@@ -273,17 +167,11 @@ module _ (n : ℕ) (old : List Node) (a under : ℕ) (kept : AreNodes n old)
 
       pub left_spared : is_live_sibling_of n (rows_of old) a link ≡ false
           → left ≡ count (is_live_sibling_of n (rows_of old) a) link
-      left_spared isnt =
-          let same : left ≡ 0 + count (is_live_sibling_of n (rows_of old) a) link =
-          left_is ∙ ap (λ b. one b + count (is_live_sibling_of n (rows_of old) a) link) isnt in
-          omega arith
+      left_spared isnt = grind (arith, nat_tests, count, left_is, one)
 
       pub left_aborted : is_live_sibling_of n (rows_of old) a link ≡ true
           → left - 1 ≡ count (is_live_sibling_of n (rows_of old) a) link
-      left_aborted is =
-          let same : left ≡ 1 + count (is_live_sibling_of n (rows_of old) a) link =
-          left_is ∙ ap (λ b. one b + count (is_live_sibling_of n (rows_of old) a) link) is in
-          omega arith
+      left_aborted is = grind (arith, nat_tests, count, left_is, one)
 
       -- a sibling that is not aborted changes nothing
       pub sweep_spared : is_live_sibling_of n (rows_of old) a link ≡ false
@@ -310,8 +198,7 @@ module _ (n : ℕ) (old : List Node) (a under : ℕ) (kept : AreNodes n old)
           ∙ mark-same n (is_above n (mark n (has_ancestor (is_swept n (rows_of old) a swept.bound) n (rows_of old))
           Aborted (rows_of old)) link) (is_above n (rows_of old) link) Aborted
           (mark n (has_ancestor (is_swept n (rows_of old) a swept.bound) n (rows_of old)) Aborted (rows_of old))
-          (λ x low high. is_above-mark n (has_ancestor (is_swept n (rows_of old) a swept.bound) n (rows_of old)) Aborted
-          (rows_of old) link x)
+          (λ x low high. grind (arith, nat_tests, is_above-mark))
           ∙ mark-mark n (has_ancestor (is_swept n (rows_of old) a swept.bound) n (rows_of old))
           (is_above n (rows_of old) link) Aborted (rows_of old)
           ∙ mark-same n (λ y. has_ancestor (is_swept n (rows_of old) a swept.bound) n (rows_of old) y
@@ -358,7 +245,4 @@ module _ (n : ℕ) (old : List Node) (a under : ℕ) (kept : AreNodes n old)
         sweep_step left' left'_is = record { bound = link; next = next_link; rows = rows_is; others = left'_is }
 
         pub sweep_smaller : steps_left (get_or new i some_node).older_child < steps_left link
-        sweep_smaller =
-            let small : link < NONE = omega (arith, sweep_begun.1, kept.few) in
-            rw next_link (fewer_steps (newest_child_below n (rows_of old) under link) link small
-            (λ c e. (newest_where_at (is_begun_under under) n (rows_of old) link c e).1.1.0))
+        sweep_smaller = grind (arith, nat_tests, sweep_begun, next_link, fewer_steps, newest_where_at)

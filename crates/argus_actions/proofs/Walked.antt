@@ -1,13 +1,13 @@
 -- The nodes in the middle of an abort: which rows are Aborted so far, and which subaction comes next.
-use Rattle.std.proofs.Common.{◌≡◌, ◌≢◌, ℕ, ◌+◌, ◌<◌, ◌≤◌, eqb, ◌||◌, List, length, get_or, Some, None, sym, ◌∙◌, ap}
-use Rattle.std.proofs.{Common.arith, Math.Bool.{or-false, or_assoc}}
-use Rattle.argus_actions.specs.{declared.node.TheConstants.NONE, declared.node.Node.Node, declared.origin.Origin.Origin}
+use Rattle.std.proofs.Common.{◌≡◌, ◌≢◌, ℕ, ◌+◌, ◌<◌, ◌≤◌, eqb, List, length, get_or, Some, None, sym, ◌∙◌, ap, arith}
+use Rattle.std.proofs.lemmas.Bool.Decides.{nat_tests}
+use Rattle.argus_actions.specs.declared.{node.{TheConstants.NONE, Node.Node}, origin.Origin.Origin}
 use Rattle.argus_actions.specs.{declared.status.Status.TheVariants.Aborted, Row.{Row, at_parent, is_sub_of}}
 use Rattle.argus_actions.specs.{Rows.{is_above, mark, newest_below}, Nodes.{row_of_node, rows_of, AreNodes, link_to}}
-use Rattle.argus_actions.proofs.Marks.{newest_where-mark, is_above-mark, mark-mark, mark-same}
-use Rattle.argus_actions.proofs.NodesLemmas.{some_node, length-rows_of, row_at}
-use Rattle.argus_actions.proofs.Walks.{is_via, is_handled, IsNewestSub, newest_sub_is, via_past, via_more, via_all}
-use Rattle.argus_actions.proofs.Walks.{above_via, link_some, link_none, steps_left, fewer_steps}
+use Rattle.argus_actions.proofs.{Marks.{newest_where-mark, is_above-mark, mark-mark, mark-same}, NodesLemmas.some_node}
+use Rattle.argus_actions.proofs.{NodesLemmas.{length-rows_of, row_at}, Walks.{is_via, is_handled, IsNewestSub}}
+use Rattle.argus_actions.proofs.Walks.{newest_sub_is, via_past, via_more, via_all, above_via, link_some, link_none}
+use Rattle.argus_actions.proofs.Walks.{steps_left, fewer_steps}
 
 -- of the old rows those are Aborted that are handled by the subactions from the bound on; the next has this link
 pub record IsWalked (n : ℕ) (old nodes : List Node) (a link : ℕ) : Type 0 where
@@ -30,10 +30,7 @@ module _ (n : ℕ) (old : List Node) (a : ℕ) (kept : AreNodes n old) where
             ∙ ap (λ (rows : List Row). link_to (newest_below n rows a (n + length (rows_of old)))) rows_is
             ∙ ap link_to (newest_where-mark (is_sub_of a) n (λ k. eqb k a) Aborted (rows_of old)
             (n + length (rows_of old)));
-        rows = rows_is ∙ mark-same n (λ k. eqb k a) (is_handled n (rows_of old) a (n + length (rows_of old))) Aborted
-            (rows_of old)
-            (λ x low high. sym (or-false (eqb x a)) ∙ ap (λ b. eqb x a || b)
-            (sym (via_past n (rows_of old) a (n + length (rows_of old)) x (omega arith) (omega arith))));
+        rows = grind (arith, nat_tests, mark-same, is_handled, via_past);
       }
 
   module _ (nodes : List Node) (link : ℕ) (walked : IsWalked n old nodes a link) where
@@ -42,40 +39,20 @@ module _ (n : ℕ) (old : List Node) (a : ℕ) (kept : AreNodes n old) where
         (link_some (newest_below n (rows_of old) a walked.bound) link walked.next there)
 
     pub walk_begun : link ≢ NONE → (link < n + length old) × (a < link) × (n ≤ link)
-    walk_begun there =
-        let next : IsNewestSub n (rows_of old) a walked.bound link = walk_next there in
-        (omega (arith, next.begun, length-rows_of old), next.newer, next.low)
+    walk_begun there = grind (arith, nat_tests, IsNewestSub, walk_next, length-rows_of)
 
     pub walk_end : link ≡ NONE → rows_of nodes ≡ mark n (is_above n (rows_of old) a) Aborted (rows_of old)
     walk_end none =
         let done : newest_below n (rows_of old) a walked.bound ≡ None =
         link_none (newest_below n (rows_of old) a walked.bound) link walked.next none
-        (λ c e. let sub : IsNewestSub n (rows_of old) a walked.bound c =
-        newest_sub_is n (rows_of old) a walked.bound c kept.linked e in
-        omega (arith, sub.begun, length-rows_of old, kept.few)) in
-        walked.rows ∙ mark-same n (is_handled n (rows_of old) a walked.bound) (is_above n (rows_of old) a) Aborted
-        (rows_of old)
-        (λ x low high. ap (λ b. eqb x a || b) (via_all n (rows_of old) a walked.bound x kept.linked done low high)
-        ∙ above_via n (rows_of old) a x kept.linked low high)
+        (λ c e. grind (arith, nat_tests, IsNewestSub, newest_sub_is, length-rows_of)) in
+        grind (arith, nat_tests, mark-same, is_handled, via_all, above_via)
 
     module _ (new : List Node) (i : ℕ) (at : link ≡ n + i) (there : link ≢ NONE) (kept' : AreNodes n new)
         (long : length new ≡ length old)
         (rows_is : rows_of new ≡ mark n (is_above n (rows_of nodes) link) Aborted (rows_of nodes)) where
       all_rows : rows_of new ≡ mark n (is_handled n (rows_of old) a link) Aborted (rows_of old)
-      all_rows =
-          let found = link_some (newest_below n (rows_of old) a walked.bound) link walked.next there in
-          rows_is
-          ∙ ap (λ (rows : List Row). mark n (is_above n rows link) Aborted rows) walked.rows
-          ∙ mark-same n (is_above n (mark n (is_handled n (rows_of old) a walked.bound) Aborted (rows_of old)) link)
-          (is_above n (rows_of old) link) Aborted (mark n (is_handled n (rows_of old) a walked.bound) Aborted
-          (rows_of old))
-          (λ x low high. is_above-mark n (is_handled n (rows_of old) a walked.bound) Aborted (rows_of old) link x)
-          ∙ mark-mark n (is_handled n (rows_of old) a walked.bound) (is_above n (rows_of old) link) Aborted
-          (rows_of old)
-          ∙ mark-same n (λ x. is_handled n (rows_of old) a walked.bound x || is_above n (rows_of old) link x)
-          (is_handled n (rows_of old) a link) Aborted (rows_of old)
-          (λ x low high. or_assoc (eqb x a) (is_via n (rows_of old) a walked.bound x) (is_above n (rows_of old) link x)
-          ∙ ap (λ b. eqb x a || b) (via_more n (rows_of old) a walked.bound link x kept.linked found low high))
+      all_rows = grind (arith, nat_tests, link_some, mark-same, is_handled, is_above-mark, mark-mark, is_via, via_more)
 
       -- the next link, in the rows as they were
       next_link : (get_or new i some_node).older_sub ≡ link_to (newest_below n (rows_of old) a link)
@@ -100,9 +77,4 @@ module _ (n : ℕ) (old : List Node) (a : ℕ) (kept : AreNodes n old) where
       walk_step = record { bound = link; next = next_link; rows = all_rows }
 
       pub walk_smaller : steps_left (get_or new i some_node).older_sub < steps_left link
-      walk_smaller =
-          let begun = walk_begun there in
-          let small : link < NONE = omega (arith, begun.0, kept.few) in
-          rw next_link (fewer_steps (newest_below n (rows_of old) a link) link small
-          (λ c e. let sub : IsNewestSub n (rows_of old) a link c =
-          newest_sub_is n (rows_of old) a link c kept.linked e in sub.below))
+      walk_smaller = grind (arith, nat_tests, walk_begun, next_link, fewer_steps, IsNewestSub, newest_sub_is)

@@ -1,7 +1,6 @@
 -- In the midst of an abort the subactions so far are Aborted.
 use Rattle.std.proofs.Common.{◌≡◌, ◌+◌, ◌-◌, length}
-use Rattle.argus_actions.specs.Nodes.{AreNodes}
-use Rattle.argus_actions.proofs.{Walks.steps_left, Walked.IsWalked}
+use Rattle.argus_actions.{specs.Nodes.AreNodes, proofs.{Walks.steps_left, Walked.IsWalked}}
 use Rattle.argus_actions.proofs.walk.+abort_under.Given as goal
 
 abbrev pub decreases-abort_under : goal.decreases-abort_under

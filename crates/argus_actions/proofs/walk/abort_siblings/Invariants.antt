@@ -1,7 +1,6 @@
 -- In the midst of the walk the live siblings so far are Aborted, with all below them.
 use Rattle.std.proofs.Common.{◌≡◌, length}
-use Rattle.argus_actions.specs.Nodes.{AreNodes}
-use Rattle.argus_actions.proofs.{Walks.steps_left, Siblings.IsSwept}
+use Rattle.argus_actions.{specs.Nodes.AreNodes, proofs.{Walks.steps_left, Siblings.IsSwept}}
 use Rattle.argus_actions.proofs.walk.abort_siblings.Given as goal
 
 abbrev pub invariant-loop-others : goal.invariant-loop-others

@@ -1,7 +1,6 @@
 -- The number of live children stays within its bounds.
-use Rattle.std.proofs.{lemmas.Grind.common_steps, Common.{◌+◌, ◌-◌, length, ap, arith}}
-use Rattle.argus_actions.specs.Row.{under_of}
-use Rattle.argus_actions.proofs.{NodesLemmas.some_node, Begun.{child_fits, under_between}}
+use Rattle.std.proofs.{Common.{◌+◌, ◌-◌, length, ap, arith}, lemmas.Grind.common_steps}
+use Rattle.argus_actions.{specs.Row.under_of, proofs.{NodesLemmas.some_node, Begun.{child_fits, under_between}}}
 use Rattle.argus_actions.proofs.walk.adopt.Goals as goal
 
 pub overflow_add-above : goal.overflow_add-above

@@ -1,8 +1,7 @@
 -- Where the climb ends, the answer is known.
-use Rattle.std.proofs.Common.{◌≡◌, ◌-◌, ◌+◌, ◌<◌, length, sym, ◌∙◌, arith, inl, inr}
-use Rattle.std.proofs.lemmas.Bool.{eq-eqb, ne_eqb, cases_eq}
-use Rattle.argus_actions.specs.Nodes.{rows_of}
-use Rattle.argus_actions.proofs.{RowsLemmas.is_above_newer, NodesLemmas.some_node}
+use Rattle.std.proofs.{Common.{◌-◌, sym, ◌∙◌, arith, inl, inr}, lemmas.Bool.{Decides.nat_tests, eq-eqb, ne_eqb}}
+use Rattle.std.proofs.lemmas.Bool.{cases_eq}
+use Rattle.argus_actions.{specs.Nodes.rows_of, proofs.{RowsLemmas.is_above_newer, NodesLemmas.some_node}}
 use Rattle.argus_actions.proofs.Climbs.{climbed_here, climbed_up, climbed_out, parent_before}
 use Rattle.argus_actions.proofs.walk.climbs.Goals as goal
 
@@ -14,24 +13,12 @@ loop-at-smaller c =
 
 pub loop-at-preserved : goal.loop-at-preserved
 loop-at-preserved c =
-    let at : c.loop-at.at ≡ c.args.first + (c.loop-at.at - c.args.first) = omega (arith, c.loop-at.invariant.held) in
-    let there : c.loop-at.at - c.args.first < length c.args.nodes.now =
-    omega (arith, c.loop-at.invariant.held, c.loop-at.invariant.begun) in
-    let before = parent_before c.args.first c.args.nodes.now c.args.x c.loop-at.at (c.loop-at.at - c.args.first)
-    _ c.requires.linked at there c.in-Sub.parent c.in-Sub.is in
-    record {
-      held = before.0;
-      begun = omega (arith, before.1, c.loop-at.invariant.begun);
-      same = sym (climbed_up c.args.first c.args.nodes.now c.args.x c.loop-at.at (c.loop-at.at - c.args.first)
-          _ c.requires.linked at there c.loop-at-test.true c.in-Sub.parent c.in-Sub.is) ∙ c.loop-at.invariant.same;
-    }
+    let by_before = parent_before c.args.first c.args.nodes.now c.args.x c.loop-at.at (c.loop-at.at - c.args.first) in
+    let by_up = climbed_up c.args.first c.args.nodes.now c.args.x c.loop-at.at (c.loop-at.at - c.args.first) in
+    grind (arith, nat_tests, by_before, by_up)
 
 pub returns-in-Top : goal.returns-in-Top
-returns-in-Top c =
-    sym (climbed_out c.args.first c.args.nodes.now c.args.x c.loop-at.at (c.loop-at.at - c.args.first)
-    _ c.requires.linked (omega (arith, c.loop-at.invariant.held))
-    (omega (arith, c.loop-at.invariant.held, c.loop-at.invariant.begun)) c.loop-at-test.true c.in-Top.is)
-    ∙ c.loop-at.invariant.same
+returns-in-Top c = grind (arith, nat_tests, climbed_out)
 
 pub returns : goal.returns
 returns c =

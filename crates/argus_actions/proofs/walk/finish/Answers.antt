@@ -1,10 +1,10 @@
 -- What ending one action does to the nodes.
-use Rattle.std.proofs.Common.{◌≡◌, ◌<◌, ◌+◌, ◌-◌, ℕ, Option, Some, None, length, get_or, set, refl, sym, ◌∙◌, arith}
-use Rattle.std.proofs.{Common.{inl, inr}, lemmas.List.length-set}
-use Rattle.argus_actions.specs.declared.node.Node.{Node}
-use Rattle.argus_actions.proofs.{NodesLemmas.{some_node, under_is_there, under_has_live}, Finished.with_end}
-use Rattle.argus_actions.proofs.Finished.{finished, finished_under, finished_alone, finished_rows, finished_nodes}
-use Rattle.argus_actions.proofs.walk.finish.Goals.{then-is_live+in-Some, then-is_live+in_default, else-is_live}
+use Rattle.std.proofs.Common.{◌≡◌, ◌<◌, ◌+◌, ◌-◌, ℕ, Option, Some, None, length, get_or, set, sym, ◌∙◌, arith, inl, inr}
+use Rattle.std.proofs.lemmas.{Bool.Decides.nat_tests, List.length-set}
+use Rattle.argus_actions.{specs.declared.node.Node.Node, proofs.NodesLemmas.{some_node, under_is_there, under_has_live}}
+use Rattle.argus_actions.proofs.Finished.{with_end, finished, finished_under, finished_alone, finished_rows}
+use Rattle.argus_actions.proofs.{Finished.finished_nodes, walk.finish.Goals.then-is_live+in-Some}
+use Rattle.argus_actions.proofs.walk.finish.Goals.{then-is_live+in_default, else-is_live}
 use Rattle.argus_actions.proofs.walk.finish.Goals as goal
 
 pub overflow_sub-above : goal.overflow_sub-above
@@ -22,19 +22,16 @@ overflow_sub-nodes c =
 
 pub bounds-nodes-above : goal.bounds-nodes-above
 bounds-nodes-above c =
-    let there = under_is_there c.args.first c.args.nodes.now c.args.a (c.args.a - c.args.first)
-    c.in-Some.under some_node c.requires.nodes (omega arith) (omega arith) (sym c.in-Some.ensures) in
-    omega (arith, there.0, there.1)
+    let there = under_is_there _ _ c.args.a (c.args.a - c.args.first) _ some_node c.requires.nodes (omega arith)
+    (omega arith) (sym c.in-Some.ensures) in omega (arith, there.0, there.1)
 
 pub bounds-nodes-above-in-Some : goal.bounds-nodes-above-in-Some
 bounds-nodes-above-in-Some c =
-    let there = under_is_there c.args.first c.args.nodes.now c.args.a (c.args.a - c.args.first)
-    c.in-Some.under some_node c.requires.nodes (omega arith) (omega arith) (sym c.in-Some.ensures) in
-    omega (arith, there.0, there.1)
+    let there = under_is_there _ _ c.args.a (c.args.a - c.args.first) _ some_node c.requires.nodes (omega arith)
+    (omega arith) (sym c.in-Some.ensures) in omega (arith, there.0, there.1)
 
 none_of : (o : Option ℕ) → ((p : ℕ) → o ≡ Some p → ⊥) → o ≡ None
-none_of None other = refl
-none_of (Some p) other = absurd (other p refl)
+none_of o other = grind (arith, nat_tests)
 
 pub returns : goal.returns
 returns c =

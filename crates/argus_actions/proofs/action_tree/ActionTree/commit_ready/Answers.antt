@@ -1,26 +1,16 @@
 -- Who may end was begun, and is not folded.
-use Rattle.std.proofs.{Common.{◌≡◌, List, length, eqb, subst, ap, arith}, lemmas.List.with_items_is}
-use Rattle.argus_actions.specs.{declared.node.Node.Node, declared.status.Status.TheVariants.Committed, Rows.mark}
-use Rattle.argus_actions.specs.Nodes.{rows_of}
-use Rattle.argus_actions.proofs.{InStep.in_step_committed, NodesLemmas.length-rows_of}
+use Rattle.std.proofs.{Common.{◌≡◌, List, length, eqb, subst, ap, arith}, lemmas.Bool.Decides.nat_tests}
+use Rattle.std.proofs.lemmas.List.{with_items_is}
+use Rattle.argus_actions.specs.{declared.{node.Node.Node, status.Status.TheVariants.Committed}, Rows.mark}
+use Rattle.argus_actions.{specs.Nodes.rows_of, proofs.{InStep.in_step_committed, NodesLemmas.length-rows_of}}
 use Rattle.argus_actions.proofs.Accepted.{none_first, live_is_begun, commit_accepted}
 use Rattle.argus_actions.proofs.action_tree.ActionTree.commit_ready.Goals as goal
 
 pub finish-requires-clause-held : goal.finish-requires-clause-held
-finish-requires-clause-held c =
-    let begun = live_is_begun c.args.self.now c.args.a.0 (none_first _ _ c.requires) in
-    (rw (← c.self.view_is) at begun).0
+finish-requires-clause-held c = grind (arith, nat_tests, live_is_begun, none_first)
 
 pub finish-requires-clause-begun : goal.finish-requires-clause-begun
-finish-requires-clause-begun c =
-    let begun = live_is_begun c.args.self.now c.args.a.0 (none_first _ _ c.requires) in
-    let here = rw (← c.self.view_is) at begun in
-    omega (
-      arith,
-      here.1,
-      length-rows_of c.self.inside.nodes.items,
-      ap (λ (xs : List Node). length xs) c.as_mut_slice.ensures.value,
-    )
+finish-requires-clause-begun c = grind (arith, nat_tests, live_is_begun, none_first, length-rows_of)
 
 pub invariant_of-self : goal.invariant_of-self
 invariant_of-self c =
