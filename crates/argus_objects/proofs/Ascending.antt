@@ -1,26 +1,17 @@
 -- Numbers in increasing order, and climbs that go on where the last one ended.
-use Rattle.std.proofs.Common.{◌≡◌, ℕ, ◌+◌, ◌<◌, Bool, true, false, cond, ltb, leb, ◌&&◌, List, [], ◌∷◌, ◌++◌, filter}
-use Rattle.std.proofs.Common.{reverse, length, take, get_or, refl, sym, ◌∙◌, ap, arith, inl, inr, zero, suc}
-use Rattle.std.proofs.lemmas.Bool.{lt-ltb, le-leb, ltb-true, cases_Bool, and_parts, and_from, and_right}
-use Rattle.std.proofs.{lemmas.List.take_more, lemmas.List.Folds.list_all-append, lemmas.Grind.reverse_onto}
-use Rattle.std.specs.List.{list_all}
-use Rattle.argus_actions.specs.{declared.action_id.ActionId.ActionId, Tree.{Tree, is_ancestor}}
-use Rattle.argus_objects.specs.Rules.{all_above, is_ascending, is_chain, is_strictly_above, are_up_to}
-use Rattle.argus_actions.proofs.Above.{above_le, above_trans, above_linear}
-use Rattle.argus_objects.proofs.Chains.{all_imp, all_filter, strictly_lt}
+use Rattle.std.proofs.Common.{◌≡◌, ℕ, ◌+◌, ◌<◌, Bool, true, false, ltb, ◌&&◌, List, [], ◌∷◌, ◌++◌, filter, reverse}
+use Rattle.std.proofs.{Common.{length, take, get_or, refl, ◌∙◌, ap, arith, zero, suc}, lemmas.Bool.and_parts}
+use Rattle.std.proofs.lemmas.{Bool.{and_right, Decides.nat_tests}, List.{take_more, Folds.list_all-append}}
+use Rattle.std.{proofs.lemmas.Grind.reverse_onto, specs.List.list_all}
+use Rattle.argus_actions.{specs.{declared.action_id.ActionId.ActionId, Tree.{Tree, is_ancestor}}, proofs.Above.above_le}
+use Rattle.argus_actions.proofs.Above.{above_trans, above_linear}
+use Rattle.argus_objects.{specs.Rules.{all_above, is_ascending, is_chain, are_up_to}, proofs.Chains.all_imp}
+use Rattle.argus_objects.proofs.Chains.{all_filter, strictly_lt}
 
 pub ascending_filter : (keep : ActionId → Bool) (ids : List ActionId) → is_ascending ids ≡ true
     → is_ascending (filter keep ids) ≡ true
 ascending_filter keep [] up = refl
-ascending_filter keep (x ∷ xs) up =
-    let parts : (list_all (λ y. ltb x.0 y.0) xs ≡ true) × (is_ascending xs ≡ true) =
-    and_parts (list_all (λ y. ltb x.0 y.0) xs) (is_ascending xs) up in
-    let rest : is_ascending (filter keep xs) ≡ true = ascending_filter keep xs parts.1 in
-    elim (cases_Bool (keep x)) [
-      | inl k ↦ ap (λ b. is_ascending (cond b (x ∷ filter keep xs) (filter keep xs))) k
-          ∙ and_from _ _ (all_filter (λ y. ltb x.0 y.0) keep xs parts.0) rest
-      | inr k ↦ ap (λ b. is_ascending (cond b (x ∷ filter keep xs) (filter keep xs))) k ∙ rest
-    ]
+ascending_filter keep (x ∷ xs) up = grind (arith, nat_tests, all_filter, ascending_filter keep xs)
 
 -- what holds of all holds at each place
 pub all_at : (p : ActionId → Bool) (ys : List ActionId) (i : ℕ) (e : ActionId) → list_all p ys ≡ true → i < length ys
@@ -34,45 +25,25 @@ pub lower_before : (ids : List ActionId) (k : ℕ) (d : ActionId) → is_ascendi
     → list_all (λ x. ltb x.0 (get_or ids k d).0) (take k ids) ≡ true
 lower_before [] k d up below = absurd (omega arith)
 lower_before (x ∷ xs) zero d up below = refl
-lower_before (x ∷ xs) (suc k) d up below =
-    let parts : (list_all (λ y. ltb x.0 y.0) xs ≡ true) × (is_ascending xs ≡ true) =
-    and_parts (list_all (λ y. ltb x.0 y.0) xs) (is_ascending xs) up in
-    and_from _ _ (all_at (λ y. ltb x.0 y.0) xs k d parts.0 (omega arith)) (lower_before xs k d parts.1 (omega arith))
+lower_before (x ∷ xs) (suc k) d up below = grind (arith, nat_tests, all_at, lower_before xs k d)
 
 -- of two places the one behind has the greater number
 pub rising : (ids : List ActionId) (i j : ℕ) (d : ActionId) → is_ascending ids ≡ true → i < j → j < length ids
     → (get_or ids i d).0 < (get_or ids j d).0
 rising [] i j d up lt below = absurd (omega arith)
 rising (x ∷ xs) i zero d up lt below = absurd (omega arith)
-rising (x ∷ xs) zero (suc j) d up lt below =
-    let all : list_all (λ y. ltb x.0 y.0) xs ≡ true =
-    (and_parts (list_all (λ y. ltb x.0 y.0) xs) (is_ascending xs) up).0 in
-    ltb-true x.0 (get_or xs j d).0 (all_at (λ y. ltb x.0 y.0) xs j d all (omega arith))
+rising (x ∷ xs) zero (suc j) d up lt below = grind (arith, nat_tests, all_at)
 rising (x ∷ xs) (suc i) (suc j) d up lt below =
-    rising xs i j d (and_parts (list_all (λ y. ltb x.0 y.0) xs) (is_ascending xs) up).1 (omega arith) (omega arith)
+    grind (arith, nat_tests, rising xs i j d (and_parts (list_all (λ y. ltb x.0 y.0) xs) (is_ascending xs) up).1)
 
 -- if y is above z, then of the lower numbers the same are above y as are above z
 same_above : (t : Tree) (y z : ActionId) (ids : List ActionId) → is_ancestor t y.0 z.0 ≡ true
     → list_all (λ x. ltb x.0 y.0) ids ≡ true → all_above t z ids ≡ all_above t y ids
 same_above t y z [] up low = refl
-same_above t y z (x ∷ xs) up low =
-    let parts : (ltb x.0 y.0 ≡ true) × (list_all (λ x. ltb x.0 y.0) xs ≡ true) =
-    and_parts (ltb x.0 y.0) (list_all (λ x. ltb x.0 y.0) xs) low in
-    let lt : x.0 < y.0 = ltb-true x.0 y.0 parts.0 in
-    let here : is_ancestor t x.0 z.0 ≡ is_ancestor t x.0 y.0 =
-    same_test (is_ancestor t x.0 z.0) (is_ancestor t x.0 y.0)
-    (λ h. above_linear t.folded t.rows x.0 y.0 z.0 h up (omega arith))
-    (λ h. above_trans t.folded t.rows x.0 y.0 z.0 h up) in
-    ap (λ b. b && all_above t z xs) here ∙ ap (λ b. is_ancestor t x.0 y.0 && b) (same_above t y z xs up parts.1)
-  where
-    same_test : (b c : Bool) → (b ≡ true → c ≡ true) → (c ≡ true → b ≡ true) → b ≡ c
-    same_test true c f g = sym (f refl)
-    same_test false true f g = g refl
-    same_test false false f g = refl
+same_above t y z (x ∷ xs) up low = grind (arith, nat_tests, above_linear, above_trans, same_above t y z xs up)
 
 and_true : (b : Bool) → (b && (true && true)) ≡ b
-and_true true = refl
-and_true false = refl
+and_true b = grind (arith, nat_tests)
 
 -- one more is above, and the climb goes on from it
 pub climb_on : (t : Tree) (ids : List ActionId) (k : ℕ) (at d : ActionId) → is_ascending ids ≡ true → k < length ids
@@ -94,41 +65,24 @@ climb_off t ids k at d below off =
     ∙ and_right (all_above t at (take k ids)) _ (ap (λ b. b && true) off))
 
 and_comm : (a b : Bool) → (a && (b && true)) ≡ (b && a)
-and_comm true true = refl
-and_comm true false = refl
-and_comm false true = refl
-and_comm false false = refl
+and_comm a b = grind (arith, nat_tests)
 
 pub list_all_reverse : {X : Type 0} (p : X → Bool) (xs : List X) → list_all p (reverse xs) ≡ list_all p xs
 list_all_reverse p [] = refl
-list_all_reverse p (x ∷ xs) = ap (list_all p) (reverse_onto xs x [])
-    ∙ (list_all-append p (reverse xs) (x ∷ []) ∙ (ap (λ b. b && (p x && true)) (list_all_reverse p xs)
-    ∙ and_comm (list_all p xs) (p x)))
+list_all_reverse p (x ∷ xs) = grind (arith, nat_tests, reverse_onto, list_all-append, and_comm, list_all_reverse p xs)
 
 ascending_push : (ids : List ActionId) (y : ActionId) → is_ascending ids ≡ true → list_all (λ x. ltb x.0 y.0) ids ≡ true
     → is_ascending (ids ++ y ∷ []) ≡ true
 ascending_push [] y up low = refl
-ascending_push (x ∷ xs) y up low =
-    let parts : (list_all (λ z. ltb x.0 z.0) xs ≡ true) × (is_ascending xs ≡ true) =
-    and_parts (list_all (λ z. ltb x.0 z.0) xs) (is_ascending xs) up in
-    let lows : (ltb x.0 y.0 ≡ true) × (list_all (λ x. ltb x.0 y.0) xs ≡ true) =
-    and_parts (ltb x.0 y.0) (list_all (λ x. ltb x.0 y.0) xs) low in
-    and_from _ _
-    (list_all-append (λ z. ltb x.0 z.0) xs (y ∷ []) ∙ and_from _ _ parts.0 (and_from _ _ lows.0 refl))
-    (ascending_push xs y parts.1 lows.1)
+ascending_push (x ∷ xs) y up low = grind (arith, nat_tests, list_all-append, ascending_push xs y)
 
 -- a chain, turned round, stands in increasing number
 pub chain_ascends : (t : Tree) (ids : List ActionId) → is_chain t ids ≡ true → is_ascending (reverse ids) ≡ true
 chain_ascends t [] chain = refl
 chain_ascends t (y ∷ older) chain =
-    let parts : (list_all (λ x. is_strictly_above t x y) older ≡ true) × (is_chain t older ≡ true) =
-    and_parts (list_all (λ x. is_strictly_above t x y) older) (is_chain t older) chain in
-    ap is_ascending (reverse_onto older y [])
-    ∙ ascending_push (reverse older) y (chain_ascends t older parts.1)
-    (list_all_reverse (λ x. ltb x.0 y.0) older ∙ all_imp (λ x. is_strictly_above t x y) (λ x. ltb x.0 y.0)
-    (λ x h. lt-ltb x.0 y.0 (strictly_lt t x y h)) older parts.0)
+    let rest = chain_ascends t older in
+    grind (arith, nat_tests, reverse_onto, ascending_push, list_all_reverse, all_imp, strictly_lt, rest)
 
 -- ancestors have no greater number
 pub above_up_to : (t : Tree) (a : ActionId) (ids : List ActionId) → all_above t a ids ≡ true → are_up_to a ids ≡ true
-above_up_to t a ids up = all_imp (λ x. is_ancestor t x.0 a.0) (λ x. leb x.0 a.0)
-    (λ x h. le-leb x.0 a.0 (above_le t.folded t.rows x.0 a.0 h).0) ids up
+above_up_to t a ids up = grind (arith, nat_tests, all_imp, above_le)

@@ -1,9 +1,9 @@
 -- Lists in which each object comes once.
-use Rattle.std.proofs.Common.{◌≡◌, Bool, true, false, eqb, ◌||◌, if◌then◌else◌, List, [], ◌∷◌, ◌++◌, refl, sym, ◌∙◌, ap}
-use Rattle.std.proofs.{Common.subst, lemmas.Bool.cond-false, lemmas.List.{append_assoc, append-nil}}
-use Rattle.std.specs.List.{list_any, AllByRecursion, IsDistinct}
+use Rattle.std.proofs.Common.{◌≡◌, Bool, true, false, eqb, ◌||◌, if◌then◌else◌, List, [], ◌∷◌, ◌++◌, refl, sym, arith}
+use Rattle.std.{proofs.lemmas.{List.{append_assoc, append-nil}, Bool.Decides.nat_tests}, specs.List.list_any}
+use Rattle.std.specs.List.{AllByRecursion, IsDistinct}
 use Rattle.argus_contents.specs.declared.obj_id.ObjId.{ObjId}
-use Rattle.argus_objects.specs.ObjectList.{noted, passed}
+use Rattle.argus_objects.specs.ObjectList.{passed}
 
 pub distinct_none : IsDistinct (λ (x y : ObjId). eqb x.0 y.0) []
 unfolding IsDistinct
@@ -16,18 +16,14 @@ apart_push x [] o all e = (e, tt)
 apart_push x (y ∷ ys) o all e = (all.0, apart_push x ys o all.1 e)
 
 neither : (b c : Bool) → (b || c) ≡ false → (b ≡ false) × (c ≡ false)
-neither true c e = let bad : true ≡ false = e in cc
-neither false c e = (refl, e)
+neither b c e = grind (arith, nat_tests)
 
 -- an object that is not in the list, at its end
 distinct_push : (xs : List ObjId) (o : ObjId) → IsDistinct (λ (x y : ObjId). eqb x.0 y.0) xs
     → list_any (λ (x : ObjId). eqb x.0 o.0) xs ≡ false → IsDistinct (λ (x y : ObjId). eqb x.0 y.0) (xs ++ o ∷ [])
 unfolding IsDistinct
 distinct_push [] o d absent = (tt, tt)
-distinct_push (x ∷ xs) o d absent =
-    let parts : (eqb x.0 o.0 ≡ false) × (list_any (λ (y : ObjId). eqb y.0 o.0) xs ≡ false) =
-    neither (eqb x.0 o.0) (list_any (λ (y : ObjId). eqb y.0 o.0) xs) absent in
-    (apart_push x xs o d.0 parts.0, distinct_push xs o d.1 parts.1)
+distinct_push (x ∷ xs) o d absent = grind (arith, nat_tests, neither, apart_push, distinct_push xs o d.1)
 
 -- the same, whether it was put there or not
 pub distinct_pushed : (put : Bool) (xs : List ObjId) (o : ObjId) → IsDistinct (λ (x y : ObjId). eqb x.0 y.0) xs
@@ -51,11 +47,7 @@ absent_before (x ∷ xs) o os d = rw (apart_at x xs o os d.0) (absent_before xs 
 passed_onto : (os list : List ObjId) → IsDistinct (λ (x y : ObjId). eqb x.0 y.0) (list ++ os)
     → passed os list ≡ list ++ os
 passed_onto [] list d = sym (append-nil list)
-passed_onto (o ∷ os) list d =
-    let put : noted o list ≡ list ++ o ∷ [] = cond-false _ _ _ (absent_before list o os d) in
-    let same : (list ++ o ∷ []) ++ os ≡ list ++ o ∷ os = append_assoc list (o ∷ []) os in
-    ap (passed os) put ∙ (passed_onto os (list ++ o ∷ [])
-    (subst (λ l. IsDistinct (λ (x y : ObjId). eqb x.0 y.0) l) (sym same) d) ∙ same)
+passed_onto (o ∷ os) list d = grind (arith, nat_tests, absent_before, append_assoc, passed_onto os (list ++ o ∷ []))
 
 -- objects passed to who has none are that list
 pub passed_to_none : (os : List ObjId) → IsDistinct (λ (x y : ObjId). eqb x.0 y.0) os → passed os [] ≡ os

@@ -1,7 +1,8 @@
 -- What is behind the front after a part of the list has moved.
 use Rattle.std.proofs.Common.{◌≡◌, ℕ, ◌+◌, ◌-◌, ◌≤◌, List, ◌∷◌, ◌++◌, length, take, drop, set, sym, ◌∙◌, ap, arith}
-use Rattle.std.proofs.{Common.zero, lemmas.List.{drop_more, drop-append-le, drop-take, append_assoc}, Math.Seq.paste}
-use Rattle.std.proofs.lemmas.List.{drop-drop, drop_at, drop-set-add, set-append_right, length-take-le, length-drop}
+use Rattle.std.proofs.{Common.zero, lemmas.List.{drop_more, drop-append-le, drop-take, append_assoc, drop-drop}}
+use Rattle.std.proofs.lemmas.List.{drop_at, drop-set-add, set-append_right, length-take-le, length-drop}
+use Rattle.std.proofs.{lemmas.Bool.Decides.nat_tests, Math.Seq.paste}
 use Rattle.argus_actions.specs.declared.action_id.ActionId.{ActionId}
 
 -- those behind a place, seen from the front
@@ -33,20 +34,10 @@ down_by_one xs k place a le =
 pub put_between : (xs : List ActionId) (front place : ℕ) (a : ActionId) → front + place ≤ length xs
     → drop front (take (front + place) xs ++ a ∷ drop (front + place) xs)
     ≡ take place (drop front xs) ++ a ∷ drop place (drop front xs)
-put_between xs front place a le =
-    let fits : length (take (front + place) xs) ≡ front + place = length-take-le (front + place) xs le in
-    drop-append-le front (take (front + place) xs) (a ∷ drop (front + place) xs) (omega (arith, fits))
-    ∙ (ap (λ (zs : List ActionId). zs ++ a ∷ drop (front + place) xs) (drop-take front place xs)
-    ∙ ap (λ (zs : List ActionId). take place (drop front xs) ++ a ∷ zs) (behind xs front place))
+put_between xs front place a le = grind (arith, nat_tests, length-take-le, drop-append-le, drop-take, behind)
 
 -- what is in a place is taken out, and those behind it move
 pub taken_between : (xs : List ActionId) (front place : ℕ) → front + place ≤ length xs
     → drop front (take (front + place) xs ++ drop (front + place + 1) xs)
     ≡ take place (drop front xs) ++ drop (place + 1) (drop front xs)
-taken_between xs front place le =
-    let fits : length (take (front + place) xs) ≡ front + place = length-take-le (front + place) xs le in
-    let same : front + place + 1 ≡ front + (place + 1) = omega arith in
-    drop-append-le front (take (front + place) xs) (drop (front + place + 1) xs) (omega (arith, fits))
-    ∙ (ap (λ (zs : List ActionId). zs ++ drop (front + place + 1) xs) (drop-take front place xs)
-    ∙ ap (λ (zs : List ActionId). take place (drop front xs) ++ zs)
-    (ap (λ (n : ℕ). drop n xs) same ∙ behind xs front (place + 1)))
+taken_between xs front place le = grind (arith, nat_tests, length-take-le, drop-append-le, drop-take, behind)

@@ -1,10 +1,10 @@
 -- Where a search by halving ends, among readers and among versions.
 use Rattle.std.proofs.Common.{◌≡◌, ℕ, ◌+◌, ◌<◌, ◌≤◌, true, false, eqb, ltb, List, length, take, drop, get_or, sym, ◌∙◌}
 use Rattle.std.proofs.Common.{refl, ap, subst, arith, inl, inr, zero, suc, Result, Ok, Err, IfOk, IfErr}
-use Rattle.std.proofs.{lemmas.Bool.{cases_eq, cases_lt, ne_eqb}, lemmas.Bool.Decides.nat_tests, lemmas.Cmp.ranked}
-use Rattle.std.proofs.{lemmas.List.{get_or-drop, get_or-map, length-drop, length-map}, lemmas.List.Folds.list_any_none}
-use Rattle.std.specs.{List.list_all, List.Sorted.{IsSearchInRange, IsBinarySearchResult, IsNonDecreasingBy}}
-use Rattle.std.specs.Ordering.{nat_cmp, ordering_index}
+use Rattle.std.proofs.lemmas.{Bool.{cases_lt, ne_eqb, Decides.nat_tests}, Cmp.ranked, List.{get_or-drop, get_or-map}}
+use Rattle.std.{proofs.lemmas.List.{length-drop, length-map, Folds.list_any_none}, specs.List.list_all}
+use Rattle.std.specs.{List.Sorted.{IsSearchInRange, IsBinarySearchResult, IsNonDecreasingBy}, Ordering.nat_cmp}
+use Rattle.std.specs.Ordering.{ordering_index}
 use Rattle.argus_actions.specs.declared.action_id.ActionId.{ActionId}
 use Rattle.argus_objects.specs.{declared.version.Version.Version, Object.{versions_newest_first, writers}}
 use Rattle.argus_objects.specs.{Rules.is_ascending, CellChanges.has_version, Readers.{StandsAt, GoesTo}}
@@ -14,11 +14,7 @@ use Rattle.argus_objects.proofs.Stacks.{has_newest}
 -- among readers: in the action's place, or in that where it would be put
 module _ (a : ActionId) (ys : List ActionId) (up : is_ascending ys ≡ true) where
   reader_tests_rise : IsNonDecreasingBy (λ (y : ActionId). ordering_index (nat_cmp y.0 a.0)) ys
-  reader_tests_rise i j d le below =
-      elim (cases_eq i j) [
-        | inl same ↦ omega (arith, ap (λ n. ordering_index (nat_cmp (get_or ys n d).0 a.0)) same)
-        | inr other ↦ let lt = rising ys i j d up (omega arith) below in grind (arith, nat_tests)
-      ]
+  reader_tests_rise i j d le below = grind (arith, nat_tests, rising)
 
   all_older : (at : ℕ) → at ≤ length ys → ((k : ℕ) (d : ActionId) → k < at → (get_or ys k d).0 < a.0)
       → list_all (λ x. ltb x.0 a.0) (take at ys) ≡ true
@@ -63,26 +59,22 @@ pub record IsVersionAt (a : ActionId) (vs : List Version) (at : ℕ) : Type 0 wh
 
 -- among versions, which go from ancestor to descendant: at the action's version, or there is none
 module _ (a : ActionId) (vs : List Version) (up : is_ascending (writers vs) ≡ true) where
-  older_holder : (i j : ℕ) (d : Version) → i < j → j < length vs
-      → (get_or vs i d).holder.0 < (get_or vs j d).holder.0
+  older_holder : (i j : ℕ) (d : Version) → i < j → j < length vs → (get_or vs i d).holder.0 < (get_or vs j d).holder.0
   older_holder i j d lt below =
-      let at : (k : ℕ) → k < length vs → (get_or (writers vs) k d.holder).0 ≡ (get_or vs k d).holder.0 =
-      λ k b. ap (λ (x : ActionId). x.0) (get_or-map (λ (v : Version). v.holder) vs k d d.holder b) in
-      let long : length (writers vs) ≡ length vs = length-map vs (λ (v : Version). v.holder) in
-      let less : (get_or (writers vs) i d.holder).0 < (get_or (writers vs) j d.holder).0 =
-      rising (writers vs) i j d.holder up lt (omega (arith, long)) in
-      omega (arith, less, at i (omega arith), at j below)
+      let read = get_or-map (λ (v : Version). v.holder) vs in
+      let many = length-map vs (λ (v : Version). v.holder) in
+      grind (arith, nat_tests, read, many, rising (writers vs) i j d.holder up lt)
 
   version_tests_rise : IsNonDecreasingBy (λ (v : Version). ordering_index (nat_cmp v.holder.0 a.0)) vs
-  version_tests_rise i j d le below =
-      elim (cases_eq i j) [
-        | inl same ↦ omega (arith, ap (λ n. ordering_index (nat_cmp (get_or vs n d).holder.0 a.0)) same)
-        | inr other ↦ let lt = older_holder i j d (omega arith) below in grind (arith, nat_tests)
-      ]
+  version_tests_rise i j d le below = grind (arith, nat_tests, older_holder)
 
   pub version_searched : (r : Result ℕ ℕ) → IsSearchInRange r (length vs)
       → IsBinarySearchResult (λ (v : Version). nat_cmp v.holder.0 a.0) vs r
-      → record { found : IfOk r (IsVersionAt a vs); missing : IfErr r (λ at. has_version a (versions_newest_first vs) ≡ false) }
+      → record {
+        found : IfOk r (IsVersionAt a vs);
+        missing : IfErr r (λ at. has_version a (versions_newest_first vs)
+            ≡ false);
+      }
   version_searched (Ok at) below equal =
       let same : (d : Version) → (get_or vs at d).holder.0 ≡ a.0 =
       λ d. ranked (get_or vs at d).holder.0 a.0 _ (sym (equal d)) in

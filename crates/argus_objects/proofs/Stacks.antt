@@ -1,25 +1,23 @@
 -- Versions as the program keeps them, the newest last, and as contracts see them.
 use Rattle.std.proofs.Common.{◌≡◌, ◌≢◌, ℕ, ◌+◌, ◌<◌, ◌≤◌, Bool, true, false, not, cond, eqb, ltb, leb, ◌&&◌, ◌||◌, List}
 use Rattle.std.proofs.Common.{[], ◌∷◌, ◌++◌, map, filter, reverse, length, take, drop, get_or, set, Option, Some, None}
-use Rattle.std.proofs.{Common.{refl, sym, ◌∙◌, ap, arith, zero, suc, subst}, lemmas.Bool.{and_from, or_parts}}
-use Rattle.std.proofs.lemmas.Bool.{eq-eqb, ne_eqb, lt-ltb, ltb-true, leb-true, cond-true, cond-false, and_parts}
-use Rattle.std.proofs.lemmas.List.{take_more, drop_more, append_assoc, append-nil, take-append-drop, reverse-append}
-use Rattle.std.proofs.lemmas.List.{map-append, get_or-map, get_or_at, set_at, length-map, length-take-le, drop_all}
-use Rattle.std.proofs.{lemmas.List.take_all, lemmas.List.Elements.filter-append, lemmas.Grind.reverse_onto}
-use Rattle.std.proofs.{lemmas.List.Folds.{list_any-append, list_all-map}, lemmas.Simd.map-map}
+use Rattle.std.proofs.{Common.{refl, sym, ◌∙◌, ap, arith, zero, suc, subst}, lemmas.Bool.{eq-eqb, cond-true}}
+use Rattle.std.proofs.lemmas.{Bool.Decides.nat_tests, List.{take_more, drop_more, append_assoc, append-nil}}
+use Rattle.std.proofs.lemmas.List.{take-append-drop, reverse-append, map-append, get_or-map, get_or_at, set_at}
+use Rattle.std.proofs.lemmas.List.{length-map, length-take-le, drop_all, take_all, Elements.filter-append}
+use Rattle.std.proofs.lemmas.{List.{Folds.{list_any-append, list_all-map}, take-map}, Grind.reverse_onto, Simd.map-map}
 use Rattle.std.specs.List.{list_all, list_any}
 use Rattle.argus_actions.specs.{declared.action_id.ActionId.ActionId, Tree.Tree}
 use Rattle.argus_contents.specs.Content.{PlainContent}
-use Rattle.argus_objects.specs.declared.version.Version.{Version}
-use Rattle.argus_objects.specs.Object.{PlainVersion, plain_version, versions_newest_first, holders, writers}
-use Rattle.argus_objects.specs.Rules.{are_related, are_up_to, is_ascending, is_chain, is_related, is_strictly_above}
-use Rattle.argus_objects.specs.CellChanges.{has_version, version_inherited, version_of, with_version, without_version}
+use Rattle.argus_objects.specs.{declared.version.Version.Version, Object.{PlainVersion, plain_version}}
+use Rattle.argus_objects.specs.{Object.{versions_newest_first, holders, writers}, Rules.{are_related, are_up_to}}
+use Rattle.argus_objects.specs.{Rules.{is_ascending, is_chain, is_related, is_strictly_above}, CellChanges.has_version}
+use Rattle.argus_objects.specs.CellChanges.{version_inherited, version_of, with_version, without_version}
 use Rattle.argus_objects.proofs.{Chains.{renamed, all_imp}, Ascending.{list_all_reverse, lower_before}}
 
 pub newest_push : (vs : List Version) (v : Version) → versions_newest_first (vs ++ v ∷ []) ≡ plain_version v
     ∷ versions_newest_first vs
-newest_push vs v =
-    ap reverse (map-append plain_version vs (v ∷ [])) ∙ reverse-append (map plain_version vs) (plain_version v ∷ [])
+newest_push vs v = grind (arith, nat_tests, map-append, reverse-append)
 
 -- an action is its number
 pub same_id : (x y : ActionId) → x.0 ≡ y.0 → x ≡ y
@@ -28,14 +26,11 @@ same_id x y e = ap (λ n. let z : ActionId = record { 0 = n } in z) e
 -- a list turned round, seen element by element
 pub map_reverse : {X Y : Type 0} (f : X → Y) (xs : List X) → map f (reverse xs) ≡ reverse (map f xs)
 map_reverse f [] = refl
-map_reverse f (x ∷ xs) =
-    ap (map f) (reverse_onto xs x []) ∙ (map-append f (reverse xs) (x ∷ [])
-    ∙ (ap (λ ys. ys ++ f x ∷ []) (map_reverse f xs) ∙ sym (reverse_onto (map f xs) (f x) [])))
+map_reverse f (x ∷ xs) = grind (arith, nat_tests, reverse_onto, map-append, map_reverse f xs)
 
 -- the holders from descendant to ancestor are those from ancestor to descendant, turned round
 pub holders_newest : (vs : List Version) → holders (versions_newest_first vs) ≡ reverse (writers vs)
-holders_newest vs = map_reverse (λ (v : PlainVersion). v.holder) (map plain_version vs)
-    ∙ ap reverse (map-map (λ (v : PlainVersion). v.holder) plain_version vs)
+holders_newest vs = grind (arith, nat_tests, map_reverse, map-map)
 
 pub all_holders : (p : ActionId → Bool) (vs : List Version)
     → list_all p (holders (versions_newest_first vs)) ≡ list_all p (writers vs)
@@ -52,26 +47,18 @@ filter_end false ys x = append-nil (reverse ys)
 
 filter_reverse : {X : Type 0} (p : X → Bool) (xs : List X) → filter p (reverse xs) ≡ reverse (filter p xs)
 filter_reverse p [] = refl
-filter_reverse p (x ∷ xs) =
-    ap (filter p) (reverse_onto xs x []) ∙ (filter-append p (reverse xs) (x ∷ [])
-    ∙ (ap (λ ys. ys ++ filter p (x ∷ [])) (filter_reverse p xs) ∙ filter_end (p x) (filter p xs) x))
+filter_reverse p (x ∷ xs) = grind (arith, nat_tests, reverse_onto, filter-append, filter_end, filter_reverse p xs)
 
 filter_map : {X Y : Type 0} (p : Y → Bool) (f : X → Y) (xs : List X)
     → filter p (map f xs) ≡ map f (filter (λ x. p (f x)) xs)
 filter_map p f [] = refl
-filter_map p f (x ∷ xs) = ap (λ ys. cond (p (f x)) (f x ∷ ys) ys) (filter_map p f xs) ∙ moved (p (f x))
-  where
-    moved : (b : Bool) → cond b (f x ∷ map f (filter (λ x. p (f x)) xs)) (map f (filter (λ x. p (f x)) xs))
-        ≡ map f (cond b (x ∷ filter (λ x. p (f x)) xs) (filter (λ x. p (f x)) xs))
-    moved true = refl
-    moved false = refl
+filter_map p f (x ∷ xs) = grind (arith, nat_tests, filter_map p f xs)
 
 -- a test of the holders filters the same versions
 pub newest_filter : (p : ActionId → Bool) (vs : List Version)
     → filter (λ (v : PlainVersion). p v.holder) (versions_newest_first vs)
     ≡ versions_newest_first (filter (λ (v : Version). p v.holder) vs)
-newest_filter p vs = filter_reverse (λ (v : PlainVersion). p v.holder) (map plain_version vs)
-    ∙ ap reverse (filter_map (λ (v : PlainVersion). p v.holder) plain_version vs)
+newest_filter p vs = grind (arith, nat_tests, filter_reverse, filter_map)
 
 pub holders_filter : (p : ActionId → Bool) (vs : List PlainVersion)
     → holders (filter (λ v. p v.holder) vs) ≡ filter p (holders vs)
@@ -80,25 +67,11 @@ holders_filter p vs = sym (filter_map p (λ (v : PlainVersion). v.holder) vs)
 pub holders_handed : (s parent : ActionId) (vs : List PlainVersion)
     → holders (map (version_inherited s parent) vs) ≡ map (renamed s parent) (holders vs)
 holders_handed s parent [] = refl
-holders_handed s parent (v ∷ vs) = ap (λ xs. (version_inherited s parent v).holder ∷ xs) (holders_handed s parent vs)
-    ∙ ap (λ x. x ∷ map (renamed s parent) (holders vs)) (one (eqb v.holder.0 s.0))
-  where
-    one : (b : Bool) → (cond b (let w : PlainVersion = record { holder = parent; content = v.content } in w) v).holder
-        ≡ cond b parent v.holder
-    one true = refl
-    one false = refl
+holders_handed s parent (v ∷ vs) = grind (arith, nat_tests, holders_handed s parent vs)
 
 any_reverse : {X : Type 0} (p : X → Bool) (xs : List X) → list_any p (reverse xs) ≡ list_any p xs
 any_reverse p [] = refl
-any_reverse p (x ∷ xs) = ap (list_any p) (reverse_onto xs x [])
-    ∙ (list_any-append p (reverse xs) (x ∷ []) ∙ (ap (λ b. b || (p x || false)) (any_reverse p xs)
-    ∙ or_comm (list_any p xs) (p x)))
-  where
-    or_comm : (a b : Bool) → (a || (b || false)) ≡ (b || a)
-    or_comm true true = refl
-    or_comm true false = refl
-    or_comm false true = refl
-    or_comm false false = refl
+any_reverse p (x ∷ xs) = grind (arith, nat_tests, reverse_onto, list_any-append, any_reverse p xs)
 
 pub has_newest : (a : ActionId) (vs : List Version) → has_version a (versions_newest_first vs)
     ≡ list_any (λ (v : Version). eqb v.holder.0 a.0) vs
@@ -111,8 +84,7 @@ has_newest a vs = any_reverse (λ (v : PlainVersion). eqb v.holder.0 a.0) (map p
 
 pub newest_append : (xs ys : List Version) → versions_newest_first (xs ++ ys) ≡ versions_newest_first ys
     ++ versions_newest_first xs
-newest_append xs ys =
-    ap reverse (map-append plain_version xs ys) ∙ reverse-append (map plain_version xs) (map plain_version ys)
+newest_append xs ys = grind (arith, nat_tests, map-append, reverse-append)
 
 pub newest_split : (vs : List Version) (k : ℕ) (d : Version) → k < length vs
     → versions_newest_first vs ≡ versions_newest_first (drop (k + 1) vs) ++ plain_version (get_or vs k d)
@@ -125,55 +97,30 @@ newest_split vs k d below =
 
 pub version_of_none : (a : ActionId) (vs : List PlainVersion) → has_version a vs ≡ false → version_of a vs ≡ None
 version_of_none a [] lacks = refl
-version_of_none a (v ∷ vs) lacks =
-    let parts : (eqb v.holder.0 a.0 ≡ false) × (has_version a vs ≡ false) =
-    or_parts (eqb v.holder.0 a.0) (has_version a vs) lacks in
-    cond-false _ _ _ parts.0 ∙ version_of_none a vs parts.1
+version_of_none a (v ∷ vs) lacks = grind (arith, nat_tests, version_of_none a vs)
 
 version_of_past : (a : ActionId) (xs ys : List PlainVersion) → has_version a xs ≡ false
     → version_of a (xs ++ ys) ≡ version_of a ys
 version_of_past a [] ys lacks = refl
-version_of_past a (v ∷ vs) ys lacks =
-    let parts : (eqb v.holder.0 a.0 ≡ false) × (has_version a vs ≡ false) =
-    or_parts (eqb v.holder.0 a.0) (has_version a vs) lacks in
-    cond-false _ _ _ parts.0 ∙ version_of_past a vs ys parts.1
+version_of_past a (v ∷ vs) ys lacks = grind (arith, nat_tests, version_of_past a vs ys)
 
 pub without_none : (a : ActionId) (vs : List PlainVersion) → has_version a vs ≡ false → without_version a vs ≡ vs
 without_none a [] lacks = refl
-without_none a (v ∷ vs) lacks =
-    let parts : (eqb v.holder.0 a.0 ≡ false) × (has_version a vs ≡ false) =
-    or_parts (eqb v.holder.0 a.0) (has_version a vs) lacks in
-    ap (λ b. cond (not b) (v ∷ without_version a vs) (without_version a vs)) parts.0
-    ∙ ap (λ ws. v ∷ ws) (without_none a vs parts.1)
+without_none a (v ∷ vs) lacks = grind (arith, nat_tests, without_none a vs)
 
 -- lower holders are all other actions
 pub without_lower : (a : ActionId) (vs : List PlainVersion) → list_all (λ x. ltb x.0 a.0) (holders vs) ≡ true
     → without_version a vs ≡ vs
 without_lower a [] low = refl
-without_lower a (v ∷ vs) low =
-    let parts : (ltb v.holder.0 a.0 ≡ true) × (list_all (λ x. ltb x.0 a.0) (holders vs) ≡ true) =
-    and_parts (ltb v.holder.0 a.0) (list_all (λ x. ltb x.0 a.0) (holders vs)) low in
-    let lt : v.holder.0 < a.0 = ltb-true v.holder.0 a.0 parts.0 in
-    ap (λ b. cond (not b) (v ∷ without_version a vs) (without_version a vs)) (ne_eqb v.holder.0 a.0 (λ e. omega arith))
-    ∙ ap (λ ws. v ∷ ws) (without_lower a vs parts.1)
+without_lower a (v ∷ vs) low = grind (arith, nat_tests, without_lower a vs)
 
 -- those below the place have lower holders
 pub lower_newest : (vs : List Version) (k : ℕ) (d : Version) → is_ascending (writers vs) ≡ true → k < length vs
     → list_all (λ x. ltb x.0 (get_or vs k d).holder.0) (holders (versions_newest_first (take k vs))) ≡ true
 lower_newest vs k d asc below =
     all_holders (λ x. ltb x.0 (get_or vs k d).holder.0) (take k vs)
-    ∙ (ap (list_all (λ (x : ActionId). ltb x.0 (get_or vs k d).holder.0)) (take_map vs k)
-    ∙ (ap (λ (y : ActionId). list_all (λ (x : ActionId). ltb x.0 y.0) (take k (writers vs)))
-    (sym (get_or-map (λ (v : Version). v.holder) vs k d d.holder below))
-    ∙ lower_before (writers vs) k d.holder asc (rw length_writers below)))
-  where
-    length_writers : length (writers vs) ≡ length vs
-    length_writers = length-map vs (λ (v : Version). v.holder)
-
-    take_map : (ws : List Version) (i : ℕ) → writers (take i ws) ≡ take i (writers ws)
-    take_map ws zero = refl
-    take_map [] (suc i) = refl
-    take_map (w ∷ ws) (suc i) = ap (λ xs. w.holder ∷ xs) (take_map ws i)
+    ∙ rw (← take-map (λ (v : Version). v.holder) k vs, ← get_or-map (λ (v : Version). v.holder) vs k d d.holder below)
+    (lower_before (writers vs) k d.holder asc (rw (length-map vs (λ (v : Version). v.holder)) below))
 
 -- the version at a place is the action's, and none above it
 module _ (a : ActionId) (vs : List Version) (k : ℕ) (d : Version) (below : k < length vs)
@@ -196,16 +143,12 @@ module _ (a : ActionId) (vs : List Version) (k : ℕ) (d : Version) (below : k <
 
   pub removed_here : versions_newest_first (take k vs ++ drop (k + 1) vs) ≡ without_version a (versions_newest_first vs)
   removed_here =
-      newest_append (take k vs) (drop (k + 1) vs)
-      ∙ sym (ap (without_version a) (newest_split vs k d below)
-      ∙ (filter-append (λ (v : PlainVersion). not (eqb v.holder.0 a.0)) (versions_newest_first (drop (k + 1) vs))
-      (plain_version (get_or vs k d) ∷ versions_newest_first (take k vs))
-      ∙ (ap (λ ws. ws ++ without_version a (plain_version (get_or vs k d) ∷ versions_newest_first (take k vs)))
-      (without_none a (versions_newest_first (drop (k + 1) vs)) above)
-      ∙ ap (λ ws. versions_newest_first (drop (k + 1) vs) ++ ws)
-      (ap (λ b. cond (not b) (plain_version (get_or vs k d) ∷ without_version a (versions_newest_first (take k vs)))
-      (without_version a (versions_newest_first (take k vs)))) (eq-eqb (get_or vs k d).holder.0 a.0 here)
-      ∙ lower_here))))
+      let whole = newest_append (take k vs) (drop (k + 1) vs) in
+      let split = newest_split vs k d below in
+      let kept = filter-append (λ (v : PlainVersion). not (eqb v.holder.0 a.0))
+      (versions_newest_first (drop (k + 1) vs)) (plain_version (get_or vs k d) ∷ versions_newest_first (take k vs)) in
+      let none = without_none a (versions_newest_first (drop (k + 1) vs)) above in
+      grind (arith, nat_tests, whole, split, kept, none, lower_here)
 
 -- the newest version given a new content
 pub newest_set : (vs : List Version) (k : ℕ) (v : Version) → k + 1 ≡ length vs
@@ -224,29 +167,12 @@ pub version_set : (a : ActionId) (content : Option PlainContent) (vs : List Vers
     → (get_or vs k d).holder.0 ≡ a.0 → v.holder ≡ a → (plain_version v).content ≡ content
     → versions_newest_first (set vs k v) ≡ with_version a content (versions_newest_first vs)
 version_set a content vs k d v last asc here holder_is content_is =
-    let below : k < length vs = omega arith in
-    let none_above : has_version a (versions_newest_first (drop (k + 1) vs)) ≡ false =
-    ap (λ ws. has_version a (versions_newest_first ws)) (drop_all (k + 1) vs (omega arith)) in
-    newest_set vs k v last
-    ∙ (ap (λ (w : PlainVersion). w ∷ versions_newest_first (take k vs)) (version_is v holder_is content_is)
-    ∙ ap (λ ws. (let w : PlainVersion = record { holder = a; content = content } in w) ∷ ws)
-    (sym (ap (λ ws. versions_newest_first (take k vs ++ ws)) (drop_all (k + 1) vs (omega arith))
-    ∙ ap versions_newest_first (append-nil (take k vs))) ∙ removed_here a vs k d below asc none_above here))
-  where
-    version_is : (w : Version) → w.holder ≡ a → (plain_version w).content ≡ content
-        → plain_version w ≡ (let u : PlainVersion = record { holder = a; content = content } in u)
-    version_is w e f = ap (λ (x : ActionId). (let u : PlainVersion =
-        record { holder = x; content = (plain_version w).content } in u)) e
-        ∙ ap (λ k. (let u : PlainVersion = record { holder = a; content = k } in u)) f
+    grind (arith, nat_tests, drop_all, newest_set vs, append-nil, removed_here a vs)
 
 pub version_pushed : (a : ActionId) (vs : List Version) (v : Version) → v.holder ≡ a
     → list_all (λ x. ltb x.0 a.0) (holders (versions_newest_first vs)) ≡ true
     → versions_newest_first (vs ++ v ∷ []) ≡ with_version a (plain_version v).content (versions_newest_first vs)
-version_pushed a vs v e low =
-    newest_push vs v
-    ∙ (ap (λ ws. plain_version v ∷ ws) (sym (without_lower a (versions_newest_first vs) low))
-    ∙ ap (λ (x : ActionId). (let w : PlainVersion = record { holder = x; content = (plain_version v).content } in w)
-    ∷ without_version a (versions_newest_first vs)) e)
+version_pushed a vs v e low = grind (arith, nat_tests, newest_push, without_lower)
 
 -- if no holder is past the action and the newest isn't it, all are lower
 pub all_lower : (a : ActionId) (vs : List Version) (k : ℕ) (d : Version) → k + 1 ≡ length vs
@@ -255,21 +181,12 @@ pub all_lower : (a : ActionId) (vs : List Version) (k : ℕ) (d : Version) → k
 all_lower a vs k d last asc up other =
     let below : k < length vs = omega arith in
     let whole : take (k + 1) vs ≡ vs = take_all (k + 1) vs (omega arith) in
-    let top : list_all (λ x. leb x.0 a.0) (holders (versions_newest_first (take (k + 1) vs))) ≡ true =
-    ap (λ ws. list_all (λ (x : ActionId). leb x.0 a.0) (holders (versions_newest_first ws))) whole
-    ∙ (all_holders (λ x. leb x.0 a.0) vs ∙ up) in
-    let split : versions_newest_first (take (k + 1) vs) ≡ plain_version (get_or vs k d) ∷ versions_newest_first
-    (take k vs) =
-    ap versions_newest_first (take_more vs k d below) ∙ newest_push (take k vs) (get_or vs k d) in
-    let le : leb (get_or vs k d).holder.0 a.0 ≡ true =
-    (and_parts _ _ (ap (λ ws. list_all (λ (x : ActionId). leb x.0 a.0) (holders ws)) (sym split) ∙ top)).0 in
-    let le' : (get_or vs k d).holder.0 ≤ a.0 = leb-true (get_or vs k d).holder.0 a.0 le in
-    let lt : (get_or vs k d).holder.0 < a.0 = omega (arith, other) in
-    ap (λ ws. list_all (λ (x : ActionId). ltb x.0 a.0) (holders ws)) (ap versions_newest_first (sym whole) ∙ split)
-    ∙ and_from _ _ (lt-ltb (get_or vs k d).holder.0 a.0 lt)
-    (all_imp (λ x. ltb x.0 (get_or vs k d).holder.0) (λ x. ltb x.0 a.0)
-    (λ x h. let lt' : x.0 < (get_or vs k d).holder.0 = ltb-true x.0 (get_or vs k d).holder.0 h in
-    lt-ltb x.0 a.0 (omega arith)) (holders (versions_newest_first (take k vs))) (lower_newest vs k d asc below))
+    let more = take_more vs k d below in
+    let pushed = newest_push (take k vs) (get_or vs k d) in
+    let up_to = all_holders (λ x. leb x.0 a.0) vs in
+    let low = lower_newest vs k d asc below in
+    let lower = all_imp (λ (x : ActionId). ltb x.0 (get_or vs k d).holder.0) (λ (x : ActionId). ltb x.0 a.0) in
+    grind (arith, nat_tests, whole, more, pushed, up_to, low, lower)
 
 -- versions handed over, from the front on
 abbrev pub handed_to : ActionId → ActionId → List PlainVersion → ℕ → List PlainVersion
@@ -286,23 +203,14 @@ pub handed_more : (s p : ActionId) (xs : List PlainVersion) (now : List Version)
     → plain_version v ≡ version_inherited s p (plain_version (get_or now i d))
     → map plain_version (set now i v) ≡ handed_to s p xs (i + 1)
 handed_more s p xs now i d v below same so_far is =
-    let front : List PlainVersion = map (version_inherited s p) (take i xs) in
-    let front_length : length front ≡ i = length-map (take i xs) (version_inherited s p) ∙ length-take-le i xs
-    (omega arith) in
-    let split : map plain_version now ≡ front ++ get_or xs i (plain_version d) ∷ drop (i + 1) xs =
-    so_far ∙ ap (λ ys. front ++ ys) (drop_more xs i (plain_version d) below) in
-    let here : plain_version (get_or now i d) ≡ get_or xs i (plain_version d) =
-    sym (get_or-map plain_version now i d (plain_version d) (omega arith))
-    ∙ (ap (λ ys. get_or ys i (plain_version d)) split ∙ get_or_at front (get_or xs i (plain_version d))
-    (drop (i + 1) xs) (plain_version d) i front_length) in
-    map_set now i v
-    ∙ (ap (λ ys. set ys i (plain_version v)) split
-    ∙ (set_at front (get_or xs i (plain_version d)) (drop (i + 1) xs) (plain_version v) i front_length
-    ∙ (ap (λ w. front ++ w ∷ drop (i + 1) xs) (is ∙ ap (version_inherited s p) here)
-    ∙ (sym (append_assoc front (version_inherited s p (get_or xs i (plain_version d)) ∷ []) (drop (i + 1) xs))
-    ∙ ap (λ ys. ys ++ drop (i + 1) xs) (sym (map-append (version_inherited s p) (take i xs) (get_or xs i
-    (plain_version d) ∷ []))
-    ∙ ap (map (version_inherited s p)) (sym (take_more xs i (plain_version d) below)))))))
+    let many = length-map (take i xs) (version_inherited s p) in
+    let front = length-take-le i xs in
+    let rest = drop_more xs i (plain_version d) below in
+    let read = get_or-map plain_version now i d (plain_version d) in
+    let put = map_set now i v in
+    let last = map-append (version_inherited s p) (take i xs) (get_or xs i (plain_version d) ∷ []) in
+    let more = take_more xs i (plain_version d) below in
+    grind (arith, nat_tests, many, front, rest, read, put, last, more, get_or_at, set_at, append_assoc)
 
 pub none_lower : (a : ActionId) (vs : List Version) → length vs ≤ 0
     → list_all (λ x. ltb x.0 a.0) (holders (versions_newest_first vs)) ≡ true
@@ -314,18 +222,11 @@ pub chain_push : (t : Tree) (vs older : List Version) (v : Version) → vs ≡ o
     → is_chain t (holders (versions_newest_first vs)) ≡ (list_all (λ
     (w : Version). is_strictly_above t w.holder v.holder) older
     && is_chain t (holders (versions_newest_first older)))
-chain_push t vs older v e =
-    ap (λ ws. is_chain t (holders (versions_newest_first ws))) e
-    ∙ (ap (λ ws. is_chain t (holders ws)) (newest_push older v)
-    ∙ ap (λ b. b && is_chain t (holders (versions_newest_first older)))
-    (all_versions (λ x. is_strictly_above t x v.holder) older))
+chain_push t vs older v e = grind (arith, nat_tests, newest_push, all_versions)
 
 -- who is related to all holders, whatever their order
 pub related_versions : (t : Tree) (vs : List Version) (rs : List ActionId)
     → list_all (is_related t (holders (versions_newest_first vs))) rs
     ≡ list_all (λ (x : ActionId). list_all (λ (v : Version). are_related t x v.holder) vs) rs
 related_versions t vs [] = refl
-related_versions t vs (r ∷ rs) =
-    ap (λ b. b && list_all (is_related t (holders (versions_newest_first vs))) rs) (all_versions
-    (λ y. are_related t r y) vs)
-    ∙ ap (λ b. list_all (λ (v : Version). are_related t r v.holder) vs && b) (related_versions t vs rs)
+related_versions t vs (r ∷ rs) = grind (arith, nat_tests, all_versions, related_versions t vs rs)

@@ -1,11 +1,11 @@
 -- The newest version is changed in place, or a changed copy of what is on top is pushed.
-use Rattle.std.proofs.Common.{◌≡◌, ◌-◌, set, true, ltb, ◌∙◌, refl, ap, arith}
-use Rattle.std.specs.{Prelude.{IfOk, OnErr, OnOk}, List.list_all}
+use Rattle.std.{proofs.Common.{◌≡◌, ◌-◌, set, true, ltb, ◌∙◌, refl, ap, arith}, specs.Prelude.{IfOk, OnErr, OnOk}}
+use Rattle.std.specs.List.{list_all}
 use Rattle.argus_actions.specs.declared.action_id.ActionId.{ActionId}
 use Rattle.argus_contents.specs.{Answer.plain_answer, Content.plain_option, Change.plain_change}
 use Rattle.argus_objects.specs.{declared.version.Version.Version, Object.{versions_newest_first, holders}}
-use Rattle.argus_objects.specs.CellChanges.{changed_top, newest_content, with_version}
-use Rattle.argus_objects.proofs.{Stacks.{all_lower, none_lower}, Changes.{changed_copy, changed_in_place}}
+use Rattle.argus_objects.{specs.CellChanges.{changed_top, newest_content, with_version}, proofs.Stacks.all_lower}
+use Rattle.argus_objects.proofs.{Stacks.none_lower, Changes.{changed_copy, changed_in_place}}
 use Rattle.argus_objects.proofs.changing.change_version.Goals.{else-held-gt0-via-then-held-gt0+else-index-a}
 use Rattle.argus_objects.proofs.changing.change_version.Goals.{else-held-gt0-via-else-held-gt0}
 use Rattle.argus_objects.proofs.changing.change_version.Goals as goal
@@ -15,7 +15,8 @@ in_place : (c : goal.After-versions-1)
     → let vs = c.args.versions.now.items in
     let new : Version = record { holder = c.index_mut.result.now.holder; content = c.alter_in_place.new.content } in
     let after = versions_newest_first (set vs (c.len-held.result - 1) new) in
-    let changed = changed_top (plain_change c.args.change.now) (plain_option c.args.base.now) (versions_newest_first vs) in
+    let changed = changed_top (plain_change c.args.change.now) (plain_option c.args.base.now)
+    (versions_newest_first vs) in
     OnOk c.alter_in_place.result (after ≡ with_version c.args.a changed.0 (versions_newest_first vs))
     × IfOk c.alter_in_place.result (λ answer. plain_answer answer ≡ changed.1)
     × OnErr c.alter_in_place.result (after ≡ versions_newest_first vs)

@@ -1,11 +1,11 @@
 -- The newest version is changed in place, or a changed copy of what is on top is pushed.
-use Rattle.std.proofs.Common.{◌≡◌, ◌-◌, [], ◌∷◌, ◌++◌, set, true, ltb, ◌∙◌, refl, ap, arith}
-use Rattle.std.specs.{Prelude.{IfOk, OnErr, OnOk}, List.list_all}
+use Rattle.std.{proofs.Common.{◌≡◌, ◌-◌, [], ◌∷◌, ◌++◌, set, true, ltb, ◌∙◌, refl, ap, arith}, specs.Prelude.IfOk}
+use Rattle.std.specs.{Prelude.{OnErr, OnOk}, List.list_all}
 use Rattle.argus_actions.specs.declared.action_id.ActionId.{ActionId}
 use Rattle.argus_contents.specs.{Answer.done_or, Content.plain_option, Change.plain_change}
 use Rattle.argus_objects.specs.{declared.version.Version.Version, Object.{versions_newest_first, holders}}
-use Rattle.argus_objects.specs.CellChanges.{changed_top, newest_content, with_version}
-use Rattle.argus_objects.proofs.{Stacks.{all_lower, none_lower}, Changes.{changed_copy, changed_in_place}}
+use Rattle.argus_objects.{specs.CellChanges.{changed_top, newest_content, with_version}, proofs.Stacks.all_lower}
+use Rattle.argus_objects.proofs.{Stacks.none_lower, Changes.{changed_copy, changed_in_place}}
 use Rattle.argus_objects.proofs.changing.change_version_by_reference.Goals.{else-held-gt0-via-then-held-gt0+else-index-a}
 use Rattle.argus_objects.proofs.changing.change_version_by_reference.Goals.{else-held-gt0-via-else-held-gt0}
 use Rattle.argus_objects.proofs.changing.change_version_by_reference.Goals as goal

@@ -1,8 +1,8 @@
 -- A begin adds a row, and an end changes statuses alone.
 use Rattle.std.proofs.Common.{eqb, ◌∙◌}
 use Rattle.argus_actions.specs.{declared.status.Status.TheVariants.{Live, Committed, Aborted}, Row.Row}
-use Rattle.argus_actions.specs.{Rows.has_ancestor, Tree.{is_ancestor, is_live_sibling}}
-use Rattle.argus_actions.proofs.{Above.lift, Marks.is_above-mark}
+use Rattle.argus_actions.{specs.{Rows.has_ancestor, Tree.{is_ancestor, is_live_sibling}}, proofs.Above.lift}
+use Rattle.argus_actions.proofs.Marks.{is_above-mark}
 use Rattle.argus_objects.proofs.laws.ancestors_stay.Goals as goal
 
 pub returns-clause-begin : goal.returns-clause-begin

@@ -1,6 +1,5 @@
 -- The rules ask only who is an ancestor of whom.
-use Rattle.argus_objects.specs.Object.{holders}
-use Rattle.argus_objects.proofs.Later.{above_more, lawful_more, write_more}
+use Rattle.argus_objects.{specs.Object.holders, proofs.Later.{above_more, lawful_more, write_more}}
 use Rattle.argus_objects.proofs.laws.lawful_stays.Goals as goal
 
 pub returns-clause-lawful : goal.returns-clause-lawful

@@ -1,7 +1,6 @@
 -- A chain with one more on top.
 use Rattle.std.proofs.Common.{◌&&◌, sym, ◌∙◌, ap, rules}
-use Rattle.argus_objects.specs.{Object.{holders, versions_newest_first}, Rules.is_chain}
-use Rattle.argus_objects.proofs.Stacks.{chain_push}
+use Rattle.argus_objects.{specs.{Object.{holders, versions_newest_first}, Rules.is_chain}, proofs.Stacks.chain_push}
 use Rattle.argus_objects.proofs.versions.+are_chained.Goals as goal
 
 pub returns-then-is_below_all : goal.returns-then-is_below_all

@@ -1,20 +1,13 @@
 -- One holder more is above, or the answer is known.
 use Rattle.std.proofs.Common.{◌≡◌, ℕ, ◌+◌, ◌-◌, length, get_or, take, sym, ◌∙◌, ap, arith, subst, true, false}
-use Rattle.std.proofs.lemmas.List.{take_all, length-map, get_or-map}
+use Rattle.std.proofs.lemmas.{List.{take_all, length-map, get_or-map}, Grind.common_steps}
 use Rattle.argus_actions.specs.{declared.action_id.ActionId.ActionId, Tree.is_ancestor}
 use Rattle.argus_objects.specs.{declared.version.Version.Version, Object.writers, Rules.all_above}
 use Rattle.argus_objects.proofs.{Ascending.{climb_on, climb_off}, Stacks.all_holders}
 use Rattle.argus_objects.proofs.versions.all_writers_above.Goals as goal
 
 pub loop-left-init : goal.loop-left-init
-loop-left-init c =
-    let vs = c.args.versions.now in
-    let as_many : length (writers vs) ≡ length vs = length-map vs (λ (v : Version). v.holder) in
-    record {
-      bound = omega arith;
-      same = ap (all_above c.args.tree.now c.args.a) (take_all (length vs) (writers vs) (omega arith))
-          ∙ sym (all_holders (λ (x : ActionId). is_ancestor c.args.tree.now x.0 c.args.a.0) vs);
-    }
+loop-left-init c = grind (arith, common_steps, length-map, take_all, all_holders)
 
 pub loop-left-preserved : goal.loop-left-preserved
 loop-left-preserved c =

@@ -1,8 +1,8 @@
 -- One version more is handed over, or left as it is.
-use Rattle.std.proofs.{Common.{◌≡◌, map, length, get_or, sym, ◌∙◌, ap, arith}, lemmas.List.length-map}
-use Rattle.std.proofs.lemmas.Bool.{eq-eqb, ne_eqb, cond-true, cond-false}
-use Rattle.argus_objects.specs.{declared.version.Version.Version, Object.plain_version}
-use Rattle.argus_objects.proofs.{Stacks.handed_more, versions.inherit_holder.Goals.{then-version-s, else-version-s}}
+use Rattle.std.proofs.{Common.{◌≡◌, map, length, get_or, sym, ◌∙◌, ap, arith}, lemmas.{List.length-map, Bool.eq-eqb}}
+use Rattle.std.proofs.lemmas.Bool.{ne_eqb, cond-true, cond-false}
+use Rattle.argus_objects.{specs.{declared.version.Version.Version, Object.plain_version}, proofs.Stacks.handed_more}
+use Rattle.argus_objects.proofs.versions.inherit_holder.Goals.{then-version-s, else-version-s}
 use Rattle.argus_objects.proofs.versions.inherit_holder.Goals as goal
 
 pub loop-version-preserved : goal.loop-version-preserved

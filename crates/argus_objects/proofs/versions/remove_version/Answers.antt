@@ -1,10 +1,9 @@
 -- The search ends at the version, or there is none.
-use Rattle.std.proofs.Common.{◌≡◌, ◌+◌, ◌++◌, Err, Ok, Some, ap, arith, drop, false, rules, suc, sym, take, ◌∙◌}
-use Rattle.std.proofs.lemmas.List.Sorted.{answers_always}
-use Rattle.argus_contents.specs.Content.{plain_option}
+use Rattle.std.proofs.{Common.{◌≡◌, Err, Ok, arith, false, rules, sym}, lemmas.List.Sorted.answers_always}
+use Rattle.std.proofs.lemmas.Grind.{common_steps}
 use Rattle.argus_objects.specs.{declared.version.Version.Version, CellChanges.has_version, Object.versions_newest_first}
-use Rattle.argus_objects.proofs.Searched.{IsVersionAt, version_searched}
-use Rattle.argus_objects.proofs.Stacks.{removed_here, version_here, version_of_none, without_none}
+use Rattle.argus_objects.proofs.{Searched.{IsVersionAt, version_searched}, Stacks.{removed_here, version_here}}
+use Rattle.argus_objects.proofs.Stacks.{version_of_none, without_none}
 use Rattle.argus_objects.proofs.versions.remove_version.Goals as goal
 
 here : (c : goal.After-remove) → IsVersionAt c.args.t c.args.versions.now.items c.in-Ok.at
@@ -22,19 +21,10 @@ none c =
     (rw c.deref.ensures.value at c.in-Err.ensures.bound) by).missing
 
 pub returns-in-Ok-clause-content : goal.returns-in-Ok-clause-content
-returns-in-Ok-clause-content c =
-    let d : Version = c.remove.result in
-    ap (λ (v : Version). Some (plain_option v.content)) c.remove.ensures.value
-    ∙ version_here c.args.t c.args.versions.now.items c.in-Ok.at d (here c).below c.requires (here c).behind
-    ((here c).here d)
+returns-in-Ok-clause-content c = grind (arith, common_steps, version_here, here)
 
 pub returns-in-Ok-clause-versions : goal.returns-in-Ok-clause-versions
-returns-in-Ok-clause-versions c =
-    let vs = c.args.versions.now.items in
-    let next : suc c.in-Ok.at ≡ c.in-Ok.at + 1 = omega arith in
-    ap versions_newest_first (c.remove.ensures.items ∙ ap (λ n. take c.in-Ok.at vs ++ drop n vs) next)
-    ∙ removed_here c.args.t vs c.in-Ok.at c.remove.result (here c).below c.requires (here c).behind
-    ((here c).here c.remove.result)
+returns-in-Ok-clause-versions c = grind (arith, common_steps, removed_here, here)
 
 pub returns-in-Err-clause-content : goal.returns-in-Err-clause-content
 returns-in-Err-clause-content c =

@@ -1,6 +1,6 @@
 -- The newest version is that of the action, and goes; otherwise the search decides.
-use Rattle.std.proofs.Common.{◌≡◌, ℕ, ◌+◌, ◌-◌, ◌++◌, take, drop, sym, ◌∙◌, ap, arith, []}
-use Rattle.std.proofs.lemmas.List.{append-nil, drop_all}
+use Rattle.std.proofs.{Common.{◌≡◌, ℕ, ◌+◌, ◌-◌, ◌++◌, take, drop, sym, ◌∙◌, ap, arith, []}, lemmas.List.append-nil}
+use Rattle.std.proofs.lemmas.List.{drop_all}
 use Rattle.argus_objects.specs.{declared.version.Version.Version, Object.versions_newest_first, CellChanges.has_version}
 use Rattle.argus_objects.proofs.Stacks.{removed_here}
 use Rattle.argus_objects.proofs.versions.take_version.Goals as goal

@@ -1,10 +1,8 @@
 -- The two tests are the two halves of the definition.
-use Rattle.std.proofs.Common.{◌≡◌, ◌&&◌, true, List, sym, ◌∙◌, ap}
-use Rattle.std.specs.List.{list_all}
+use Rattle.std.{proofs.Common.{◌≡◌, ◌&&◌, true, List, sym, ◌∙◌, ap}, specs.List.list_all}
 use Rattle.argus_actions.specs.declared.action_id.ActionId.{ActionId}
 use Rattle.argus_objects.specs.{declared.version.Version.Version, Object.{holders, versions_newest_first}}
-use Rattle.argus_objects.specs.Rules.{are_related, is_chain, is_related}
-use Rattle.argus_objects.proofs.Stacks.{related_versions}
+use Rattle.argus_objects.{specs.Rules.{are_related, is_chain, is_related}, proofs.Stacks.related_versions}
 use Rattle.argus_objects.proofs.cell.Cell.lawful.Goals as goal
 
 pub returns-then-are_chained : goal.returns-then-are_chained

@@ -1,7 +1,6 @@
 -- Fewer holders stay in order and lawful.
-use Rattle.std.proofs.Common.{◌≡◌, ◌≤◌, Bool, true, not, eqb, length, sym, subst, ap, arith}
+use Rattle.std.proofs.{Common.{Bool, not, eqb, arith}, lemmas.Grind.common_steps}
 use Rattle.argus_actions.specs.declared.action_id.ActionId.{ActionId}
-use Rattle.argus_objects.specs.{Object.Object, Rules.is_lawful, CellChanges.without_reader}
 use Rattle.argus_objects.proofs.{InOrder.length_filter_le, Lawful.{Kept, kept_less}}
 use Rattle.argus_objects.proofs.cell.Cell.settle_top.Goals as goal
 
@@ -9,10 +8,8 @@ kept : (c : goal.After-settle_version) → Kept c.args.tree.now c.remove.new.sel
     c.settle_version.new.versions.items
 kept c =
     let stays : ActionId → Bool = λ x. not (eqb x.0 c.args.t.0) in
-    kept_less c.args.tree.now c.self.inside.readers.items c.remove.new.self.items c.self.inside.versions.items
-    c.settle_version.new.versions.items c.self.invariant.readers_ascend
-    (subst (λ (o : Object). is_lawful c.args.tree.now o ≡ true) (sym c.self.view_is) c.requires.lawful)
-    stays stays c.remove.ensures.items c.settle_version.ensures.versions
+    kept_less (record { order = c.self.invariant; lawful = rw (← c.self.view_is) at c.requires.lawful }) _ _ stays stays
+    c.remove.ensures.items c.settle_version.ensures.versions
 
 pub invariant_of-self : goal.invariant_of-self
 invariant_of-self c = (kept c).order
@@ -21,14 +18,4 @@ pub returns-clause-lawful : goal.returns-clause-lawful
 returns-clause-lawful c = (kept c).lawful
 
 pub returns-clause-reader_room : goal.returns-clause-reader_room
-returns-clause-reader_room c =
-    let readers = c.self.inside.readers.items in
-    let fewer : length (without_reader c.args.t readers) ≤ length readers =
-    length_filter_le (λ (x : ActionId). not (eqb x.0 c.args.t.0)) readers in
-    omega (
-      arith,
-      fewer,
-      ap length c.remove.ensures.items,
-      c.remove.ensures.places,
-      ap (λ (o : Object). o.reader_room) c.self.view_is,
-    )
+returns-clause-reader_room c = grind (arith, common_steps, length_filter_le)

@@ -1,25 +1,19 @@
 -- The list under the action's number is the action's; an empty list has nothing twice.
-use Rattle.std.proofs.Common.{sym, ◌∙◌, ap, arith, rules}
-use Rattle.std.specs.List.{IsDistinct}
-use Rattle.argus_objects.specs.ObjectList.{NotedObjects}
-use Rattle.argus_objects.proofs.Places.{listed, noted_read, unlisted}
+use Rattle.std.{proofs.{Common.{sym, ◌∙◌, ap, arith, rules}, lemmas.Grind.common_steps}, specs.List.IsDistinct}
+use Rattle.argus_objects.{specs.ObjectList.NotedObjects, proofs.Places.{found_read, listed, unlisted}}
 use Rattle.argus_objects.proofs.holdings.Holdings.of.Goals as goal
 
 pub index-requires : goal.index-requires
 index-requires c =
-    let is = listed c.args.self.now c.args.a c.in-Some.index (sym c.index_of.ensures ∙ c.in-Some.is) in
-    omega (arith, is.there)
+    omega (arith, listed c.args.self.now c.args.a c.in-Some.index (sym c.index_of.ensures ∙ c.in-Some.is))
 
 pub returns-in-Some-clause-list : goal.returns-in-Some-clause-list
 returns-in-Some-clause-list c =
-    let is = listed c.args.self.now c.args.a c.in-Some.index (sym c.index_of.ensures ∙ c.in-Some.is) in
     c.as_slice.ensures.list ∙ sym (ap (λ (l : NotedObjects). l.objects)
-    (noted_read c.args.self.now c.args.a c.in-Some.index c.index.result.now is c.index.ensures))
+    (found_read c.args.self.now c.args.a _ _ _ c.index_of.ensures c.in-Some.is c.index.ensures).noted)
 
 pub returns-in-None-clause-list : goal.returns-in-None-clause-list
-returns-in-None-clause-list c =
-    sym (ap (λ (l : NotedObjects). l.objects)
-    (unlisted c.args.self.now c.args.a (sym c.index_of.ensures ∙ c.in-None.is)))
+returns-in-None-clause-list c = grind (arith, common_steps, unlisted)
 
 pub returns-in-None-clause-once : goal.returns-in-None-clause-once
 unfolding IsDistinct

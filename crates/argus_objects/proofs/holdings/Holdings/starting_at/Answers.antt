@@ -1,7 +1,6 @@
 -- There is no place.
 use Rattle.std.proofs.Common.{◌∙◌, ap}
-use Rattle.argus_objects.specs.Holdings.{place_at, placed_objects}
-use Rattle.argus_objects.proofs.Places.{place_nowhere}
+use Rattle.argus_objects.{specs.Holdings.{place_at, placed_objects}, proofs.Places.place_nowhere}
 use Rattle.argus_objects.proofs.holdings.Holdings.starting_at.Goals as goal
 
 pub returns : goal.returns

@@ -1,7 +1,6 @@
 -- A list that isn't the one of the action that it names is nobody's.
 use Rattle.std.proofs.{Common.{◌≡◌, ◌<◌, true, length, get_or, sym, ◌∙◌, rules}, lemmas.Option.{cond_some, none-some}}
-use Rattle.argus_objects.specs.Holdings.{no_list}
-use Rattle.argus_objects.proofs.Places.{nobody_has}
+use Rattle.argus_objects.{specs.Holdings.no_list, proofs.Places.nobody_has}
 use Rattle.argus_objects.proofs.holdings.Holdings.take_unused.Goals as goal
 
 pub returns-in_default-clause-free : goal.returns-in_default-clause-free

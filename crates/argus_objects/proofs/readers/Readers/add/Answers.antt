@@ -1,11 +1,9 @@
 -- It is the newest reader already, or it is pushed behind the newest.
-use Rattle.std.proofs.Common.{◌≡◌, ◌-◌, ◌<◌, ◌≤◌, true, [], ◌∷◌, ◌++◌, length, drop, get_or, vec_len, sym, ◌∙◌, ap}
-use Rattle.std.proofs.Common.{subst, arith}
+use Rattle.std.proofs.Common.{◌≡◌, ◌-◌, ◌<◌, ◌≤◌, true, length, drop, get_or, vec_len, sym, ◌∙◌, subst, arith}
+use Rattle.std.proofs.lemmas.Grind.{common_steps}
 use Rattle.argus_actions.specs.declared.action_id.ActionId.{ActionId}
 use Rattle.argus_objects.specs.{Rules.is_ascending, CellChanges.with_reader, Readers.ReaderList}
 use Rattle.argus_objects.proofs.Parted.{at_newest, pushed, seen}
-use Rattle.argus_objects.proofs.readers.Readers.add.Goals.{else-taken-gt0-via-then-taken-gt0+else-index-a}
-use Rattle.argus_objects.proofs.readers.Readers.add.Goals.{else-taken-gt0-via-else-taken-gt0}
 use Rattle.argus_objects.proofs.readers.Readers.add.Goals as goal
 
 pub returns-else-index-a-2-clause-items : goal.returns-else-index-a-2-clause-items
@@ -26,21 +24,4 @@ returns-else-index-a-2-clause-items c =
     (sym (at_newest a xs c.self.inside.front none within some up same).same)
 
 pub returns-then-taken-capacity-clause-items : goal.returns-then-taken-capacity-clause-items
-returns-then-taken-capacity-clause-items c =
-    let a = c.args.a in
-    let xs = c.self.inside.list.items in
-    let none : ActionId = record { 0 = 0 } in
-    let held : c.self.inside.front ≤ vec_len c.self.inside.list - 1 = c.self.invariant in
-    let long : c.len-taken.result ≡ length xs = omega (arith, c.len-taken.ensures, c.self.inside.list.ok) in
-    let within : c.self.inside.front ≤ length xs - 1 = omega (arith, held, c.self.inside.list.ok) in
-    let up : is_ascending (drop c.self.inside.front xs) ≡ true =
-    subst (λ (r : ReaderList). is_ascending r.items ≡ true) (sym c.self.view_is) c.requires.ascending in
-    let older : 0 < length xs → (get_or xs (length xs - 1) none).0 < a.0 = λ some.
-    elim c.else-taken-gt0.branch [
-      | else-taken-gt0-via-then-taken-gt0+else-index-a w ↦
-          omega (arith, w.if-index-a.false, seen xs c.len-taken.result none w.index.result.now long some w.index.ensures)
-      | else-taken-gt0-via-else-taken-gt0 w ↦ absurd (omega (arith, some, long, w.if-taken-gt0.false))
-    ] in
-    ap (drop c.self.inside.front) c.push_reserved.ensures.items
-    ∙ subst (λ (r : ReaderList). drop c.self.inside.front (xs ++ a ∷ []) ≡ with_reader a r.items) c.self.view_is
-    (pushed a xs c.self.inside.front none within up older)
+returns-then-taken-capacity-clause-items c = grind (arith, common_steps, seen, pushed)

@@ -1,27 +1,7 @@
 -- An action past the newest reader is none.
-use Rattle.std.proofs.Common.{◌≡◌, ◌-◌, ◌<◌, ◌≤◌, true, false, length, drop, get_or, vec_len, sym, subst, arith}
-use Rattle.argus_actions.specs.declared.action_id.ActionId.{ActionId}
-use Rattle.argus_objects.specs.{Rules.is_ascending, CellChanges.is_reader, Readers.ReaderList}
+use Rattle.std.proofs.{Common.arith, lemmas.Grind.common_steps}
 use Rattle.argus_objects.proofs.Parted.{past_newest, seen}
-use Rattle.argus_objects.proofs.readers.Readers.has.Goals.{then-taken-eq0-via-then-taken-eq0}
-use Rattle.argus_objects.proofs.readers.Readers.has.Goals.{then-taken-eq0-via-else-taken-eq0+then-index-a}
 use Rattle.argus_objects.proofs.readers.Readers.has.Goals as goal
 
 pub returns-then-taken-eq0 : goal.returns-then-taken-eq0
-returns-then-taken-eq0 c =
-    let a = c.args.a in
-    let xs = c.self.inside.list.items in
-    let none : ActionId = record { 0 = 0 } in
-    let held : c.self.inside.front ≤ vec_len c.self.inside.list - 1 = c.self.invariant in
-    let long : c.len-taken.result ≡ length xs = omega (arith, c.len-taken.ensures, c.self.inside.list.ok) in
-    let within : c.self.inside.front ≤ length xs - 1 = omega (arith, held, c.self.inside.list.ok) in
-    let up : is_ascending (drop c.self.inside.front xs) ≡ true =
-    subst (λ (r : ReaderList). is_ascending r.items ≡ true) (sym c.self.view_is) c.requires in
-    let older : 0 < length xs → (get_or xs (length xs - 1) none).0 < a.0 = λ some.
-    elim c.then-taken-eq0.branch [
-      | then-taken-eq0-via-then-taken-eq0 w ↦ absurd (omega (arith, some, long, w.if-taken-eq0.true))
-      | then-taken-eq0-via-else-taken-eq0+then-index-a w ↦
-          omega (arith, w.if-index-a.true, seen xs c.len-taken.result none w.index.result.now long some w.index.ensures)
-    ] in
-    sym (subst (λ (r : ReaderList). is_reader a r.items ≡ false) c.self.view_is
-    (past_newest a xs c.self.inside.front none within up older).is)
+returns-then-taken-eq0 c = grind (arith, common_steps, seen, past_newest)

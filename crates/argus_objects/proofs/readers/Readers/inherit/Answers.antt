@@ -1,25 +1,13 @@
 -- The reader that went leaves room for the parent.
-use Rattle.std.proofs.Common.{◌<◌, length, not, eqb, sym, ◌∙◌, ap, arith}
-use Rattle.argus_actions.specs.declared.action_id.ActionId.{ActionId}
-use Rattle.argus_objects.specs.CellChanges.{without_reader}
+use Rattle.std.proofs.{Common.arith, lemmas.Grind.common_steps}
 use Rattle.argus_objects.proofs.{InOrder.fewer_readers, Ascending.ascending_filter}
 use Rattle.argus_objects.proofs.readers.Readers.inherit.Goals as goal
 
 pub add-requires-clause-room : goal.add-requires-clause-room
-add-requires-clause-room c =
-    let xs = c.args.self.now.items in
-    let fewer : length (without_reader c.args.s xs) < length xs =
-    fewer_readers c.args.s xs (sym c.has.ensures ∙ c.if-has.true) in
-    omega (arith, fewer, ap length c.remove.ensures.items, c.remove.ensures.places)
+add-requires-clause-room c = grind (arith, common_steps, fewer_readers)
 
 pub add-requires-clause-ascending : goal.add-requires-clause-ascending
-add-requires-clause-ascending c =
-    rw c.remove.ensures.items (ascending_filter (λ (x : ActionId). not (eqb x.0 c.args.s.0)) c.args.self.now.items
-    c.requires)
+add-requires-clause-ascending c = grind (arith, common_steps, ascending_filter)
 
 pub returns-then-has-clause-room : goal.returns-then-has-clause-room
-returns-then-has-clause-room c =
-    let xs = c.args.self.now.items in
-    let fewer : length (without_reader c.args.s xs) < length xs =
-    fewer_readers c.args.s xs (sym c.has.ensures ∙ c.if-has.true) in
-    omega (arith, fewer, ap length c.remove.ensures.items, c.remove.ensures.places, c.add.ensures.room)
+returns-then-has-clause-room c = grind (arith, common_steps, fewer_readers)
