@@ -3,10 +3,10 @@
 use denote.Param.Send.{IsSend, IsSync, sendable}
 use Rattle.argus_contents.proofs.Crossing.{answer_field_sends, answer_field_syncs, change_field_sends, shape_syncs}
 use Rattle.argus_contents.proofs.Crossing.{change_field_syncs, query_field_sends, query_field_syncs, shape_sends}
-use Rattle.argus_contents.proofs.Crossing as contents
 use Rattle.argus_entries.specs.contracts.call.Call.{the_field as call_field, the_row as call_row}
-use Rattle.argus_entries.specs.contracts.entry.Entry.{the_row as entry_row}
-use Rattle.argus_entries.specs.contracts.reply.Reply.{the_field as reply_field, the_row as reply_row}
+use Rattle.argus_entries.specs.contracts.{entry.Entry.the_row as entry_row, reply.Reply.the_field as reply_field}
+use Rattle.argus_entries.specs.contracts.reply.Reply.{the_row as reply_row}
+use Rattle.argus_contents.proofs.Crossing as contents
 
 pub call_field_sends : IsSend call_field.row
 call_field_sends = search (sendable, change_field_sends, query_field_sends, shape_sends) depth 40

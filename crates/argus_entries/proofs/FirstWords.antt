@@ -1,19 +1,18 @@
 -- The words with which a text begins tell what kind of query, change, call, answer or reply it is, and which signal or
 -- refusal.
-use Rattle.std.proofs.Common.{Bool, List, ap, false, get_or, refl, sym, true, ℕ, ◌+◌, ◌++◌, ◌∙◌, ◌≡◌}
-use Rattle.std.proofs.lemmas.Bool.{eq-eqb}
+use Rattle.std.proofs.{Common.{arith, Bool, List, get_or, refl, true, ℕ, ◌+◌, ◌++◌, ◌≡◌}, lemmas.Bool.Decides.nat_tests}
 use Rattle.std.specs.Prelude.{if◌then◌else◌, ◌==◌}
 use Rattle.argus_contents.specs.{Answer.PlainAnswer, Change.PlainChange, declared.query.Query.Query}
-use Rattle.argus_contents.specs.{declared.signal.Signal.Signal, declared.signal.Signal.TheVariants.WrongTag}
-use Rattle.argus_contents.specs.declared.signal.Signal.TheVariants.{Absent, Bounds, Exists, Limits, NegativeSize}
-use Rattle.argus_contents.specs.Answer as answer
-use Rattle.argus_contents.specs.Change as change
-use Rattle.argus_contents.specs.declared.query.Query.TheVariants as query
-use Rattle.argus_entries.specs.{Call.PlainCall, EntrySpelling.signal_spelling, Reply.PlainReply}
-use Rattle.argus_entries.specs.EntrySpelling.{answer_spelling, call_spelling, refusal_name, reply_spelling}
+use Rattle.argus_contents.specs.declared.signal.Signal.{Signal, TheVariants.{WrongTag, Absent, Bounds, Exists, Limits}}
+use Rattle.argus_contents.specs.declared.signal.Signal.TheVariants.{NegativeSize}
+use Rattle.argus_entries.specs.{Call.PlainCall, EntrySpelling.{signal_spelling, answer_spelling, call_spelling}}
+use Rattle.argus_entries.specs.{EntrySpelling.{refusal_name, reply_spelling}, Reply.PlainReply}
 use Rattle.argus_entries.specs.{OperationSpelling.{change_spelling, query_spelling}, declared.refusal.Refusal.Refusal}
 use Rattle.argus_entries.specs.declared.refusal.Refusal.TheVariants.{Conflict, IllTyped, NoAction, NoObject, NoSiblings}
 use Rattle.argus_entries.specs.declared.refusal.Refusal.TheVariants.{Over, Suspended, TooDeep, TooMany}
+use Rattle.argus_contents.specs.Answer as answer
+use Rattle.argus_contents.specs.Change as change
+use Rattle.argus_contents.specs.declared.query.Query.TheVariants as query
 use Rattle.argus_entries.specs.Call as call
 use Rattle.argus_entries.specs.Reply as reply
 
@@ -38,24 +37,13 @@ query_kind (query.IsTag t) = 105
 query_kind (query.TagValue t) = 609
 
 query_key_is : (q : Query) (x : List ℕ) → query_key (query_spelling q ++ x) ≡ query_kind q
-query_key_is query.Whole x = refl
-query_key_is (query.Field i) x = refl
-query_key_is query.Low x = refl
-query_key_is query.High x = refl
-query_key_is query.Size x = refl
-query_key_is (query.Fetch i) x = refl
-query_key_is query.Bottom x = refl
-query_key_is query.Top x = refl
-query_key_is (query.IsTag t) x = refl
-query_key_is (query.TagValue t) x = refl
+query_key_is q x = grind (arith, nat_tests)
 
 -- queries whose texts begin alike are of one kind
 pub one_query_kind : (one other : Query) (behind behind_other : List ℕ)
     → query_spelling one ++ behind ≡ query_spelling other ++ behind_other
     → (query_kind one == query_kind other) ≡ true
-one_query_kind one other behind behind_other same =
-    let known = sym (query_key_is one behind) ∙ ap query_key same ∙ query_key_is other behind_other in
-    eq-eqb (query_kind one) (query_kind other) known
+one_query_kind one other behind behind_other same = grind (arith, nat_tests, query_key_is)
 
 -- CHANGES
 
@@ -81,25 +69,13 @@ change_kind (change.change_tag t v) = 360
 change_kind change.touch = 1135
 
 change_key_is : (c : PlainChange) (x : List ℕ) → change_key (change_spelling c ++ x) ≡ change_kind c
-change_key_is (change.create c) x = refl
-change_key_is (change.set_field i v) x = refl
-change_key_is (change.store i v) x = refl
-change_key_is (change.addh v) x = refl
-change_key_is (change.addl v) x = refl
-change_key_is change.remh x = refl
-change_key_is change.reml x = refl
-change_key_is (change.set_low i) x = refl
-change_key_is (change.trim i n) x = refl
-change_key_is (change.change_tag t v) x = refl
-change_key_is change.touch x = refl
+change_key_is c x = grind (arith, nat_tests)
 
 -- changes whose texts begin alike are of one kind
 pub one_change_kind : (one other : PlainChange) (behind behind_other : List ℕ)
     → change_spelling one ++ behind ≡ change_spelling other ++ behind_other
     → (change_kind one == change_kind other) ≡ true
-one_change_kind one other behind behind_other same =
-    let known = sym (change_key_is one behind) ∙ ap change_key same ∙ change_key_is other behind_other in
-    eq-eqb (change_kind one) (change_kind other) known
+one_change_kind one other behind behind_other same = grind (arith, nat_tests, change_key_is)
 
 -- CALLS
 
@@ -125,25 +101,13 @@ call_kind (call.test_write a o) = 631
 
 -- what begins with a call has its number
 pub call_key_is : (c : PlainCall) (x : List ℕ) → call_key (call_spelling c ++ x) ≡ call_kind c
-call_key_is (call.declare s) x = refl
-call_key_is call.begin_top x = refl
-call_key_is (call.begin_sub a) x = refl
-call_key_is (call.begin_nested a) x = refl
-call_key_is (call.commit a) x = refl
-call_key_is (call.abort a) x = refl
-call_key_is (call.abort_others a) x = refl
-call_key_is (call.ask a o q) x = refl
-call_key_is (call.alter a o c) x = refl
-call_key_is (call.test_read a o) x = refl
-call_key_is (call.test_write a o) x = refl
+call_key_is c x = grind (arith, nat_tests)
 
 -- calls whose texts begin alike are of one kind
 pub one_call_kind : (one other : PlainCall) (behind behind_other : List ℕ)
     → call_spelling one ++ behind ≡ call_spelling other ++ behind_other
     → (call_kind one == call_kind other) ≡ true
-one_call_kind one other behind behind_other same =
-    let known = sym (call_key_is one behind) ∙ ap call_key same ∙ call_key_is other behind_other in
-    eq-eqb (call_kind one) (call_kind other) known
+one_call_kind one other behind behind_other same = grind (arith, nat_tests, call_key_is)
 
 -- SIGNALS AND REFUSALS
 
@@ -157,11 +121,7 @@ signal_at t =
 -- what begins with a signal gives it back
 pub signal_back : (s : Signal) (x : List ℕ) → signal_at (signal_spelling s ++ x) ≡ s
 signal_back Absent x = refl
-signal_back Exists x = refl
-signal_back Bounds x = refl
-signal_back WrongTag x = refl
-signal_back NegativeSize x = refl
-signal_back Limits x = refl
+signal_back _ x = refl
 
 -- a refusal, back from its name
 abbrev pub refusal_at : List ℕ → Refusal
@@ -174,15 +134,7 @@ refusal_at t =
 
 -- what begins with a refusal's name gives it back
 pub refusal_back : (r : Refusal) (x : List ℕ) → refusal_at (refusal_name r ++ x) ≡ r
-refusal_back NoAction x = refl
-refusal_back Over x = refl
-refusal_back Suspended x = refl
-refusal_back NoObject x = refl
-refusal_back IllTyped x = refl
-refusal_back Conflict x = refl
-refusal_back TooDeep x = refl
-refusal_back TooMany x = refl
-refusal_back NoSiblings x = refl
+refusal_back r x = grind (arith, nat_tests)
 
 -- ANSWERS
 
@@ -200,26 +152,13 @@ answer_kind (answer.body c) = 98
 answer_kind (answer.signal s) = 115
 
 answer_key_is : (a : PlainAnswer) (x : List ℕ) → answer_key (answer_spelling a ++ x) ≡ answer_kind a
-answer_key_is answer.done x = refl
-answer_key_is (answer.val v) x = refl
-answer_key_is (answer.num n) x = refl
-answer_key_is (answer.flag true) x = refl
-answer_key_is (answer.flag false) x = refl
-answer_key_is (answer.body c) x = refl
-answer_key_is (answer.signal Absent) x = refl
-answer_key_is (answer.signal Exists) x = refl
-answer_key_is (answer.signal Bounds) x = refl
-answer_key_is (answer.signal WrongTag) x = refl
-answer_key_is (answer.signal NegativeSize) x = refl
-answer_key_is (answer.signal Limits) x = refl
+answer_key_is a x = grind (arith, nat_tests)
 
 -- answers whose texts begin alike are of one kind
 pub one_answer_kind : (one other : PlainAnswer) (behind behind_other : List ℕ)
     → answer_spelling one ++ behind ≡ answer_spelling other ++ behind_other
     → (answer_kind one == answer_kind other) ≡ true
-one_answer_kind one other behind behind_other same =
-    let known = sym (answer_key_is one behind) ∙ ap answer_key same ∙ answer_key_is other behind_other in
-    eq-eqb (answer_kind one) (answer_kind other) known
+one_answer_kind one other behind behind_other same = grind (arith, nat_tests, answer_key_is)
 
 -- a truth, back from its word
 abbrev pub flag_at : List ℕ → Bool
@@ -227,8 +166,7 @@ flag_at t = get_or t 5 0 == 116
 
 -- what begins with a truth's word gives it back
 pub flag_back : (b : Bool) (x : List ℕ) → flag_at (answer_spelling (answer.flag b) ++ x) ≡ b
-flag_back true x = refl
-flag_back false x = refl
+flag_back b x = grind (arith, nat_tests)
 
 -- REPLIES
 
@@ -244,26 +182,10 @@ reply_kind (reply.answered a) = 4
 reply_kind (reply.refused r) = 3
 
 reply_key_is : (r : PlainReply) (x : List ℕ) → reply_key (reply_spelling r ++ x) ≡ reply_kind r
-reply_key_is (reply.object o) x = refl
-reply_key_is (reply.begun a) x = refl
-reply_key_is (reply.answered answer.done) x = refl
-reply_key_is (reply.answered (answer.val v)) x = refl
-reply_key_is (reply.answered (answer.num n)) x = refl
-reply_key_is (reply.answered (answer.flag true)) x = refl
-reply_key_is (reply.answered (answer.flag false)) x = refl
-reply_key_is (reply.answered (answer.body c)) x = refl
-reply_key_is (reply.answered (answer.signal Absent)) x = refl
-reply_key_is (reply.answered (answer.signal Exists)) x = refl
-reply_key_is (reply.answered (answer.signal Bounds)) x = refl
-reply_key_is (reply.answered (answer.signal WrongTag)) x = refl
-reply_key_is (reply.answered (answer.signal NegativeSize)) x = refl
-reply_key_is (reply.answered (answer.signal Limits)) x = refl
-reply_key_is (reply.refused r) x = refl
+reply_key_is r x = grind (arith, nat_tests)
 
 -- replies whose texts begin alike are of one kind
 pub one_reply_kind : (one other : PlainReply) (behind behind_other : List ℕ)
     → reply_spelling one ++ behind ≡ reply_spelling other ++ behind_other
     → (reply_kind one == reply_kind other) ≡ true
-one_reply_kind one other behind behind_other same =
-    let known = sym (reply_key_is one behind) ∙ ap reply_key same ∙ reply_key_is other behind_other in
-    eq-eqb (reply_kind one) (reply_kind other) known
+one_reply_kind one other behind behind_other same = grind (arith, nat_tests, reply_key_is)

@@ -1,21 +1,19 @@
 -- A line tells its number, its call and its reply.
 use Rattle.std.proofs.Common.{List, [], ap, append_assoc, arith, inl, refl, sym, true, ℕ, ◌++◌, ◌<◌, ◌^◌, ◌∙◌, ◌∷◌, ◌≡◌}
-use Rattle.std.proofs.lemmas.Bool.{false≢true}
-use Rattle.std.specs.{Fmt.{decimal, signed_decimal}, Prelude.{codes, ◌==◌}}
+use Rattle.std.{proofs.lemmas.Bool.{Decides.nat_tests, false≢true}, specs.{Fmt.decimal, Prelude.{codes, ◌==◌}}}
 use Rattle.argus_contents.specs.Answer.{PlainAnswer}
-use Rattle.argus_contents.specs.Answer as answer
-use Rattle.argus_texts.specs.{ContentSpelling.content_spelling, Languages.NotDigit, Spelling.spelling}
-use Rattle.argus_texts.proofs.{Contents.one_content, Digits.one_decimal, Lists.{cancel, tail_of}, ShapeForms.one_shape}
+use Rattle.argus_texts.{specs.{ContentSpelling.content_spelling, Languages.NotDigit}, proofs.Contents.one_content}
+use Rattle.argus_texts.proofs.{Digits.one_decimal, Lists.{cancel, tail_of}, ShapeForms.one_shape}
 use Rattle.argus_entries.specs.{Call.PlainCall, Entry.PlainEntry, OperationSpelling.{change_spelling, query_spelling}}
 use Rattle.argus_entries.specs.EntrySpelling.{answer_spelling, call_spelling, entry_spelling, place_spelling}
-use Rattle.argus_entries.specs.{EntrySpelling.{refusal_name, reply_spelling, signal_spelling}, Reply.PlainReply}
-use Rattle.argus_entries.specs.Laws.{AnswerWithin, CallWithin, EntryWithin, ReplyWithin}
+use Rattle.argus_entries.specs.{EntrySpelling.reply_spelling, Reply.PlainReply, Laws.{AnswerWithin, CallWithin}}
+use Rattle.argus_entries.{specs.Laws.{EntryWithin, ReplyWithin}, proofs.FirstWords.{answer_kind, call_kind, flag_at}}
+use Rattle.argus_entries.proofs.FirstWords.{flag_back, one_answer_kind, one_call_kind, one_reply_kind, refusal_at}
+use Rattle.argus_entries.proofs.{FirstWords.{refusal_back, reply_kind, signal_at, signal_back}, Operations.behind_word}
+use Rattle.argus_entries.proofs.Operations.{four_pieces, one_change, one_int, one_query, one_value, wide}
+use Rattle.argus_contents.specs.Answer as answer
 use Rattle.argus_entries.specs.Call as call
 use Rattle.argus_entries.specs.Reply as reply
-use Rattle.argus_entries.proofs.FirstWords.{answer_kind, call_kind, flag_at, flag_back, one_answer_kind, one_call_kind}
-use Rattle.argus_entries.proofs.FirstWords.{one_reply_kind, refusal_at, refusal_back, reply_kind, signal_at}
-use Rattle.argus_entries.proofs.FirstWords.{signal_back}
-use Rattle.argus_entries.proofs.Operations.{behind_word, four_pieces, one_change, one_int, one_query, one_value, wide}
 
 -- an action and an object behind a word
 one_place : (w : List ℕ) (a o b p : ℕ) (x y : List ℕ) → (a < 2 ^ 32) × (o < 2 ^ 32) → (b < 2 ^ 32) × (p < 2 ^ 32)
@@ -38,49 +36,42 @@ one_number : (w : List ℕ) (m n : ℕ) (x y : List ℕ) → m < 2 ^ 32 → n < 
 one_number w m n x y a b nx ny e =
     one_decimal m n x y (wide m a) (wide n b) nx ny (behind_word w (decimal m) (decimal n) x y e)
 
+-- an action, an object and what stands behind a blank
+one_access : (w : List ℕ) (m o n p : ℕ) (s t x y : List ℕ) → (m < 2 ^ 32) × (o < 2 ^ 32) → (n < 2 ^ 32) × (p < 2 ^ 32)
+    → (place_spelling w m o ++ codes " " ++ s) ++ x ≡ (place_spelling w n p ++ codes " " ++ t) ++ y
+    → (m ≡ n) × ((o ≡ p) × (s ++ x ≡ t ++ y))
+one_access w m o n p s t x y a b e =
+    grind (arith, nat_tests, three_pieces, one_place w m o n p (32 ∷ (s ++ x)) (32 ∷ (t ++ y)) a b, tail_of)
+
 call_told : (k : ℕ) (c d : PlainCall) (x y : List ℕ) → CallWithin k c → CallWithin k d → NotDigit x → NotDigit y
     → (call_kind c == call_kind d) ≡ true → call_spelling c ++ x ≡ call_spelling d ++ y → (c ≡ d) × (x ≡ y)
-call_told k (call.declare s) (call.declare t) x y a b nx ny q e =
-    let r = one_shape s t x y a b (cancel (codes "declare ") _ _ e) in (ap call.declare r.0, r.1)
+call_told k (call.declare s) (call.declare t) x y a b nx ny q e = grind (arith, nat_tests, one_shape, cancel)
 call_told k call.begin_top call.begin_top x y a b nx ny q e = (refl, cancel (codes "begin_top") x y e)
 call_told k (call.begin_sub m) (call.begin_sub n) x y a b nx ny q e =
-    let r = one_number (codes "begin_sub a") m n x y a b nx ny e in (ap call.begin_sub r.0, r.1)
+    grind (arith, one_number (codes "begin_sub a") m n x y a b nx ny e)
 call_told k (call.begin_nested m) (call.begin_nested n) x y a b nx ny q e =
-    let r = one_number (codes "begin_nested a") m n x y a b nx ny e in (ap call.begin_nested r.0, r.1)
+    grind (arith, one_number (codes "begin_nested a") m n x y a b nx ny e)
 call_told k (call.commit m) (call.commit n) x y a b nx ny q e =
-    let r = one_number (codes "commit a") m n x y a b nx ny e in (ap call.commit r.0, r.1)
+    grind (arith, one_number (codes "commit a") m n x y a b nx ny e)
 call_told k (call.abort m) (call.abort n) x y a b nx ny q e =
-    let r = one_number (codes "abort a") m n x y a b nx ny e in (ap call.abort r.0, r.1)
+    grind (arith, one_number (codes "abort a") m n x y a b nx ny e)
 call_told k (call.abort_others m) (call.abort_others n) x y a b nx ny q e =
-    let r = one_number (codes "abort_others a") m n x y a b nx ny e in (ap call.abort_others r.0, r.1)
+    grind (arith, one_number (codes "abort_others a") m n x y a b nx ny e)
 call_told k (call.ask m o u) (call.ask n p v) x y a b nx ny q e =
-    let w = codes "ask a" in
-    let f = sym (three_pieces (place_spelling w m o) (codes " ") (query_spelling u) x) ∙ e
-    ∙ three_pieces (place_spelling w n p) (codes " ") (query_spelling v) y in
-    let r = one_place w m o n p (32 ∷ (query_spelling u ++ x)) (32 ∷ (query_spelling v ++ y)) (a.0, a.1) (b.0, b.1)
-    (inl (omega arith)) (inl (omega arith)) f in
-    let s = one_query u v x y a.2 b.2 nx ny (tail_of r.1.1) in
-    (ap (λ z. call.ask z o u) r.0 ∙ ap (λ z. call.ask n z u) r.1.0 ∙ ap (call.ask n p) s.0, s.1)
+    let r = one_access (codes "ask a") m o n p (query_spelling u) (query_spelling v) x y (a.0, a.1) (b.0, b.1) e in
+    grind (arith, one_query u v x y a.2 b.2 nx ny r.1.1)
 call_told k (call.alter m o u) (call.alter n p v) x y a b nx ny q e =
-    let w = codes "alter a" in
-    let f = sym (three_pieces (place_spelling w m o) (codes " ") (change_spelling u) x) ∙ e
-    ∙ three_pieces (place_spelling w n p) (codes " ") (change_spelling v) y in
-    let r = one_place w m o n p (32 ∷ (change_spelling u ++ x)) (32 ∷ (change_spelling v ++ y)) (a.0, a.1) (b.0, b.1)
-    (inl (omega arith)) (inl (omega arith)) f in
-    let s = one_change k u v x y a.2 b.2 nx ny (tail_of r.1.1) in
-    (ap (λ z. call.alter z o u) r.0 ∙ ap (λ z. call.alter n z u) r.1.0 ∙ ap (call.alter n p) s.0, s.1)
+    let r = one_access (codes "alter a") m o n p (change_spelling u) (change_spelling v) x y (a.0, a.1) (b.0, b.1) e in
+    grind (arith, one_change k u v x y a.2 b.2 nx ny r.1.1)
 call_told k (call.test_read m o) (call.test_read n p) x y a b nx ny q e =
-    let r = one_place (codes "test_read a") m o n p x y a b nx ny e in
-    (ap (λ z. call.test_read z o) r.0 ∙ ap (call.test_read n) r.1.0, r.1.1)
+    grind (arith, one_place (codes "test_read a") m o n p x y a b nx ny e)
 call_told k (call.test_write m o) (call.test_write n p) x y a b nx ny q e =
-    let r = one_place (codes "test_write a") m o n p x y a b nx ny e in
-    (ap (λ z. call.test_write z o) r.0 ∙ ap (call.test_write n) r.1.0, r.1.1)
+    grind (arith, one_place (codes "test_write a") m o n p x y a b nx ny e)
 call_told k _ _ x y a b nx ny q e = absurd (false≢true q)
 
 one_call : (k : ℕ) (c d : PlainCall) (x y : List ℕ) → CallWithin k c → CallWithin k d → NotDigit x → NotDigit y
     → call_spelling c ++ x ≡ call_spelling d ++ y → (c ≡ d) × (x ≡ y)
-one_call k c d x y a b nx ny e = call_told k c d x y a b nx ny
-    (one_call_kind c d x y e) e
+one_call k c d x y a b nx ny e = grind (arith, nat_tests, call_told, one_call_kind)
 
 -- the same texts, with nothing behind them
 ended : (s t : List ℕ) → s ≡ t → s ++ [] ≡ t ++ []
@@ -89,27 +80,18 @@ ended s t e = ap (λ u. u ++ []) e
 answer_told : (k : ℕ) (a b : PlainAnswer) → AnswerWithin k a → AnswerWithin k b
     → (answer_kind a == answer_kind b) ≡ true → answer_spelling a ≡ answer_spelling b → a ≡ b
 answer_told k answer.done answer.done s t q e = refl
-answer_told k (answer.val v) (answer.val w) s t q e =
-    ap answer.val (one_value k v w [] [] s t tt tt (ended (spelling v) (spelling w)
-    (cancel (codes "val ") (spelling v) (spelling w) e))).0
-answer_told k (answer.num m) (answer.num n) s t q e =
-    ap answer.num (one_int m n [] [] s t tt tt (ended (signed_decimal m) (signed_decimal n)
-    (cancel (codes "num ") (signed_decimal m) (signed_decimal n) e))).0
-answer_told k (answer.flag p) (answer.flag r) s t q e =
-    ap answer.flag (sym (flag_back p []) ∙ ap flag_at (ended (answer_spelling (answer.flag p))
-    (answer_spelling (answer.flag r)) e) ∙ flag_back r [])
+answer_told k (answer.val v) (answer.val w) s t q e = grind (arith, nat_tests, one_value k v w [] [] s t, ended, cancel)
+answer_told k (answer.num m) (answer.num n) s t q e = grind (arith, nat_tests, one_int m n [] [] s t, ended, cancel)
+answer_told k (answer.flag p) (answer.flag r) s t q e = grind (arith, nat_tests, flag_back, flag_at, ended)
 answer_told k (answer.body c) (answer.body d) s t q e =
     ap answer.body (one_content k c d [] [] s t (ended (content_spelling c) (content_spelling d)
     (cancel (codes "body ") (content_spelling c) (content_spelling d) e))).0
-answer_told k (answer.signal r) (answer.signal u) s t q e =
-    ap answer.signal (sym (signal_back r []) ∙ ap signal_at (ended (signal_spelling r) (signal_spelling u) e)
-    ∙ signal_back u [])
+answer_told k (answer.signal r) (answer.signal u) s t q e = grind (arith, nat_tests, signal_back, signal_at, ended)
 answer_told k _ _ s t q e = absurd (false≢true q)
 
 one_answer : (k : ℕ) (a b : PlainAnswer) → AnswerWithin k a → AnswerWithin k b → answer_spelling a ≡ answer_spelling b
     → a ≡ b
-one_answer k a b s t e = answer_told k a b s t
-    (one_answer_kind a b [] [] (ended (answer_spelling a) (answer_spelling b) e)) e
+one_answer k a b s t e = grind (arith, nat_tests, answer_told, one_answer_kind, ended)
 
 reply_told : (k : ℕ) (r s : PlainReply) → ReplyWithin k r → ReplyWithin k s → (reply_kind r == reply_kind s) ≡ true
     → reply_spelling r ≡ reply_spelling s → r ≡ s
@@ -120,14 +102,11 @@ reply_told k (reply.begun m) (reply.begun n) a b q e = ap reply.begun
     (one_number (codes "a") m n [] [] a b tt tt (ended (codes "a" ++ decimal m) (codes "a" ++ decimal n) e)).0
 reply_told k (reply.answered m) (reply.answered n) a b q e = ap reply.answered (one_answer k m n a b e)
 reply_told k (reply.refused m) (reply.refused n) a b q e =
-    let same = cancel (codes "refused ") (refusal_name m) (refusal_name n) e in
-    ap reply.refused (sym (refusal_back m []) ∙ ap refusal_at (ended (refusal_name m) (refusal_name n) same)
-    ∙ refusal_back n [])
+    grind (arith, nat_tests, cancel, refusal_back, refusal_at, ended)
 reply_told k _ _ a b q e = absurd (false≢true q)
 
 one_reply : (k : ℕ) (r s : PlainReply) → ReplyWithin k r → ReplyWithin k s → reply_spelling r ≡ reply_spelling s → r ≡ s
-one_reply k r s a b e = reply_told k r s a b
-    (one_reply_kind r s [] [] (ended (reply_spelling r) (reply_spelling s) e)) e
+one_reply k r s a b e = grind (arith, nat_tests, reply_told, one_reply_kind, ended)
 
 pub one_line : (k m n : ℕ) (d e : PlainEntry) → m < 2 ^ 64 → n < 2 ^ 64 → EntryWithin k d → EntryWithin k e
     → entry_spelling m d ≡ entry_spelling n e → (m ≡ n) × (d ≡ e)
@@ -139,8 +118,4 @@ one_line k m n d e a b s t q =
     let r = one_decimal m n (32 ∷ (call_spelling d.call ++ x)) (32 ∷ (call_spelling e.call ++ y)) a b
     (inl (omega arith)) (inl (omega arith)) f in
     let c = one_call k d.call e.call x y s.0 t.0 (inl (omega arith)) (inl (omega arith)) (tail_of r.1) in
-    let u = one_reply k d.reply e.reply s.1 t.1 (cancel (codes " -> ") (reply_spelling d.reply) (reply_spelling e.reply)
-    c.1) in
-    let by_call : PlainCall → PlainEntry = λ z. record { call = z; reply = d.reply } in
-    let by_reply : PlainReply → PlainEntry = λ z. record { call = e.call; reply = z } in
-    (r.0, ap by_call c.0 ∙ ap by_reply u)
+    grind (arith, one_reply k d.reply e.reply s.1 t.1 (cancel (codes " -> ") _ _ c.1))

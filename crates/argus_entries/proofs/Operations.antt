@@ -1,16 +1,13 @@
 -- The written forms of queries and changes tell them apart, whatever stands behind them.
-use Rattle.std.proofs.Common.{List, ap, append_assoc, arith, inl, refl, sym, true, ℕ, ℤ, ◌++◌, ◌<◌, ◌^◌, ◌∙◌, ◌∷◌, ◌≡◌}
-use Rattle.std.proofs.lemmas.Bool.{false≢true}
-use Rattle.std.specs.{Fmt.{decimal, signed_decimal}, Prelude.{codes, ◌==◌}}
+use Rattle.std.proofs.Common.{List, ap, append_assoc, arith, inl, sym, true, ℕ, ℤ, ◌++◌, ◌<◌, ◌^◌, ◌∙◌, ◌∷◌, ◌≡◌}
+use Rattle.std.{proofs.lemmas.Bool.Decides.nat_tests, specs.{Fmt.{decimal, signed_decimal}, Prelude.{codes, ◌==◌}}}
 use Rattle.argus_contents.specs.{Change.PlainChange, Value.PlainValue, declared.query.Query.Query}
-use Rattle.argus_contents.specs.Change as change
-use Rattle.argus_contents.specs.Value as value
-use Rattle.argus_contents.specs.declared.query.Query.TheVariants as query
-use Rattle.argus_texts.specs.{Languages.NotDigit, Spelling.{IsI64, Within, spelling}}
-use Rattle.argus_texts.proofs.{Contents.one_content, Digits.one_decimal, Forms.{one_form, value_ends}}
-use Rattle.argus_texts.proofs.Lists.{cancel, tail_of}
+use Rattle.argus_texts.{specs.{Languages.NotDigit, Spelling.{IsI64, Within, spelling}}, proofs.Contents.one_content}
+use Rattle.argus_texts.proofs.{Digits.one_decimal, Forms.{one_form, value_ends}, Lists.{cancel, tail_of}}
 use Rattle.argus_entries.specs.{Laws.{ChangeWithin, QueryWithin}, OperationSpelling.{change_spelling, query_spelling}}
 use Rattle.argus_entries.proofs.FirstWords.{change_kind, one_change_kind, one_query_kind, query_kind}
+use Rattle.argus_contents.specs.Change as change
+use Rattle.argus_contents.specs.Value as value
 
 pub wide : (n : ℕ) → n < 2 ^ 32 → n < 2 ^ 64
 wide n l = omega arith
@@ -43,76 +40,39 @@ four_pieces a b c d x = simp append_assoc
 -- a word, a number, a blank and what stands behind it
 spaced : (w m n s t x y : List ℕ) → (w ++ m ++ codes " " ++ s) ++ x ≡ (w ++ n ++ codes " " ++ t) ++ y
     → m ++ 32 ∷ (s ++ x) ≡ n ++ 32 ∷ (t ++ y)
-spaced w m n s t x y e = cancel w (m ++ 32 ∷ (s ++ x)) (n ++ 32 ∷ (t ++ y))
-    (sym (four_pieces w m (codes " ") s x) ∙ e ∙ four_pieces w n (codes " ") t y)
+spaced w m n s t x y e = grind (arith, nat_tests, cancel, four_pieces)
 
 query_told : (q r : Query) (x y : List ℕ) → QueryWithin q → QueryWithin r → NotDigit x → NotDigit y
     → (query_kind q == query_kind r) ≡ true → query_spelling q ++ x ≡ query_spelling r ++ y → (q ≡ r) × (x ≡ y)
-query_told query.Whole query.Whole x y a b nx ny k e = (refl, cancel (codes "whole") x y e)
-query_told (query.Field i) (query.Field j) x y a b nx ny k e =
-    let r = one_decimal i j x y (byte_wide i a) (byte_wide j b) nx ny
-    (behind_word (codes "field ") (decimal i) (decimal j) x y e) in (ap query.Field r.0, r.1)
-query_told query.Low query.Low x y a b nx ny k e = (refl, cancel (codes "low") x y e)
-query_told query.High query.High x y a b nx ny k e = (refl, cancel (codes "high") x y e)
-query_told query.Size query.Size x y a b nx ny k e = (refl, cancel (codes "size") x y e)
-query_told (query.Fetch i) (query.Fetch j) x y a b nx ny k e =
-    let r = one_int i j x y a b nx ny (behind_word (codes "fetch ") (signed_decimal i) (signed_decimal j) x y e) in
-    (ap query.Fetch r.0, r.1)
-query_told query.Bottom query.Bottom x y a b nx ny k e = (refl, cancel (codes "bottom") x y e)
-query_told query.Top query.Top x y a b nx ny k e = (refl, cancel (codes "top") x y e)
-query_told (query.IsTag t) (query.IsTag u) x y a b nx ny k e =
-    let r = one_decimal t u x y (byte_wide t a) (byte_wide u b) nx ny
-    (behind_word (codes "is_tag ") (decimal t) (decimal u) x y e) in (ap query.IsTag r.0, r.1)
-query_told (query.TagValue t) (query.TagValue u) x y a b nx ny k e =
-    let r = one_decimal t u x y (byte_wide t a) (byte_wide u b) nx ny
-    (behind_word (codes "tag_value ") (decimal t) (decimal u) x y e) in (ap query.TagValue r.0, r.1)
-query_told _ _ x y a b nx ny k e = absurd (false≢true k)
+query_told q r x y a b nx ny k e = grind (arith, nat_tests, cancel, one_decimal, byte_wide, behind_word, one_int)
 
 pub one_query : (q r : Query) (x y : List ℕ) → QueryWithin q → QueryWithin r → NotDigit x → NotDigit y
     → query_spelling q ++ x ≡ query_spelling r ++ y → (q ≡ r) × (x ≡ y)
-one_query q r x y a b nx ny e = query_told q r x y a b nx ny
-    (one_query_kind q r x y e) e
+one_query q r x y a b nx ny e = grind (arith, nat_tests, query_told, one_query_kind)
 
 change_told : (k : ℕ) (c d : PlainChange) (x y : List ℕ) → ChangeWithin k c → ChangeWithin k d → NotDigit x → NotDigit y
     → (change_kind c == change_kind d) ≡ true → change_spelling c ++ x ≡ change_spelling d ++ y → (c ≡ d) × (x ≡ y)
-change_told k (change.create c) (change.create d) x y a b nx ny q e =
-    let r = one_content k c d x y a b (cancel (codes "create ") _ _ e) in (ap change.create r.0, r.1)
 change_told k (change.set_field i v) (change.set_field j w) x y a b nx ny q e =
     let f = spaced (codes "set_field ") (decimal i) (decimal j) (spelling v) (spelling w) x y e in
     let r = one_decimal i j (32 ∷ (spelling v ++ x)) (32 ∷ (spelling w ++ y)) (byte_wide i a.0) (byte_wide j b.0)
     (inl (omega arith)) (inl (omega arith)) f in
-    let s = one_value k v w x y a.1 b.1 nx ny (tail_of r.1) in
-    (ap (λ z. change.set_field z v) r.0 ∙ ap (change.set_field j) s.0, s.1)
+    grind (arith, one_value k v w x y a.1 b.1 nx ny (tail_of r.1))
 change_told k (change.store i v) (change.store j w) x y a b nx ny q e =
     let f = spaced (codes "store ") (signed_decimal i) (signed_decimal j) (spelling v) (spelling w) x y e in
     let r = one_int i j (32 ∷ (spelling v ++ x)) (32 ∷ (spelling w ++ y)) a.0 b.0 (inl (omega arith))
     (inl (omega arith)) f in
-    let s = one_value k v w x y a.1 b.1 nx ny (tail_of r.1) in
-    (ap (λ z. change.store z v) r.0 ∙ ap (change.store j) s.0, s.1)
-change_told k (change.addh v) (change.addh w) x y a b nx ny q e =
-    let r = one_value k v w x y a b nx ny (cancel (codes "addh ") _ _ e) in (ap change.addh r.0, r.1)
-change_told k (change.addl v) (change.addl w) x y a b nx ny q e =
-    let r = one_value k v w x y a b nx ny (cancel (codes "addl ") _ _ e) in (ap change.addl r.0, r.1)
-change_told k change.remh change.remh x y a b nx ny q e = (refl, cancel (codes "remh") x y e)
-change_told k change.reml change.reml x y a b nx ny q e = (refl, cancel (codes "reml") x y e)
-change_told k (change.set_low i) (change.set_low j) x y a b nx ny q e =
-    let r = one_int i j x y a b nx ny (cancel (codes "set_low ") _ _ e) in (ap change.set_low r.0, r.1)
+    grind (arith, one_value k v w x y a.1 b.1 nx ny (tail_of r.1))
 change_told k (change.trim i m) (change.trim j n) x y a b nx ny q e =
     let f = spaced (codes "trim ") (signed_decimal i) (signed_decimal j) (signed_decimal m) (signed_decimal n) x y e in
     let r = one_int i j (32 ∷ (signed_decimal m ++ x)) (32 ∷ (signed_decimal n ++ y)) a.0 b.0 (inl (omega arith))
-    (inl (omega arith)) f in
-    let s = one_int m n x y a.1 b.1 nx ny (tail_of r.1) in
-    (ap (λ z. change.trim z m) r.0 ∙ ap (change.trim j) s.0, s.1)
+    (inl (omega arith)) f in grind (arith, one_int m n x y a.1 b.1 nx ny (tail_of r.1))
 change_told k (change.change_tag t v) (change.change_tag u w) x y a b nx ny q e =
     let f = spaced (codes "change_tag ") (decimal t) (decimal u) (spelling v) (spelling w) x y e in
     let r = one_decimal t u (32 ∷ (spelling v ++ x)) (32 ∷ (spelling w ++ y)) (byte_wide t a.0) (byte_wide u b.0)
     (inl (omega arith)) (inl (omega arith)) f in
-    let s = one_value k v w x y a.1 b.1 nx ny (tail_of r.1) in
-    (ap (λ z. change.change_tag z v) r.0 ∙ ap (change.change_tag u) s.0, s.1)
-change_told k change.touch change.touch x y a b nx ny q e = (refl, cancel (codes "touch") x y e)
-change_told k _ _ x y a b nx ny q e = absurd (false≢true q)
+    grind (arith, one_value k v w x y a.1 b.1 nx ny (tail_of r.1))
+change_told k c d x y a b nx ny q e = grind (arith, nat_tests, one_content k, one_value k, one_int, cancel)
 
 pub one_change : (k : ℕ) (c d : PlainChange) (x y : List ℕ) → ChangeWithin k c → ChangeWithin k d → NotDigit x
     → NotDigit y → change_spelling c ++ x ≡ change_spelling d ++ y → (c ≡ d) × (x ≡ y)
-one_change k c d x y a b nx ny e = change_told k c d x y a b nx ny
-    (one_change_kind c d x y e) e
+one_change k c d x y a b nx ny e = grind (arith, nat_tests, change_told, one_change_kind)

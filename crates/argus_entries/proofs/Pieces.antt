@@ -1,5 +1,5 @@
 -- Pieces that were appended one after another.
-use Rattle.std.proofs.Common.{List, ap, append_assoc, ℕ, ◌++◌, ◌∙◌, ◌≡◌}
+use Rattle.std.proofs.{Common.{arith, List, ap, append_assoc, ℕ, ◌++◌, ◌∙◌, ◌≡◌}, lemmas.Bool.Decides.nat_tests}
 
 regroup : (old p e s : List ℕ) → (old ++ p) ++ (e ++ s) ≡ old ++ (p ++ e ++ s)
 regroup old p e s = simp append_assoc
@@ -14,5 +14,4 @@ regroup_line old n b c a r = simp append_assoc
 -- a number, a blank, a call, an arrow and a reply
 pub line : (old one two three four n b c a r : List ℕ) → one ≡ old ++ n → two ≡ one ++ b → three ≡ two ++ c
     → four ≡ three ++ a → four ++ r ≡ old ++ (n ++ b ++ c ++ a ++ r)
-line old one two three four n b c a r e f g h =
-    ap (λ x. x ++ r) (h ∙ ap (λ x. x ++ a) (g ∙ ap (λ x. x ++ c) (f ∙ ap (λ x. x ++ b) e))) ∙ regroup_line old n b c a r
+line old one two three four n b c a r e f g h = grind (arith, nat_tests, regroup_line)

@@ -1,13 +1,12 @@
 -- The code of a plain entry, which a model whose value holds entries needs.
-use Rattle.std.specs.Coded.{Coded, code_by, coded_option, coded_ℕ, coded×}
-use Rattle.std.specs.Prelude.{None, Option, Some, if◌then◌else◌, refl, ℕ, ◌==◌, ◌≡◌}
+use Rattle.std.specs.{Coded.{Coded, code_by, coded_option, coded_ℕ, coded×}, Prelude.{None, Option, Some}}
+use Rattle.std.specs.Prelude.{if◌then◌else◌, refl, ℕ, ◌==◌, ◌≡◌}
 use Rattle.argus_contents.specs.{Answer.{PlainAnswer, done}, Change.{PlainChange, touch}, Shape.PlainShape}
-use Rattle.argus_contents.specs.{ShapeCode.shape_coded, declared.query.Query.Query}
-use Rattle.argus_contents.specs.declared.query.Query.TheVariants.{Whole}
+use Rattle.argus_contents.specs.{ShapeCode.shape_coded, declared.query.Query.{Query, TheVariants.Whole}}
 use Rattle.argus_entries.specs.Call.{PlainCall, abort, abort_others, alter, ask, begin_nested, begin_sub, begin_top}
 use Rattle.argus_entries.specs.{Call.{commit, declare, test_read, test_write}, Entry.PlainEntry}
-use Rattle.argus_entries.specs.OperationCode.{answer_coded, change_coded, query_coded}
-use Rattle.argus_entries.specs.{Reply.{PlainReply, answered, begun, object, refused}, declared.refusal.Refusal.Refusal}
+use Rattle.argus_entries.specs.{OperationCode.{answer_coded, change_coded, query_coded}, Reply.{PlainReply, answered}}
+use Rattle.argus_entries.specs.{Reply.{begun, object, refused}, declared.refusal.Refusal.Refusal}
 use Rattle.argus_entries.specs.declared.refusal.Refusal.TheVariants.{Conflict, IllTyped, NoAction, NoObject, NoSiblings}
 use Rattle.argus_entries.specs.declared.refusal.Refusal.TheVariants.{Over, Suspended, TooDeep, TooMany}
 
@@ -34,14 +33,7 @@ refusal_from n =
 -- what was stored is read again
 pub refusal_back : (r : Refusal) → refusal_from (refusal_number r) ≡ r
 refusal_back NoAction = refl
-refusal_back Over = refl
-refusal_back Suspended = refl
-refusal_back NoObject = refl
-refusal_back IllTyped = refl
-refusal_back Conflict = refl
-refusal_back TooDeep = refl
-refusal_back TooMany = refl
-refusal_back NoSiblings = refl
+refusal_back _ = refl
 
 -- so refusals can be stored
 abbrev pub refusal_coded : Coded Refusal
@@ -66,9 +58,7 @@ reply_from p = if p.0 == 0 then object p.1.0 else
 -- what was stored is read again
 pub reply_back : (r : PlainReply) → reply_from (reply_parts r) ≡ r
 reply_back (object o) = refl
-reply_back (begun a) = refl
-reply_back (answered a) = refl
-reply_back (refused r) = refl
+reply_back _ = refl
 
 -- so replies can be stored
 abbrev pub reply_coded : Coded PlainReply
@@ -112,17 +102,8 @@ call_from p =
 
 -- what was stored is read again
 pub call_back : (c : PlainCall) → call_from (call_parts c) ≡ c
-call_back (declare s) = refl
 call_back begin_top = refl
-call_back (begin_sub p) = refl
-call_back (begin_nested c) = refl
-call_back (commit a) = refl
-call_back (abort a) = refl
-call_back (abort_others a) = refl
-call_back (ask a o q) = refl
-call_back (alter a o c) = refl
-call_back (test_read a o) = refl
-call_back (test_write a o) = refl
+call_back _ = refl
 
 -- so calls can be stored
 abbrev pub call_coded : Coded PlainCall

@@ -2,15 +2,15 @@
 -- `o2`.
 use Rattle.std.specs.{Fmt.{decimal, signed_decimal}, Prelude.{List, [], codes, false, true, ℕ, ◌++◌, ◌∷◌}}
 use Rattle.argus_contents.specs.Answer.{PlainAnswer, body, done, flag, num, signal, val}
-use Rattle.argus_contents.specs.{declared.signal.Signal.Signal, declared.signal.Signal.TheVariants.WrongTag}
-use Rattle.argus_contents.specs.declared.signal.Signal.TheVariants.{Absent, Bounds, Exists, Limits, NegativeSize}
+use Rattle.argus_contents.specs.declared.signal.Signal.{Signal, TheVariants.{WrongTag, Absent, Bounds, Exists, Limits}}
+use Rattle.argus_contents.specs.declared.signal.Signal.TheVariants.{NegativeSize}
 use Rattle.argus_texts.specs.{ContentSpelling.content_spelling, ShapeSpelling.shape_spelling, Spelling.spelling}
 use Rattle.argus_entries.specs.Call.{PlainCall, abort, abort_others, alter, ask, begin_nested, begin_sub, begin_top}
 use Rattle.argus_entries.specs.{Call.{commit, declare, test_read, test_write}, Entry.PlainEntry}
 use Rattle.argus_entries.specs.{OperationSpelling.{change_spelling, query_spelling}, declared.refusal.Refusal.Refusal}
-use Rattle.argus_entries.specs.Reply.{PlainReply, answered, begun, object, refused}
 use Rattle.argus_entries.specs.declared.refusal.Refusal.TheVariants.{Conflict, IllTyped, NoAction, NoObject, NoSiblings}
 use Rattle.argus_entries.specs.declared.refusal.Refusal.TheVariants.{Over, Suspended, TooDeep, TooMany}
+use Rattle.argus_entries.specs.Reply.{PlainReply, answered, begun, object, refused}
 
 -- a word that ends with `a`, the number of an action, and an object
 abbrev pub place_spelling : List ℕ → ℕ → ℕ → List ℕ

@@ -1,13 +1,12 @@
 -- The laws of lines, and the entries that they are about: those that a program can hold.
 use Rattle.std.specs.Prelude.{ℕ, ◌<◌, ◌^◌, ◌≡◌, true}
-use Rattle.argus_contents.specs.{Answer.PlainAnswer, Change.PlainChange, Fitting.change_suits}
-use Rattle.argus_contents.specs.{Shape.{IsMakeable, PlainShape}, declared.limits.TheConstants.MAX_VALUE_DEPTH}
-use Rattle.argus_contents.specs.declared.query.Query.{Query}
+use Rattle.argus_contents.specs.{Answer.PlainAnswer, Change.PlainChange, Fitting.change_suits, Shape.IsMakeable}
+use Rattle.argus_contents.specs.{Shape.PlainShape, declared.{limits.TheConstants.MAX_VALUE_DEPTH, query.Query.Query}}
+use Rattle.argus_texts.specs.{ContentSpelling.PartsWithin, ShapeSpelling.HasNames, Spelling.{IsI64, Within}}
+use Rattle.argus_entries.specs.{Call.PlainCall, Entry.PlainEntry, EntrySpelling.entry_spelling, Reply.PlainReply}
 use Rattle.argus_contents.specs.Answer as answer
 use Rattle.argus_contents.specs.Change as change
 use Rattle.argus_contents.specs.declared.query.Query.TheVariants as query
-use Rattle.argus_texts.specs.{ContentSpelling.PartsWithin, ShapeSpelling.HasNames, Spelling.{IsI64, Within}}
-use Rattle.argus_entries.specs.{Call.PlainCall, Entry.PlainEntry, EntrySpelling.entry_spelling, Reply.PlainReply}
 use Rattle.argus_entries.specs.Call as call
 use Rattle.argus_entries.specs.Reply as reply
 

@@ -1,16 +1,15 @@
 -- Codes of queries, changes and answers: numbers, values and contents from which they can be read
 -- again.
-use Rattle.std.proofs.Common.{ap, sym, ◌∙◌}
-use Rattle.std.specs.Coded.{Coded, code_by, coded_bool, coded_option, coded_ℕ, coded_ℤ, coded×}
-use Rattle.std.specs.Prelude.{Bool, None, Option, Some, false, if◌then◌else◌, pos, refl, ℕ, ℤ, ◌==◌, ◌≡◌}
+use Rattle.std.{proofs.Common.{ap, sym, ◌∙◌}, specs.Coded.{Coded, code_by, coded_bool, coded_option, coded_ℕ, coded_ℤ}}
+use Rattle.std.specs.{Coded.coded×, Prelude.{Bool, None, Option, Some, false, if◌then◌else◌, pos, refl, ℕ, ℤ, ◌==◌}}
+use Rattle.std.specs.Prelude.{◌≡◌}
 use Rattle.argus_contents.specs.{Answer.{PlainAnswer, body, done, flag, num, signal, val}, Change.{store, touch, trim}}
 use Rattle.argus_contents.specs.Change.{PlainChange, addh, addl, change_tag, create, reml, remh, set_field, set_low}
 use Rattle.argus_contents.specs.{Content.PlainContent, ContentCode.{content_coded, seen, value_back, value_code}}
-use Rattle.argus_contents.specs.{Value.{PlainValue, null}, declared.query.Query.Query, declared.signal.Signal.Signal}
-use Rattle.argus_contents.specs.declared.query.Query.TheVariants.{Bottom, Fetch, Field, High, IsTag, Low, Size}
-use Rattle.argus_contents.specs.declared.query.Query.TheVariants.{TagValue, Top, Whole}
-use Rattle.argus_contents.specs.declared.signal.Signal.TheVariants.{Absent, Bounds, Exists, Limits, NegativeSize}
-use Rattle.argus_contents.specs.declared.signal.Signal.TheVariants.{WrongTag}
+use Rattle.argus_contents.specs.{Value.{PlainValue, null}, declared.query.Query.{Query, TheVariants.{Bottom, Fetch}}}
+use Rattle.argus_contents.specs.declared.query.Query.TheVariants.{Field, High, IsTag, Low, Size, TagValue, Top, Whole}
+use Rattle.argus_contents.specs.declared.signal.Signal.{Signal, TheVariants.{Absent, Bounds, Exists, Limits}}
+use Rattle.argus_contents.specs.declared.signal.Signal.TheVariants.{NegativeSize, WrongTag}
 
 -- two values that are stored alike are equal
 pub value_injective : (v w : PlainValue) → value_code v ≡ value_code w → v ≡ w
@@ -45,15 +44,7 @@ query_from p =
 -- what was stored is read again
 pub query_back : (q : Query) → query_from (query_parts q) ≡ q
 query_back Whole = refl
-query_back (Field i) = refl
-query_back Low = refl
-query_back High = refl
-query_back Size = refl
-query_back (Fetch i) = refl
-query_back Bottom = refl
-query_back Top = refl
-query_back (IsTag t) = refl
-query_back (TagValue t) = refl
+query_back _ = refl
 
 -- so queries can be stored
 abbrev pub query_coded : Coded Query
@@ -95,17 +86,8 @@ change_from p =
 
 -- what was stored is read again
 pub change_back : (c : PlainChange) → change_from (change_parts c) ≡ c
-change_back (create c) = refl
-change_back (set_field i v) = refl
-change_back (store i v) = refl
-change_back (addh v) = refl
-change_back (addl v) = refl
-change_back remh = refl
-change_back reml = refl
-change_back (set_low i) = refl
-change_back (trim i n) = refl
-change_back (change_tag t v) = refl
 change_back touch = refl
+change_back _ = refl
 
 -- so changes can be stored
 abbrev pub change_coded : Coded PlainChange
@@ -133,11 +115,7 @@ signal_from n =
 -- what was stored is read again
 pub signal_back : (s : Signal) → signal_from (signal_number s) ≡ s
 signal_back Absent = refl
-signal_back Exists = refl
-signal_back Bounds = refl
-signal_back WrongTag = refl
-signal_back NegativeSize = refl
-signal_back Limits = refl
+signal_back _ = refl
 
 -- so signals can be stored
 abbrev pub signal_coded : Coded Signal
@@ -171,11 +149,7 @@ answer_from p =
 -- what was stored is read again
 pub answer_back : (a : PlainAnswer) → answer_from (answer_parts a) ≡ a
 answer_back done = refl
-answer_back (val v) = refl
-answer_back (num n) = refl
-answer_back (flag b) = refl
-answer_back (body c) = refl
-answer_back (signal s) = refl
+answer_back _ = refl
 
 -- so answers can be stored
 abbrev pub answer_coded : Coded PlainAnswer

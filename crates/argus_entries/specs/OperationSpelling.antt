@@ -1,9 +1,8 @@
 -- The one written form of a query and of a change.
 use Rattle.std.specs.{Fmt.{decimal, signed_decimal}, Prelude.{List, codes, ℕ, ◌++◌}}
 use Rattle.argus_contents.specs.Change.{PlainChange, addh, addl, change_tag, create, reml, remh, set_field, set_low}
-use Rattle.argus_contents.specs.{Change.{store, touch, trim}, declared.query.Query.Query}
-use Rattle.argus_contents.specs.declared.query.Query.TheVariants.{Bottom, Fetch, Field, High, IsTag, Low, Size}
-use Rattle.argus_contents.specs.declared.query.Query.TheVariants.{TagValue, Top, Whole}
+use Rattle.argus_contents.specs.{Change.{store, touch, trim}, declared.query.Query.{Query, TheVariants.{Bottom, Fetch}}}
+use Rattle.argus_contents.specs.declared.query.Query.TheVariants.{Field, High, IsTag, Low, Size, TagValue, Top, Whole}
 use Rattle.argus_texts.specs.{ContentSpelling.content_spelling, Spelling.spelling}
 
 -- the written form of a query

@@ -1,7 +1,7 @@
 -- What a reply says.
 use Rattle.std.specs.Prelude.{ℕ}
 use Rattle.argus_contents.specs.Answer.{PlainAnswer, plain_answer}
-use Rattle.argus_entries.specs.{declared.refusal.Refusal.Refusal, declared.reply.Reply.Reply}
+use Rattle.argus_entries.specs.declared.{refusal.Refusal.Refusal, reply.Reply.Reply}
 use Rattle.argus_entries.specs.declared.reply.Reply.TheVariants as reply
 
 -- a plain reply: the number of an object or an action, an answer, or a refusal

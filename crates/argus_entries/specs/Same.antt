@@ -1,8 +1,8 @@
 -- Tests of what is said: whether two calls, replies or entries say the same.
 use Rattle.std.specs.{Prelude.{Bool, false, true, ◌&&◌, ◌==◌}, Ordering.int_eq}
 use Rattle.argus_contents.specs.{Same.{same_answer, same_change, same_shape}, declared.query.Query.Query}
-use Rattle.argus_contents.specs.declared.query.Query.TheVariants as query
 use Rattle.argus_entries.specs.{Call.PlainCall, Entry.PlainEntry, Reply.PlainReply, declared.refusal.Refusal.Refusal}
+use Rattle.argus_contents.specs.declared.query.Query.TheVariants as query
 use Rattle.argus_entries.specs.Call as call
 use Rattle.argus_entries.specs.Reply as reply
 use Rattle.argus_entries.specs.declared.refusal.Refusal.TheVariants as refusal

@@ -1,6 +1,5 @@
 -- All pieces of the line were appended.
-use Rattle.std.proofs.{Common.string_bytes, lemmas.Result.IfOk-equal}
-use Rattle.std.specs.{Fmt.decimal, Prelude.codes}
+use Rattle.std.{proofs.{Common.string_bytes, lemmas.Result.IfOk-equal}, specs.{Fmt.decimal, Prelude.codes}}
 use Rattle.argus_entries.specs.{Call.plain_call, EntrySpelling.{call_spelling, reply_spelling}, Reply.plain_reply}
 use Rattle.argus_entries.proofs.Pieces.{line}
 use Rattle.argus_entries.proofs.entry_writing.append_entry.Goals as goal

@@ -1,10 +1,9 @@
 -- A tag and a value were appended.
-use Rattle.std.proofs.{Common.{ap, string_bytes, sym, ◌++◌, ◌∙◌}, lemmas.Result.IfOk-equal}
-use Rattle.std.specs.{Fmt.decimal, Prelude.codes}
+use Rattle.std.{proofs.{Common.{ap, string_bytes, sym, ◌++◌, ◌∙◌}, lemmas.Result.IfOk-equal}, specs.Fmt.decimal}
+use Rattle.std.specs.Prelude.{codes}
 use Rattle.argus_contents.specs.{Change.plain_change, Value.plain_value}
 use Rattle.argus_texts.specs.Spelling.{spelling}
-use Rattle.argus_entries.specs.OperationSpelling.{change_spelling}
-use Rattle.argus_entries.proofs.Pieces.{two_pieces}
+use Rattle.argus_entries.{specs.OperationSpelling.change_spelling, proofs.Pieces.two_pieces}
 use Rattle.argus_entries.proofs.operation_writing.append_change.Goals as goal
 
 pub returns-in_ok-append_number-in-ChangeTag-clause-written :
