@@ -1,8 +1,7 @@
 -- Full chunks, end to end: how many elements they have, and which stands in a place.
 use Rattle.std.proofs.Common.{List, [], ap, arith, get_or, length, length-append, refl, slice_get, suc, zero, ℕ, ◌*◌}
-use Rattle.std.proofs.{Common.{◌++◌, ◌+◌, ◌<◌, ◌∙◌, ◌∷◌, ◌≡◌, sym}, lemmas.List.append_assoc}
-use Rattle.std.proofs.lemmas.List.Elements.{All-head, All-tail}
-use Rattle.std.specs.List.{All, flat_map}
+use Rattle.std.proofs.{Common.{◌++◌, ◌+◌, ◌<◌, ◌∙◌, ◌∷◌, ◌≡◌, sym}, lemmas.{Bool.Decides.nat_tests, List.append_assoc}}
+use Rattle.std.{proofs.lemmas.List.Elements.{All-head, All-tail}, specs.List.{All, flat_map}}
 use Rattle.argus_journal.specs.declared.chunks.TheConstants.{CHUNK}
 
 slice_get-left : {A : Type 0} (xs ys : List A) (i : ℕ) → i < length xs → slice_get (xs ++ ys) i ≡ slice_get xs i
@@ -32,10 +31,7 @@ module _ {X A : Type 0} (f : X → List A) where
       → r < CHUNK → q * CHUNK + r ≡ k → slice_get (f (get_or xs q d)) r ≡ slice_get (flat_map f xs ++ rest) k
   place_in_chunk [] rest full q r k d lt low at = absurd (omega arith)
   place_in_chunk (x ∷ xs) rest full zero r k d lt low at =
-      let this = All-head IsFull x xs full in
-      let here : r ≡ k = omega arith in
-      ap (slice_get (f x)) here ∙ sym (slice_get-left (f x) (flat_map f xs ++ rest) k (omega arith))
-      ∙ ap (λ all. slice_get all k) (sym (append_assoc (f x) (flat_map f xs) rest))
+      grind (arith, nat_tests, All-head, slice_get-left, append_assoc)
   place_in_chunk (x ∷ xs) rest full (suc q) r k d lt low at =
       let this = All-head IsFull x xs full in
       place_in_chunk xs rest (All-tail IsFull x xs full) q r (q * CHUNK + r) d (omega arith) low refl
@@ -44,5 +40,4 @@ module _ {X A : Type 0} (f : X → List A) where
 
   pub place_behind_chunks : (xs : List X) (rest : List A) → All IsFull xs → (r k : ℕ) → length xs * CHUNK + r ≡ k
       → slice_get rest r ≡ slice_get (flat_map f xs ++ rest) k
-  place_behind_chunks xs rest full r k at =
-      let long = length_of_chunks xs full in sym (slice_get-right (flat_map f xs) rest r k (omega arith))
+  place_behind_chunks xs rest full r k at = grind (arith, nat_tests, length_of_chunks, slice_get-right)

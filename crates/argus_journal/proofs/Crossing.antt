@@ -3,17 +3,14 @@ use denote.RattleType.{RattleType}
 use denote.Struct.Declared.{shape}
 use denote.Struct.Tuple.{Tuple, tuple_type}
 use denote.Param.Send.{IsSend, IsSync, recorded_send, recorded_sync, sendable, struct_send, struct_sync}
-use Rattle.std.specs.Prelude.{[], ◌∷◌}
-use Rattle.std.specs.contracts.option.Option.{the_row as option_row}
-use Rattle.std.specs.contracts.vec.Vec.{the_row as list_row}
-use Rattle.argus_memory.proofs.Crossing as memory
-use Rattle.argus_contents.proofs.Crossing as contents
-use Rattle.argus_contents.specs.contracts.content.Content.{the_row as content_row}
-use Rattle.argus_contents.specs.contracts.shape.Shape.{the_row as shape_row}
-use Rattle.argus_entries.proofs.Crossing as entries
+use Rattle.std.specs.{Prelude.{[], ◌∷◌}, contracts.{option.Option.the_row as option_row, vec.Vec.the_row as list_row}}
+use Rattle.argus_contents.specs.contracts.{content.Content.the_row as content_row, shape.Shape.the_row as shape_row}
 use Rattle.argus_entries.specs.contracts.entry.Entry.{the_row as entry_row}
 use Rattle.argus_journal.specs.contracts.journal.Journal.{the_row as journal_row}
 use Rattle.argus_journal.specs.contracts.legal_journal.LegalJournal.{the_row as legal_row}
+use Rattle.argus_memory.proofs.Crossing as memory
+use Rattle.argus_contents.proofs.Crossing as contents
+use Rattle.argus_entries.proofs.Crossing as entries
 
 -- an object of an opening: its shape and what it held
 abbrev pub object_row : RattleType

@@ -1,18 +1,17 @@
 -- The opening that a journal is folded into.
 use Rattle.std.proofs.Common.{List, None, Option, Some, [], ap, arith, length, map, refl, subst, suc, sym, true, zero}
-use Rattle.std.proofs.{Common.{ℕ, ◌++◌, ◌∙◌, ◌<◌, ◌∷◌, ◌≡◌, ◌≤◌}, lemmas.Bool.and_from}
+use Rattle.std.proofs.{Common.{ℕ, ◌++◌, ◌∙◌, ◌<◌, ◌∷◌, ◌≡◌, ◌≤◌}, lemmas.Bool.{Decides.nat_tests, and_from}}
 use Rattle.std.specs.{List.list_all, Prelude.slice_get}
 use Rattle.argus_contents.specs.{Content.PlainContent, Shape.PlainShape}
 use Rattle.argus_entries.specs.Entry.{PlainEntry}
-use Rattle.argus_model.specs.{Effects.table, Owner.{is_base, owner}}
-use Rattle.argus_model.proofs.{Effects.{table-append, table_same}, Theorems.table_is_base}
+use Rattle.argus_model.{specs.{Effects.table, Owner.{is_base, owner}}, proofs.Effects.{table-append, table_same}}
+use Rattle.argus_model.proofs.Theorems.{table_is_base}
 use Rattle.argus_journal.specs.{Entries.entries, Events.history, Folding.{fold, next_entry_number, with_contents}}
-use Rattle.argus_journal.specs.{Legal.Legal, Objects.{declared, shape_of, shapes}, Opening.opening_at}
-use Rattle.argus_journal.specs.Opening.{KeepsNumbers, Opening, content_in, fits_shape, is_sound, model_opening}
+use Rattle.argus_journal.specs.{Legal.Legal, Objects.{declared, shape_of, shapes}, Opening.{opening_at, KeepsNumbers}}
+use Rattle.argus_journal.specs.Opening.{Opening, content_in, fits_shape, is_sound, model_opening}
 use Rattle.argus_journal.specs.JournalFacts.{base_of, effects_of, next_action_number}
-use Rattle.argus_journal.specs.declared.limits.TheConstants.{MAX_FIRST_ENTRY}
-use Rattle.argus_journal.proofs.{Contents.content_fits, Fitting.nothing, Legal.lawful, Shifted.before}
-use Rattle.argus_journal.proofs.Within.{actions_within, objects_within}
+use Rattle.argus_journal.{specs.declared.limits.TheConstants.MAX_FIRST_ENTRY, proofs.Contents.content_fits}
+use Rattle.argus_journal.proofs.{Legal.lawful, Shifted.before, Within.{actions_within, objects_within}}
 
 pub shapes-with_contents : (f : ℕ → Option PlainContent) (xs : List PlainShape)
     → map (λ object. object.0) (with_contents f xs) ≡ xs
@@ -45,13 +44,7 @@ module _ (s : Opening) (j : List PlainEntry) where
     base_fits o = content_fits (λ b. is_base (owner (history s j) b)) s j o sound l
 
     absent : (o : ℕ) → slice_get (shapes s j) o ≡ None → base_of s j o ≡ None
-    absent o none =
-        unfit (declared s j) (base_of s j o)
-        (subst (λ x. fits_shape x (declared s j) (base_of s j o) ≡ true) none (base_fits o))
-      where
-        unfit : (n : ℕ) (c : Option PlainContent) → fits_shape None n c ≡ true → c ≡ None
-        unfit n None e = refl
-        unfit n (Some c) e = nothing e
+    absent o none = grind (arith, nat_tests, base_fits o)
 
     pub fold_sound : is_sound (fold s j) ≡ true
     fold_sound =
@@ -77,12 +70,7 @@ module _ (s : Opening) (j : List PlainEntry) where
         ∙ table_is_base entries (model_opening (fold s j)) (history (fold s j) later) o (lawful (fold s j) later k)
 
   pub fold_numbers : KeepsNumbers s → Legal s j → next_entry_number s j ≤ MAX_FIRST_ENTRY → KeepsNumbers (fold s j)
-  fold_numbers k l n = record {
-    objects = let q = objects_within s j k.objects l in let e = length-with_contents (base_of s j) (shapes s j) in
-        omega (arith, q, e);
-    actions = let q = actions_within s j k.actions l in omega (arith, q);
-    entries = n;
-  }
+  fold_numbers k l n = grind (arith, nat_tests, objects_within, length-with_contents, actions_within)
 
   pub next_stays : next_action_number (fold s j) [] ≡ next_action_number s j
   next_stays = before (next_action_number s j)
@@ -104,8 +92,4 @@ pub fold_made : (s : Opening) (j : List PlainEntry) (objects : List (PlainShape 
     → ((o : ℕ) → o < length objects → content_in objects o ≡ base_of s j o)
     → first ≡ next_action_number s j
     → opening_at objects first (next_entry_number s j) ≡ fold s j
-fold_made s j objects first kinds same next =
-    let last = next_entry_number s j in
-    ap (λ os. opening_at os first last)
-    (contents_are (base_of s j) objects same ∙ ap (with_contents (base_of s j)) kinds)
-    ∙ ap (λ n. opening_at (fold s j).objects n last) next
+fold_made s j objects first kinds same next = grind (arith, nat_tests, contents_are)

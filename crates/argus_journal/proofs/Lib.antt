@@ -2,7 +2,6 @@ pub mod Chunked
 pub mod Newest
 pub mod Shifted
 pub mod Legal
-pub mod Rules
 pub mod Fitting
 pub mod References
 pub mod Contents

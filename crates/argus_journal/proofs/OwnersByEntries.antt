@@ -1,35 +1,31 @@
 -- For a legal journal, the owners by its entries are those of its history.
 use Rattle.std.proofs.Common.{Bool, List, None, Option, Some, [], ap, arith, cond, false, refl, subst, sym, true, ℕ}
-use Rattle.std.proofs.{Common.{⊎_elim, ◌+◌, ◌-◌, ◌<◌, ◌∙◌, ◌∷◌, ◌≡◌, ◌≢◌}, lemmas.Bool.Decides.nat_tests}
-use Rattle.std.proofs.lemmas.Bool.{cases_Bool, cases_eq, eq-eqb, false≢true, not-true}
-use Rattle.std.specs.{List.list_any, Prelude.{is_some, nat_lt, not, ◌&&◌, ◌==◌}}
+use Rattle.std.proofs.{Common.{◌+◌, ◌-◌, ◌<◌, ◌∙◌, ◌∷◌, ◌≡◌, ◌≢◌}, lemmas.Bool.{Decides.nat_tests, eq-eqb, false≢true}}
+use Rattle.std.{proofs.lemmas.Bool.not-true, specs.{List.list_any, Prelude.{is_some, nat_lt, not, ◌&&◌, ◌==◌}}}
 use Rattle.argus_actions.specs.declared.action_id.ActionId.{ActionId}
 use Rattle.argus_contents.specs.{Answer.{done, flag}, Shape.PlainShape}
 use Rattle.argus_entries.specs.Call.{PlainCall, abort, abort_others, alter, ask, begin_nested, begin_sub, begin_top}
-use Rattle.argus_entries.specs.{Call.{commit, declare, test_read, test_write}, Entry.PlainEntry}
-use Rattle.argus_entries.specs.{Reply.{PlainReply, answered, begun, refused}, declared.refusal.Refusal.Refusal}
-use Rattle.argus_entries.specs.declared.refusal.Refusal.TheVariants.{NoSiblings}
+use Rattle.argus_entries.specs.{Call.{commit, declare, test_read, test_write}, Entry.PlainEntry, Reply.PlainReply}
+use Rattle.argus_entries.specs.{Reply.{answered, begun}, declared.refusal.Refusal.{Refusal, TheVariants.NoSiblings}}
 use Rattle.argus_model.specs.{Ancestors.{begun_by, is_ancestor, is_under, lineage, parent}, Lawful.Lawful}
-use Rattle.argus_model.specs.Event.{Aborted, Accessed, Began, Committed, Nested, Origin, Sub, Top}
-use Rattle.argus_model.specs.{History.{History, Opened, folded, next_action, ◌▹◌}, Holders.{may_read, may_write}}
-use Rattle.argus_model.specs.Owner.{owner, owner_up, passed_up, unless_gone}
-use Rattle.argus_model.specs.Status.{is_begun, is_live, live_siblings}
-use Rattle.argus_model.specs.Owner as model
+use Rattle.argus_model.specs.{Event.{Aborted, Accessed, Began, Committed, Nested, Origin, Sub, Top}, History.History}
+use Rattle.argus_model.specs.{History.{next_action, ◌▹◌}, Holders.{may_read, may_write}, Owner.{owner, owner_up}}
+use Rattle.argus_model.specs.{Owner.{passed_up, unless_gone}, Status.{is_begun, is_live, live_siblings}}
 use Rattle.argus_model.proofs.{Ancestors.next_pos, Counting.held_by_live, Lawful.lawful_orderly, Live.is_begun_parts}
 use Rattle.argus_model.proofs.NextLive.{new_owner, owner_after_abort, owner_after_access, owner_after_begin}
 use Rattle.argus_model.proofs.{NextLive.owner_after_commit, Siblings.{live_begun, under_siblings}, Standing.Orderly}
 use Rattle.argus_journal.specs.{Answers.{granted, if_created, or_refused, refusal}, Entries.entries, Legal.Legal}
-use Rattle.argus_journal.specs.{Events.{event_of, history, is_answered, with_event}, Numbering.unless_base}
-use Rattle.argus_journal.specs.{Objects.shapes, Opening.{Opening, model_opening}, declared.owner.Owner.Owner}
-use Rattle.argus_journal.specs.Replaying.{at_parent, begins, gone_if, heir, owner_next, owner_then}
-use Rattle.argus_journal.specs.Replaying.{is_ancestor_by_entries, is_under_sibling_by_entries, begun_by_entries}
-use Rattle.argus_journal.specs.Replaying.{owner_by_entries, parent_by_entries}
-use Rattle.argus_journal.specs.JournalFacts.{in_program_owner, owner_in}
-use Rattle.argus_journal.specs.declared.owner.Owner.TheVariants.{Base, Folded, Gone, Held}
-use Rattle.argus_journal.proofs.Kin.{above_told, beside_told, creator_told, entry_tree, is_last, not_last, parent_told}
-use Rattle.argus_journal.proofs.{Kin.with_reply, Legal.{then_event, unless_none}}
-use Rattle.argus_journal.proofs.Legal.{free_none, lawful, refused_is_none, test_read_event, test_write_event, tested}
-use Rattle.argus_journal.proofs.Shifted.{after, before, one_more, or_none, unless_base_none, unless_base_some}
+use Rattle.argus_journal.specs.{Events.{event_of, history, is_answered}, Numbering.unless_base, Objects.shapes}
+use Rattle.argus_journal.specs.{Opening.{Opening, model_opening}, declared.owner.Owner.{Owner, TheVariants.Base}}
+use Rattle.argus_journal.specs.{declared.owner.Owner.TheVariants.{Folded, Gone, Held}, Replaying.{at_parent, begins}}
+use Rattle.argus_journal.specs.Replaying.{gone_if, heir, owner_next, owner_then, is_ancestor_by_entries}
+use Rattle.argus_journal.specs.Replaying.{is_under_sibling_by_entries, begun_by_entries, owner_by_entries}
+use Rattle.argus_journal.specs.{Replaying.parent_by_entries, JournalFacts.{in_program_owner, owner_in}}
+use Rattle.argus_journal.proofs.Kin.{above_told, beside_told, creator_told, entry_tree, parent_told, with_reply}
+use Rattle.argus_journal.proofs.Legal.{then_event, unless_none, free_none, lawful, refused_is_none, test_read_event}
+use Rattle.argus_journal.proofs.{Legal.{test_write_event, tested}, Shifted.{after, or_none, unless_base_none}}
+use Rattle.argus_journal.proofs.Shifted.{unless_base_some}
+use Rattle.argus_model.specs.Owner as model
 
 -- an owner, none of an action that hasn't begun, in the words of the history
 abbrev pub model_owner : Option Owner → model.Owner
@@ -44,16 +40,7 @@ abbrev heir_in : ℕ → model.Owner
 heir_in p = cond (p == 0) model.Base (model.Held p)
 
 heir_is : (p : ℕ) (q : Option ℕ) → q ≡ unless_base p → model_owner (Some (heir q)) ≡ heir_in p
-heir_is p q e =
-    ⊎_elim
-    (λ z. ap (λ k. model_owner (Some (heir k))) (e ∙ unless_base_none p z)
-    ∙ sym (ap (λ b. cond b model.Base (model.Held p)) (eq-eqb p 0 z)))
-    (λ n. ap (λ k. model_owner (Some (heir k))) (e ∙ unless_base_some p n) ∙ ap model.Held (after p n)
-    ∙ sym (ap (λ b. cond b model.Base (model.Held p)) (none p n)))
-    (cases_eq p 0)
-  where
-    none : (p : ℕ) → p ≢ 0 → (p == 0) ≡ false
-    none p n = grind (arith, nat_tests)
+heir_is p q e = grind (arith, nat_tests, unless_base_none, unless_base_some, after)
 
 -- owners of the history, after one more event
 
@@ -62,113 +49,50 @@ not_begun h x e = ap (λ b. cond b (owner_up h (lineage h x)) model.Folded) e
 
 begun_still : (h : History PlainEntry) (from : Origin) (x : ℕ) → x ≢ next_action h
     → is_begun (Began from ▹ h) x ≡ is_begun h x
-begun_still h from x n = ap (λ b. nat_lt (folded h) x && b) (below (next_action h) x n)
-  where
-    below : (n x : ℕ) → x ≢ n → nat_lt x (n + 1) ≡ nat_lt x n
-    below n x k = grind (arith, nat_tests)
+begun_still h from x n = grind (arith, nat_tests)
 
 owner_begin_other : (h : History PlainEntry) (from : Origin) → Orderly (Began from ▹ h) → (x : ℕ) → x ≢ next_action h
     → owner (Began from ▹ h) x ≡ owner h x
-owner_begin_other h from w x n =
-    ⊎_elim
-    (λ k. owner_after_begin h from w x k)
-    (λ k. not_begun (Began from ▹ h) x (begun_still h from x n ∙ k) ∙ sym (not_begun h x k))
-    (cases_Bool (is_begun h x))
+owner_begin_other h from w x n = grind (arith, nat_tests, owner_after_begin, not_begun, begun_still)
 
 owner_access_any : (h : History PlainEntry) (a o : ℕ) (v : PlainEntry) → Orderly (Accessed a o v ▹ h) → (x : ℕ)
     → owner (Accessed a o v ▹ h) x ≡ owner h x
-owner_access_any h a o v w x =
-    ⊎_elim (λ k. owner_after_access h a o v w x k) (λ k. not_begun (Accessed a o v ▹ h) x k ∙ sym (not_begun h x k))
-    (cases_Bool (is_begun h x))
+owner_access_any h a o v w x = grind (arith, nat_tests, owner_after_access, not_begun)
 
 owner_commit_any : (h : History PlainEntry) (a : ℕ) → Orderly (Committed a ▹ h) → (x : ℕ)
     → owner (Committed a ▹ h) x ≡ passed_up a (parent h a) (owner h x)
-owner_commit_any h a w x =
-    ⊎_elim (λ k. owner_after_commit h a w x k)
-    (λ k. not_begun (Committed a ▹ h) x k ∙ sym (ap (passed_up a (parent h a)) (not_begun h x k)))
-    (cases_Bool (is_begun h x))
+owner_commit_any h a w x = grind (arith, nat_tests, owner_after_commit, not_begun)
 
 owner_abort_any : (h : History PlainEntry) (z : List ℕ) → Orderly (Aborted z ▹ h) → (x : ℕ)
     → owner (Aborted z ▹ h) x ≡ unless_gone (is_under h z) (owner h x)
-owner_abort_any h z w x =
-    ⊎_elim (λ k. owner_after_abort h z w x k)
-    (λ k. not_begun (Aborted z ▹ h) x k ∙ sym (ap (unless_gone (is_under h z)) (not_begun h x k)))
-    (cases_Bool (is_begun h x))
+owner_abort_any h z w x = grind (arith, nat_tests, owner_after_abort, not_begun)
 
 -- an entry that is no answer leaves the owner, and so does an access
 kept_owner : (c : PlainCall) (r : PlainReply) (older : List PlainEntry) (q : Option Owner) → is_answered r ≡ false
     → owner_next (with_reply c r) older q ≡ q
-kept_owner c r older None e = refl
-kept_owner c r older (Some Folded) e = refl
-kept_owner c r older (Some Gone) e = refl
-kept_owner c r older (Some Base) e = refl
-kept_owner c r older (Some (Held x)) e = ap (λ b. Some (cond b (owner_then c older x) (Held x))) e
+kept_owner c r older q e = grind (arith, nat_tests)
 
 pub spared_owner : (c : PlainCall) (r : PlainReply) (older : List PlainEntry) (q : Option Owner)
     → ((x : ActionId) → owner_then c older x ≡ Held x) → owner_next (with_reply c r) older q ≡ q
-spared_owner c r older None f = refl
-spared_owner c r older (Some Folded) f = refl
-spared_owner c r older (Some Gone) f = refl
-spared_owner c r older (Some Base) f = refl
-spared_owner c r older (Some (Held x)) f =
-    ap (λ y. Some (cond (is_answered r) y (Held x))) (f x) ∙ ap Some (either (is_answered r) (Held x))
-  where
-    either : (b : Bool) (y : Owner) → cond b y y ≡ y
-    either true y = refl
-    either false y = refl
-
-swap_eq : (x y : ℕ) → (x == y) ≡ (y == x)
-swap_eq x y = grind (arith, nat_tests)
+spared_owner c r older q f = grind (arith, nat_tests)
 
 commit_owner : (h : History PlainEntry) (b : ℕ) (older : List PlainEntry)
     → parent_by_entries older b ≡ unless_base (parent h (b + 1)) → (q : Option Owner)
     → model_owner (owner_next (with_reply (commit b) (answered done)) older q)
     ≡ passed_up (b + 1) (parent h (b + 1)) (model_owner q)
-commit_owner h b older p None = refl
-commit_owner h b older p (Some Folded) = refl
-commit_owner h b older p (Some Gone) = refl
-commit_owner h b older p (Some Base) = refl
-commit_owner h b older p (Some (Held y)) =
-    let up = parent h (b + 1) in
-    ⊎_elim
-    (λ k. ap (λ t. model_owner (Some (cond t (heir (parent_by_entries older b)) (Held y)))) k
-    ∙ heir_is up (parent_by_entries older b) p
-    ∙ sym (ap (λ t. cond t (heir_in up) (model.Held (y.0 + 1))) (one_more y.0 b ∙ swap_eq y.0 b ∙ k)))
-    (λ k. ap (λ t. model_owner (Some (cond t (heir (parent_by_entries older b)) (Held y)))) k
-    ∙ sym (ap (λ t. cond t (heir_in up) (model.Held (y.0 + 1))) (one_more y.0 b ∙ swap_eq y.0 b ∙ k)))
-    (cases_Bool (b == y.0))
+commit_owner h b older p q = grind (arith, nat_tests, heir_is)
 
 -- who is told to be over is so in the history
 abort_owner : (h : History PlainEntry) (z : List ℕ) (c : PlainCall) (over : ActionId → Bool) (older : List PlainEntry)
     → ((y : ActionId) → owner_then c older y ≡ gone_if (over y) y) → (q : Option Owner)
     → ((y : ActionId) → q ≡ Some (Held y) → over y ≡ is_under h z (y.0 + 1))
     → model_owner (owner_next (with_reply c (answered done)) older q) ≡ unless_gone (is_under h z) (model_owner q)
-abort_owner h z c over older goes None p = refl
-abort_owner h z c over older goes (Some Folded) p = refl
-abort_owner h z c over older goes (Some Gone) p = refl
-abort_owner h z c over older goes (Some Base) p = refl
-abort_owner h z c over older goes (Some (Held y)) p =
-    ap (λ t. model_owner (Some t)) (goes y) ∙ ap (λ t. model_owner (Some (gone_if t y))) (p y refl)
-    ∙ either (is_under h z (y.0 + 1)) y
-  where
-    either : (t : Bool) (y : ActionId) → model_owner (Some (gone_if t y)) ≡ cond t model.Gone (model.Held (y.0 + 1))
-    either true y = refl
-    either false y = refl
+abort_owner h z c over older goes q p = grind (arith, nat_tests)
 
 -- an action that answers for some work is live
 pub held_live : (h : History PlainEntry) → Orderly h → (a : ℕ) (y : ActionId) → model.Held (y.0 + 1) ≡ owner h a
     → is_live h (y.0 + 1) ≡ true
-held_live h w a y e =
-    ⊎_elim
-    (λ k. (held_by_live h w a (y.0 + 1) k (sym e)).0)
-    (λ k. absurd (false≢true (sym (ap held (e ∙ not_begun h a k)))))
-    (cases_Bool (is_begun h a))
-  where
-    held : model.Owner → Bool
-    held (model.Held x) = true
-    held model.Folded = false
-    held model.Gone = false
-    held model.Base = false
+held_live h w a y e = grind (arith, nat_tests, held_by_live h w a (y.0 + 1), not_begun h a)
 
 -- of a live action, one above it is beside b exactly where that is a sibling of b
 ends_beside : (s : Opening) (older : List PlainEntry) → Legal s older → (b x : ℕ)
@@ -195,16 +119,7 @@ begun_owner : (h : History PlainEntry) (from : Origin) → Orderly (Began from �
     (cond ((next_action h - 1) == a) (Some (Held (record { 0 = a })))
     (owner_next (with_reply c (begun (next_action h - 1))) older q)) ≡ owner (Began from ▹ h) (a + 1)
 begun_owner h from w a c older q ih =
-    let kept = owner_next (with_reply c (begun (next_action h - 1))) older q in
-    ⊎_elim
-    (λ e. ap (λ b. model_owner (cond b (Some (Held (record { 0 = a }))) kept))
-    (is_last (next_action h) a (next_pos h) e)
-    ∙ ap model.Held e ∙ sym (new_owner h from w) ∙ ap (owner (Began from ▹ h)) (sym e))
-    (λ n. ap (λ b. model_owner (cond b (Some (Held (record { 0 = a }))) kept))
-    (not_last (next_action h) a (next_pos h) n)
-    ∙ ap model_owner (kept_owner c (begun (next_action h - 1)) older q refl) ∙ ih
-    ∙ sym (owner_begin_other h from w (a + 1) n))
-    (cases_eq (a + 1) (next_action h))
+    grind (arith, nat_tests, with_reply, next_pos, new_owner, kept_owner, owner_begin_other)
 
 module _ (s : Opening) (objects : List PlainShape) (older : List PlainEntry) (legal : Legal s older) where
   abbrev h : History PlainEntry
@@ -224,9 +139,7 @@ module _ (s : Opening) (objects : List PlainShape) (older : List PlainEntry) (le
 
     spared : (c : PlainCall) (r : PlainReply) → begins r a ≡ false → ((x : ActionId) → owner_then c older x ≡ Held x)
         → Claim c r h
-    spared c r b f =
-        ap (λ t. model_owner (cond t (Some (Held (record { 0 = a }))) (owner_next (with_reply c r) older q))) b
-        ∙ ap model_owner (spared_owner c r older q f) ∙ ih
+    spared c r b f = grind (arith, nat_tests, with_reply, spared_owner)
 
     access : (c : PlainCall) (r : PlainReply) (b o : ℕ) (v : PlainEntry) → begins r a ≡ false
         → ((x : ActionId) → owner_then c older x ≡ Held x) → Lawfully (Accessed b o v ▹ h)
@@ -264,16 +177,11 @@ module _ (s : Opening) (objects : List PlainShape) (older : List PlainEntry) (le
         abort_owner h z (abort_others b) (λ y. at_parent false (begun_by_entries older b)
         (λ c. is_under_sibling_by_entries older c b y.0))
         older (λ y. refl) q
-        (λ y k. ends_beside s older legal b y.0 (free_none h b (if_created h b) e).none
-        (held_live h (ordered h (lawful s older legal)) (a + 1) y (sym (ap model_owner k) ∙ ih)))
+        (λ y k. grind (arith, nat_tests, ends_beside, free_none, held_live, ordered, lawful))
         ∙ ap (unless_gone (is_under h z)) ih
         ∙ sym (owner_abort_any h z (ordered (Aborted z ▹ h) w) (a + 1))
-    owner_step (ask b o y) e w =
-        access (ask b o y) (granted s h objects (ask b o y)) (b + 1) o
-        (with_reply (ask b o y) (granted s h objects (ask b o y))) refl (λ x. refl) w
-    owner_step (alter b o y) e w =
-        access (alter b o y) (granted s h objects (alter b o y)) (b + 1) o
-        (with_reply (alter b o y) (granted s h objects (alter b o y))) refl (λ x. refl) w
+    owner_step (ask b o y) e w = grind (arith, nat_tests, access, with_reply)
+    owner_step (alter b o y) e w = grind (arith, nat_tests, access, with_reply)
     owner_step (test_read b o) e w =
         tested_owner (test_read b o) b o (may_read entries h (b + 1) o) (test_read_event h b o) (λ x. refl) w
     owner_step (test_write b o) e w =
@@ -282,26 +190,15 @@ module _ (s : Opening) (objects : List PlainShape) (older : List PlainEntry) (le
     owner_answer : (c : PlainCall) (why : Option Refusal) → refusal h objects c ≡ why
         → Lawfully (then_event c (or_refused why (granted s h objects c)) h)
         → Claim c (or_refused why (granted s h objects c)) (then_event c (or_refused why (granted s h objects c)) h)
-    owner_answer c None e w = owner_step c e w
-    owner_answer c (Some why) e w =
-        subst (λ x. Claim c (refused why) (with_event x h)) (sym (refused_is_none h c why (with_reply c (refused why))))
-        (ap model_owner (kept_owner c (refused why) older q refl) ∙ ih)
+    owner_answer c why e w = grind (arith, nat_tests, owner_step, refused_is_none, with_reply, kept_owner)
 
 unborn : (first a : ℕ) → model_owner (cond (nat_lt a first) (Some Folded) None) ≡ model.Folded
-unborn first a = either (nat_lt a first)
-  where
-    either : (b : Bool) → model_owner (cond b (Some Folded) None) ≡ model.Folded
-    either true = refl
-    either false = refl
+unborn first a = grind (arith, nat_tests)
 
 -- in the words of the history
 pub owner_is_told : (s : Opening) (j : List PlainEntry) → Legal s j → (a : ℕ)
     → model_owner (owner_by_entries s.first_action j a) ≡ owner (history s j) (a + 1)
-owner_is_told s [] l a =
-    unborn s.first_action a ∙ sym (not_begun (Opened s.first_action) (a + 1) (nothing_begun s.first_action (a + 1)))
-  where
-    nothing_begun : (n x : ℕ) → (nat_lt n x && nat_lt x (n + 1)) ≡ false
-    nothing_begun n x = grind (arith, nat_tests)
+owner_is_told s [] l a = grind (arith, nat_tests, unborn, not_begun)
 owner_is_told s (e ∷ older) l a =
     let h = history s older in
     let first = s.first_action in
@@ -317,73 +214,29 @@ owner_is_told s (e ∷ older) l a =
 
 pub next_there : (e : PlainEntry) (older : List PlainEntry) (q : Option Owner)
     → is_some (owner_next e older q) ≡ is_some q
-next_there e older None = refl
-next_there e older (Some Folded) = refl
-next_there e older (Some Gone) = refl
-next_there e older (Some Base) = refl
-next_there e older (Some (Held x)) = refl
+next_there e older q = grind (arith)
 
 begun_there : (n a : ℕ) (new old : Option Owner) → 0 < n → is_some new ≡ true → is_some old ≡ nat_lt (a + 1) n
     → is_some (cond ((n - 1) == a) new old) ≡ nat_lt (a + 1) (n + 1)
-begun_there n a new old p u o =
-    ⊎_elim
-    (λ e. ap (λ b. is_some (cond b new old)) (is_last n a p e) ∙ u ∙ sym (now n a e))
-    (λ k. ap (λ b. is_some (cond b new old)) (not_last n a p k) ∙ o ∙ sym (still n a k))
-    (cases_eq (a + 1) n)
-  where
-    now : (n a : ℕ) → (a + 1) ≡ n → nat_lt (a + 1) (n + 1) ≡ true
-    now n a e = grind (arith, nat_tests)
-
-    still : (n a : ℕ) → (a + 1) ≢ n → nat_lt (a + 1) (n + 1) ≡ nat_lt (a + 1) n
-    still n a e = grind (arith, nat_tests)
+begun_there n a new old p u o = grind (arith, nat_tests)
 
 folded_there : (first a : ℕ) → is_some (cond (nat_lt a first) (Some Folded) None) ≡ nat_lt (a + 1) (first + 1)
-folded_there first a = either (nat_lt a first) ∙ shift first a
-  where
-    either : (b : Bool) → is_some (cond b (Some Folded) None) ≡ b
-    either true = refl
-    either false = refl
-
-    shift : (first a : ℕ) → nat_lt a first ≡ nat_lt (a + 1) (first + 1)
-    shift first a = grind (arith, nat_tests)
+folded_there first a = grind (arith, nat_tests)
 
 pub owner_there : (s : Opening) (j : List PlainEntry) → Legal s j → (a : ℕ)
     → is_some (owner_by_entries s.first_action j a) ≡ nat_lt (a + 1) (next_action (history s j))
 owner_there s [] l a = folded_there s.first_action a
 owner_there s (e ∷ older) l a =
-    let h = history s older in
-    let n = next_action h in
-    let old = owner_by_entries s.first_action older a in
-    let held = Some (Held (record { 0 = a })) in
-    let still = λ (c : PlainCall) (r : PlainReply). next_there (with_reply c r) older old ∙ owner_there s older l.1 a in
-    let begun_now =
-    λ (c : PlainCall).
-    begun_there n a held (owner_next (with_reply c (begun (n - 1))) older old) (next_pos h) refl
-    (still c (begun (n - 1))) in
-    entry_tree s e older l
-    (λ c r g. is_some (owner_by_entries s.first_action (with_reply c r ∷ older) a) ≡ nat_lt (a + 1) (next_action g))
-    (begun_now begin_top)
-    (λ p _. begun_now (begin_sub p))
-    (λ c. begun_now (begin_nested c))
-    (λ c r g none same. ap (λ b. is_some (cond b held (owner_next (with_reply c r) older old))) (none a) ∙ still c r
-    ∙ sym (ap (nat_lt (a + 1)) same.next))
+    grind (arith, nat_tests, next_there, with_reply, begun_there, next_pos, entry_tree, owner_there s older l.1 a)
 
 -- in the program's words
 back : (k : Owner) → k ≡ in_program_owner (model_owner (Some k))
-back Folded = refl
-back Gone = refl
-back Base = refl
-back (Held x) = ap (λ n. Held (record { 0 = n })) (sym (before x.0))
+back k = grind (arith, nat_tests)
 
 told_is : (q : Option Owner) (o : model.Owner) (b : Bool) → model_owner q ≡ o → is_some q ≡ b
     → q ≡ cond b (Some (in_program_owner o)) None
-told_is None o b e there = ap (λ t. cond t (Some (in_program_owner o)) None) there
-told_is (Some k) o b e there =
-    ap Some (back k ∙ ap in_program_owner e) ∙ ap (λ t. cond t (Some (in_program_owner o)) None) there
+told_is q o b e there = grind (arith, nat_tests, back)
 
 pub owner_told : (s : Opening) (j : List PlainEntry) → Legal s j → (a : ℕ)
     → owner_by_entries s.first_action j a ≡ owner_in s j a
-owner_told s j l a =
-    told_is (owner_by_entries s.first_action j a) (owner (history s j) (a + 1)) (nat_lt (a + 1) (next_action
-    (history s j)))
-    (owner_is_told s j l a) (owner_there s j l a)
+owner_told s j l a = grind (arith, nat_tests, told_is, owner_is_told s j l a, owner_there s j l a)

@@ -1,17 +1,15 @@
 -- The serial runs and the effects of a legal journal.
-use Rattle.std.proofs.Common.{Bool, List, None, Option, Some, [], append-nil, false, refl, subst, sym, true, ℕ, ⊎_elim}
-use Rattle.std.proofs.Common.{◌++◌, ◌+◌, ◌∷◌, ◌≡◌}
+use Rattle.std.proofs.Common.{arith, Bool, List, None, Option, Some, [], append-nil, sym, ℕ, ◌++◌, ◌+◌, ◌∷◌, ◌≡◌}
+use Rattle.std.proofs.lemmas.Bool.Decides.{nat_tests}
 use Rattle.argus_contents.specs.Content.{PlainContent}
 use Rattle.argus_entries.specs.Call.{PlainCall, abort, abort_others, alter, ask, begin_nested, begin_sub, begin_top}
-use Rattle.argus_entries.specs.{Call.{commit, declare, test_read, test_write}, Entry.PlainEntry}
-use Rattle.argus_entries.specs.Reply.{PlainReply, answered}
+use Rattle.argus_entries.specs.{Call.{commit, declare, test_read, test_write}, Entry.PlainEntry, Reply.PlainReply}
+use Rattle.argus_entries.specs.Reply.{answered}
 use Rattle.argus_model.specs.{Effects.effects, Event.{Accessed, Event}, History.{History, ◌▹◌}, Lawful.Lawful}
-use Rattle.argus_model.specs.Work.{Access, IsOnRecord}
-use Rattle.argus_model.proofs.Commits.{effects_step}
-use Rattle.argus_journal.specs.{Effects.added_by, Entries.{entries, answer_at_content}, Events.with_event, Legal.Legal}
-use Rattle.argus_journal.specs.Events.{event_if, event_of, happens, history, is_answered, is_begun_reply, says_yes}
-use Rattle.argus_journal.specs.{Opening.{Opening, model_opening}, Serial.IsAnsweredAt, JournalFacts.effects_of}
-use Rattle.argus_journal.proofs.Legal.{lawful}
+use Rattle.argus_model.{specs.Work.{Access, IsOnRecord}, proofs.Commits.effects_step}
+use Rattle.argus_journal.specs.{Effects.added_by, Entries.{entries, answer_at_content}, Events.{with_event, event_if}}
+use Rattle.argus_journal.specs.{Events.{event_of, happens, history}, Legal.Legal, Opening.{Opening, model_opening}}
+use Rattle.argus_journal.{specs.{Serial.IsAnsweredAt, JournalFacts.effects_of}, proofs.Legal.lawful}
 
 -- what one more entry adds to the effects
 
@@ -44,13 +42,11 @@ module _ (P : PlainEntry → ℕ → Type 0) (x : Access PlainEntry) where
   -- an event that is no access
   passed : (b : Bool) (event : Event PlainEntry) (h : History PlainEntry) → (IsOnRecord (event ▹ h) x → IsOnRecord h x)
       → (IsOnRecord h x → P x.what x.object) → IsOnRecord (with_event (event_if b event) h) x → P x.what x.object
-  passed true event h same f m = f (same m)
-  passed false event h same f m = f m
+  passed b event h same f m = grind (arith, nat_tests)
 
   met : (b : Bool) (a o : ℕ) (v : PlainEntry) (h : History PlainEntry) → P v o → (IsOnRecord h x → P x.what x.object)
       → IsOnRecord (with_event (event_if b (Accessed a o v)) h) x → P x.what x.object
-  met true a o v h here f m = ⊎_elim (λ e. subst (λ y. P y.what y.object) e here) f m
-  met false a o v h here f m = f m
+  met b a o v h here f m = grind (arith, nat_tests)
 
 abbrev Named : PlainEntry → ℕ → Type 0
 Named v i = IsAccessOf v.call i
@@ -58,21 +54,7 @@ Named v i = IsAccessOf v.call i
 named_step : (c : PlainCall) (r : PlainReply) (h : History PlainEntry) (x : Access PlainEntry)
     → (IsOnRecord h x → Named x.what x.object)
     → IsOnRecord (with_event (event_of h c r (record { call = c; reply = r })) h) x → Named x.what x.object
-named_step (declare y) r h x f m = f m
-named_step begin_top r h x f m = passed Named x (is_begun_reply r) _ h (λ k. k) f m
-named_step (begin_sub p) r h x f m = passed Named x (is_begun_reply r) _ h (λ k. k) f m
-named_step (begin_nested p) r h x f m = passed Named x (is_begun_reply r) _ h (λ k. k) f m
-named_step (commit a) r h x f m = passed Named x (is_answered r) _ h (λ k. k) f m
-named_step (abort a) r h x f m = passed Named x (is_answered r) _ h (λ k. k) f m
-named_step (abort_others a) r h x f m = passed Named x (is_answered r) _ h (λ k. k) f m
-named_step (ask a o q) r h x f m =
-    met Named x (is_answered r) (a + 1) o (record { call = ask a o q; reply = r }) h refl f m
-named_step (alter a o y) r h x f m =
-    met Named x (is_answered r) (a + 1) o (record { call = alter a o y; reply = r }) h refl f m
-named_step (test_read a o) r h x f m =
-    met Named x (says_yes r) (a + 1) o (record { call = test_read a o; reply = r }) h refl f m
-named_step (test_write a o) r h x f m =
-    met Named x (says_yes r) (a + 1) o (record { call = test_write a o; reply = r }) h refl f m
+named_step c r h x f m = grind (arith, nat_tests, passed, met)
 
 pub access_named : (s : Opening) (j : List PlainEntry) (x : Access PlainEntry) → IsOnRecord (history s j) x
     → IsAccessOf x.what.call x.object
@@ -82,14 +64,4 @@ access_named s (e ∷ older) x m = named_step e.call e.reply (history s older) x
 -- an access of the object that its call names, answered as the content says
 pub answered_at : (c : PlainCall) (r : PlainReply) (i : ℕ) (v : Option PlainContent) → IsAccessOf c i
     → r ≡ answered (answer_at_content c v) → IsAnsweredAt c r i v
-answered_at (ask a o q) r i v n e = (n, e)
-answered_at (alter a o x) r i v n e = (n, e)
-answered_at (test_read a o) r i v n e = (n, e)
-answered_at (test_write a o) r i v n e = (n, e)
-answered_at (declare x) r i v n e = n
-answered_at begin_top r i v n e = n
-answered_at (begin_sub p) r i v n e = n
-answered_at (begin_nested p) r i v n e = n
-answered_at (commit a) r i v n e = n
-answered_at (abort a) r i v n e = n
-answered_at (abort_others a) r i v n e = n
+answered_at c r i v n e = grind (arith, nat_tests)

@@ -1,6 +1,6 @@
 -- The proof of the laws that stand on `committed_work_runs_again`.
-use Rattle.argus_model.specs.Work.{content_before}
-use Rattle.argus_model.proofs.{Recorded.serial_recorded, Theorems.{serial_answers, serial_each, serial_leaves}}
+use Rattle.argus_model.{specs.Work.content_before, proofs.{Recorded.serial_recorded, Theorems.serial_answers}}
+use Rattle.argus_model.proofs.Theorems.{serial_each, serial_leaves}
 use Rattle.argus_journal.specs.{Entries.entries, Events.history, Opening.{content_in, model_opening}}
 use Rattle.argus_journal.proofs.{Legal.lawful, Serial.{access_named, answered_at}}
 use Rattle.argus_journal.proofs.laws.committed_work_runs_again.Goals as goal

@@ -1,13 +1,11 @@
 -- The proof of the laws that stand on `exclusion`.
 use Rattle.std.proofs.{Common.{List, ap, arith, sym, true, ℕ, ◌++◌, ◌+◌, ◌∙◌, ◌≡◌}, lemmas.List.map-append}
 use Rattle.argus_entries.specs.Entry.{PlainEntry}
-use Rattle.argus_model.specs.{Holders.{readers, writers}, Numbers.contains}
-use Rattle.argus_model.proofs.{Lawful.lawful_orderly, LockRules.holders_live}
-use Rattle.argus_model.proofs.Theorems.{one_above_the_other, writers_in_line}
+use Rattle.argus_model.{specs.{Holders.{readers, writers}, Numbers.contains}, proofs.Lawful.lawful_orderly}
+use Rattle.argus_model.proofs.{LockRules.holders_live, Theorems.{one_above_the_other, writers_in_line}}
 use Rattle.argus_journal.specs.{Entries.entries, Events.history, Numbering.in_program, Opening.{Opening, model_opening}}
-use Rattle.argus_journal.specs.JournalFacts.{readers_of, writers_of}
-use Rattle.argus_journal.proofs.{Legal.lawful, NextEntry.{readers_above, writers_above}}
-use Rattle.argus_journal.proofs.Shifted.{contains_in_program, no_base-append}
+use Rattle.argus_journal.{specs.JournalFacts.{readers_of, writers_of}, proofs.{Legal.lawful, NextEntry.readers_above}}
+use Rattle.argus_journal.proofs.{NextEntry.writers_above, Shifted.{contains_in_program, no_base-append}}
 use Rattle.argus_journal.proofs.laws.exclusion.Goals as goal
 
 -- a writer, and a holder of either kind, in the history's numbers

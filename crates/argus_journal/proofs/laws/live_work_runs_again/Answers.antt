@@ -1,8 +1,7 @@
 -- The proof of the laws that stand on `live_work_runs_again`.
 use Rattle.std.proofs.Common.{◌+◌}
-use Rattle.argus_model.specs.Work.{content_before}
-use Rattle.argus_model.proofs.Recorded.{serial_to_recorded}
-use Rattle.argus_model.proofs.Theorems.{live_answers, live_begins, live_each, live_leaves}
+use Rattle.argus_model.{specs.Work.content_before, proofs.{Recorded.serial_to_recorded, Theorems.live_answers}}
+use Rattle.argus_model.proofs.Theorems.{live_begins, live_each, live_leaves}
 use Rattle.argus_journal.specs.{Entries.entries, Events.history, Opening.{content_in, model_opening}}
 use Rattle.argus_journal.proofs.{Legal.lawful, Serial.{access_named, answered_at}}
 use Rattle.argus_journal.proofs.laws.live_work_runs_again.Goals as goal

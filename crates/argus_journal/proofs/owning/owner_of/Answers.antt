@@ -1,7 +1,6 @@
 -- Of a legal journal, what the entries tell of an owner is what its history says.
 use Rattle.std.proofs.Common.{◌∙◌}
-use Rattle.argus_journal.specs.Journal.{entries_of, opening_of}
-use Rattle.argus_journal.proofs.OwnersByEntries.{owner_told}
+use Rattle.argus_journal.{specs.Journal.{entries_of, opening_of}, proofs.OwnersByEntries.owner_told}
 use Rattle.argus_journal.proofs.owning.owner_of.Goals as goal
 
 pub returns : goal.returns

@@ -1,17 +1,15 @@
 -- What stands in a place: in a full chunk, or in the last one.
-use Rattle.std.proofs.Common.{List, ap, arith, length, map, slice_get, sym, ℕ, ◌%◌, ◌*◌, ◌+◌, ◌-◌, ◌/◌, ◌<◌, ◌∙◌, ◌≡◌}
-use Rattle.std.proofs.{lemmas.Nat.div-add-mod', lemmas.Option.slice_get-map}
-use Rattle.std.specs.Option.{option_map}
+use Rattle.std.proofs.Common.{List, ap, arith, length, map, slice_get, ℕ, ◌%◌, ◌-◌, ◌/◌, ◌<◌, ◌∙◌, ◌≡◌}
+use Rattle.std.proofs.lemmas.{Nat.div-add-mod', Option.slice_get-map, Bool.Decides.nat_tests}
+use Rattle.argus_journal.{specs.declared.chunks.TheConstants.CHUNK, proofs.Chunked.place_behind_chunks}
+use Rattle.argus_journal.proofs.Chunked.{place_in_chunk}
 use Rattle.argus_entries.specs.{Entry.plain_entry, declared.entry.Entry.Entry}
-use Rattle.argus_journal.specs.declared.chunks.TheConstants.{CHUNK}
-use Rattle.argus_journal.proofs.Chunked.{place_behind_chunks, place_in_chunk}
 use Rattle.argus_journal.proofs.chunks.Chunks.get.Goals as goal
 
 -- the same stands in both places, and says the same
 told : (xs ys : List Entry) (i k : ℕ) → slice_get xs i ≡ slice_get ys k
     → slice_get (map plain_entry xs) i ≡ slice_get (map plain_entry ys) k
-told xs ys i k same =
-    slice_get-map plain_entry xs i ∙ ap (option_map plain_entry) same ∙ sym (slice_get-map plain_entry ys k)
+told xs ys i k same = grind (arith, nat_tests, slice_get-map)
 
 pub returns-then-place-self : goal.returns-then-place-self
 returns-then-place-self c =
@@ -27,11 +25,4 @@ returns-then-place-self c =
     c.index.result.now within low (div-add-mod' place CHUNK))
 
 pub returns : goal.returns
-returns c =
-    let chunks = c.args.self.now in
-    let place = c.args.place in
-    let counted = chunks.counted in
-    let behind : length chunks.full.items * CHUNK + (place - chunks.before) ≡ place = omega arith in
-    c.at-2.ensures ∙ ap (λ xs. slice_get (map plain_entry xs) (place - chunks.before)) c.deref-2.ensures.value
-    ∙ told _ _ (place - chunks.before) place
-    (place_behind_chunks (λ v. v.items) chunks.full.items chunks.last.items chunks.filled (place - chunks.before) place behind)
+returns c = grind (arith, nat_tests, told, place_behind_chunks)

@@ -1,6 +1,5 @@
 -- How many entries there are.
-use Rattle.std.proofs.Common.{arith, length-append, ◌≡◌, ◌≤◌}
-use Rattle.std.specs.List.{flat_map}
+use Rattle.std.{proofs.Common.{arith, length-append, ◌≡◌, ◌≤◌}, specs.List.flat_map}
 use Rattle.argus_journal.proofs.Chunked.{length_of_chunks}
 use Rattle.argus_journal.proofs.chunks.Chunks.len.Goals as goal
 
