@@ -1,23 +1,19 @@
 -- A cell when holders are ended: actions under the aborted ones release it.
-use Rattle.std.proofs.Common.{Bool, List, ap, inl, inr, subst, sym, true, ℕ, ◌+◌, ◌∙◌, ◌≡◌}
-use Rattle.std.proofs.lemmas.Bool.{and_left, cases_Bool}
-use Rattle.std.specs.{List.filter, Prelude.{not, ◌&&◌}}
-use Rattle.argus_actions.proofs.Marks.{is_above-mark}
-use Rattle.argus_actions.specs.Rows as tree_rows
-use Rattle.argus_actions.specs.Tree.{Tree, after_abort, after_abort_others, is_ancestor, is_live_sibling}
+use Rattle.std.proofs.Common.{arith, Bool, List, ap, inl, inr, sym, true, ℕ, ◌+◌, ◌∙◌, ◌≡◌}
+use Rattle.std.{proofs.lemmas.Bool.{Decides.nat_tests, cases_Bool}, specs.{List.filter, Prelude.{not, ◌&&◌}}}
+use Rattle.argus_actions.{proofs.Marks.is_above-mark, specs.Tree.{Tree, after_abort, after_abort_others, is_ancestor}}
 use Rattle.argus_actions.specs.declared.action_id.ActionId.{ActionId}
 use Rattle.argus_actions.specs.declared.status.Status.TheVariants.{Aborted as became_aborted}
 use Rattle.argus_entries.specs.Entry.{PlainEntry}
 use Rattle.argus_journal.specs.{Entries.entries, Opening.{Opening, model_opening}}
 use Rattle.argus_refinement.proofs.CellHolders.{orderly, reader_live, seen_filter, seen_step, version_live, writer_live}
-use Rattle.argus_refinement.proofs.CellLists.{filter_said, has_filtered, lawful_more}
-use Rattle.argus_refinement.specs.{CellRefinement.{AreSeen, IsCell, history_numbers}, TreeRefinement.IsTree}
+use Rattle.argus_refinement.{proofs.CellLists.{filter_said, has_filtered, lawful_more}, specs.CellRefinement.IsCell}
+use Rattle.argus_refinement.specs.TreeRefinement.{IsTree}
 use Rattle.argus_model.proofs.{Live.live_stands, NextHolders.{contains_filtered, holders_after_abort}, Standing.Orderly}
-use Rattle.argus_model.proofs.NextSees.{base_after_abort, sees_after_abort}
-use Rattle.argus_model.specs.Ancestors as model
-use Rattle.argus_model.specs.{Event.Aborted, History.{History, ◌▹◌}, Holders.writers, Lawful.Lawful, Meaning.reads}
-use Rattle.argus_model.specs.{Numbers.contains, Status.is_live}
+use Rattle.argus_model.{proofs.NextSees.{base_after_abort, sees_after_abort}, specs.{Event.Aborted, History.History}}
+use Rattle.argus_model.specs.{History.◌▹◌, Holders.writers, Lawful.Lawful, Numbers.contains, Status.is_live}
 use Rattle.argus_objects.specs.{CellChanges.has_version, Object.Object, Rules.is_lawful}
+use Rattle.argus_model.specs.Ancestors as model
 
 -- ended says of each live action whether it stands under one of those that the event names; t' is the tree after it
 module _ (s : Opening) (h : History PlainEntry) (t t' : Tree) (is : IsTree t h) (actions : List ℕ) (ended : ℕ → Bool)
@@ -39,8 +35,7 @@ module _ (s : Opening) (h : History PlainEntry) (t t' : Tree) (is : IsTree t h) 
       ∙ has_filtered (λ n. not (ended n)) c.versions x
       ∙ elim (cases_Bool (has_version x c.versions)) [
         | inl e ↦ ap (λ b. has_version x c.versions && not b) (under x (version_live s h l.1 t is o c k x e))
-        | inr e ↦ and_left (has_version x c.versions) (not (ended x.0)) e
-            ∙ sym (and_left (has_version x c.versions) (kept (x.0 + 1)) e)
+        | inr e ↦ grind (arith, nat_tests)
       ]
       ∙ ap (λ b. b && kept (x.0 + 1)) (k.writers x)
       ∙ sym (contains_filtered kept (writers entries h o) (x.0 + 1))
@@ -54,22 +49,14 @@ module _ (s : Opening) (h : History PlainEntry) (t t' : Tree) (is : IsTree t h) 
   ended_cell o c c' k b r v lw = record {
     lawful = lawful_more t t' more c' lw;
     base = b ∙ k.base ∙ sym (base_after_abort entries (model_opening s) h actions gone o);
-    readers =
-        ap history_numbers r
-        ∙ filter_said (λ x. not (ended x.0)) kept c.readers
-        (λ x i. ap not (under x (reader_live s h l.1 o (x.0 + 1)
-        (ap (λ rs. contains rs (x.0 + 1)) (sym k.readers) ∙ i))))
-        ∙ ap (filter kept) k.readers
-        ∙ sym (holders_after_abort (reads entries) h actions gone o);
+    readers = grind (arith, nat_tests, filter_said, reader_live, holders_after_abort, gone);
     writers = writers_now o c c' k v;
     seen =
-        subst (AreSeen s (Aborted actions ▹ h) o) (sym v)
-        (seen_step s h (Aborted actions ▹ h) o (filter (λ v. not (ended v.holder.0)) c.versions)
+        rw v (seen_step s h (Aborted actions ▹ h) o (filter (λ v. not (ended v.holder.0)) c.versions)
         (λ x i.
-        let lx = writer_live s (Aborted actions ▹ h) l o (x.0 + 1)
-        (sym (writers_now o c c' k v x) ∙ ap (has_version x) v ∙ i) in
-        sees_after_abort entries (model_opening s) h actions gone (x.0 + 1) o
-        (live_stands (Aborted actions ▹ h) gone (x.0 + 1) lx).1)
+        let lives = writer_live s (Aborted actions ▹ h) l o (x.0 + 1) in
+        let sees_as = sees_after_abort entries (model_opening s) h actions gone (x.0 + 1) o in
+        grind (arith, writers_now o c c' k v x, lives, sees_as, live_stands (Aborted actions ▹ h) gone (x.0 + 1)))
         (seen_filter s h o (λ v. not (ended v.holder.0)) c.versions k.seen));
   }
 
@@ -79,5 +66,4 @@ abort_more t a x y up = is_above-mark t.folded (is_ancestor t a) became_aborted 
 
 pub others_more : (t : Tree) (a : ℕ) (x y : ℕ) → is_ancestor t x y ≡ true
     → is_ancestor (after_abort_others t a) x y ≡ true
-others_more t a x y up =
-    is_above-mark t.folded (tree_rows.has_ancestor (is_live_sibling t a) t.folded t.rows) became_aborted t.rows x y ∙ up
+others_more t a x y up = grind (arith, nat_tests, is_above-mark)

@@ -1,9 +1,8 @@
 -- What an action that may read sees in a cell is what it sees in the history, and the write lock is free in both or in
 -- neither.
-use Rattle.std.proofs.Common.{Bool, List, None, Option, Some, [], ap, arith, false, inl, inr, refl, subst, sym, true, ℕ}
-use Rattle.std.proofs.Common.{◌+◌, ◌-◌, ◌∙◌, ◌∷◌, ◌≡◌, ◌≢◌, eqb, ⊎_elim}
-use Rattle.std.proofs.lemmas.Bool.{and_parts, both_ways, cases_eq, eq-eqb, eqb-true, or_cases, or_left, or_right}
-use Rattle.std.specs.{List.list_all, Prelude.{not, ◌&&◌}}
+use Rattle.std.proofs.Common.{List, None, Option, Some, [], ap, arith, false, inl, inr, refl, subst, sym, true, ℕ, ◌+◌}
+use Rattle.std.proofs.{Common.{◌-◌, ◌∙◌, ◌∷◌, ◌≡◌, ◌≢◌, eqb}, lemmas.Bool.{Decides.nat_tests, both_ways, cases_eq}}
+use Rattle.std.{proofs.lemmas.Bool.{eq-eqb, or_left}, specs.{List.list_all, Prelude.{not, ◌&&◌}}}
 use Rattle.argus_actions.specs.{Tree.{Tree, is_ancestor}, declared.action_id.ActionId.ActionId}
 use Rattle.argus_entries.specs.Entry.{PlainEntry}
 use Rattle.argus_refinement.specs.{CellRefinement.{AreSeen, IsCell, history_numbers}, TreeRefinement.IsTree}
@@ -12,17 +11,14 @@ use Rattle.argus_refinement.proofs.{TreeAnswers.ancestor_begun_is, CellLists.all
 use Rattle.argus_model.proofs.{Siblings.live_begun, Ancestors.ancestor_self, Contents.accesses_by_agree, Sees.sees_is}
 use Rattle.argus_model.proofs.{Holders.contains_holders, HolderSteps.used_by_from, NextHolders.no_base_holder}
 use Rattle.argus_model.proofs.{NextSees.sees_base, Numbers.{contains_first, every_at}, Owner.base_above}
-use Rattle.argus_model.proofs.Standing.{Orderly, some_at}
+use Rattle.argus_model.{proofs.Standing.{Orderly, some_at}, specs.{Contents.sees, History.History}}
+use Rattle.argus_model.specs.{HolderSteps.has_used, Holders.{readers, writers}, Lawful.Lawful, Numbers.contains}
+use Rattle.argus_model.specs.{OwnerSteps.{is_exactly, owner_by_steps}, Status.is_live, WorkSteps.owner_passes}
 use Rattle.argus_journal.specs.{Entries.entries, Opening.{Opening, model_opening}}
+use Rattle.argus_objects.specs.{CellChanges.{has_version, newest_content}, Object.{Object, PlainVersion}}
+use Rattle.argus_objects.{specs.Rules.{may_read, may_write, visible_content}, proofs.Changes.seen_on_top}
 use Rattle.argus_model.specs.Ancestors as model
-use Rattle.argus_model.specs.{Contents.sees, History.History, HolderSteps.has_used, Holders.{readers, writers}}
-use Rattle.argus_model.specs.{Lawful.Lawful, Numbers.contains, OwnerSteps.{is_exactly, owner_by_steps}, Status.is_live}
-use Rattle.argus_model.specs.WorkSteps.{owner_passes}
 use Rattle.argus_model.specs.Holders as holders_of
-use Rattle.argus_objects.specs.{CellChanges.{has_version, newest_content}, Object.{Object, PlainVersion, holders}}
-use Rattle.argus_objects.specs.Rules.{all_above, is_chain, is_related, is_strictly_above, may_read, may_write}
-use Rattle.argus_objects.specs.Rules.{visible_content}
-use Rattle.argus_objects.proofs.Changes.{seen_on_top}
 
 -- who stand under the same writers see the same
 pub sees_same : (s : Opening) (h : History PlainEntry) → Orderly h → (x y o : ℕ)
@@ -64,8 +60,7 @@ module _ (s : Opening) (h : History PlainEntry) (l : Lawful entries (model_openi
       → newest_content c.base vs ≡ sees entries (model_opening s) h (a.0 + 1) o
   on_top [] e may =
       k.base ∙ sym (sees_base entries (model_opening s) h (orderly s h l) o)
-      ∙ sees_same s h (orderly s h l) 0 (a.0 + 1) o (λ z i. let y = writer_of z i in
-      absurd (both_ways (has_version y.0 c.versions) (ap (has_version y.0) e) y.1.1))
+      ∙ sees_same s h (orderly s h l) 0 (a.0 + 1) o (λ z i. grind (arith, nat_tests, writer_of z i))
   on_top (v ∷ older) e may =
       let seen : AreSeen s h o (v ∷ older) = subst (AreSeen s h o) e k.seen in
       let there : has_version v.holder c.versions ≡ true = ap (has_version v.holder) e
@@ -73,55 +68,22 @@ module _ (s : Opening) (h : History PlainEntry) (l : Lawful entries (model_openi
       seen.0
       ∙ sees_same s h (orderly s h l) (v.holder.0 + 1) (a.0 + 1) o
       (λ z i.
-      let y = writer_of z i in
-      let y_at : has_version y.0 (v ∷ older) ≡ true = sym (ap (has_version y.0) e) ∙ y.1.1 in
-      let up : model.is_ancestor h z (v.holder.0 + 1) ≡ true =
-      subst (λ n. model.is_ancestor h n (v.holder.0 + 1) ≡ true) y.1.0
-      (⊎_elim
-      (λ q. subst (λ n. model.is_ancestor h (n + 1) (v.holder.0 + 1) ≡ true) (eqb-true v.holder.0 y.0.0 q)
-      (ancestor_self h (v.holder.0 + 1)))
-      (λ q.
-      let chain : is_chain t (holders (v ∷ older)) ≡ true = sym (ap (λ vs. is_chain t (holders vs)) e)
-      ∙ (and_parts (is_chain t (holders c.versions)) (list_all (is_related t (holders c.versions)) c.readers)
-      k.lawful).0 in
-      let all : list_all (λ x. is_strictly_above t x v.holder) (holders older) ≡ true =
-      (and_parts (list_all (λ x. is_strictly_above t x v.holder) (holders older)) (is_chain t (holders older))
-      chain).0 in
-      let higher : is_ancestor t y.0.0 v.holder.0 ≡ true =
-      (and_parts (is_ancestor t y.0.0 v.holder.0) (not (eqb y.0.0 v.holder.0))
-      (all_at (λ n. is_ancestor t n v.holder.0 && not (eqb n v.holder.0)) older y.0 all q)).0 in
-      sym (above s h l t is o c k y.0 v.holder y.1.1 (version_live s h l t is o c k v.holder there)) ∙ higher)
-      (or_cases (eqb v.holder.0 y.0.0) (has_version y.0 older) y_at)) in
-      up ∙ sym (every_at (λ x. model.is_ancestor h x (a.0 + 1)) (writers entries h o) z may i))
+      let by_self = ancestor_self h (v.holder.0 + 1) in
+      let by_all_at = all_at (λ n. is_ancestor t n v.holder.0 && not (eqb n v.holder.0)) older in
+      let by_live = version_live s h l t is o c k v.holder there in
+      let by_at = every_at (λ x. model.is_ancestor h x (a.0 + 1)) (writers entries h o) z may i in
+      grind (arith, nat_tests, writer_of z i, by_self, by_all_at, above s h l t is o c k, by_live, by_at))
 
   pub visible_is : may_read t c a ≡ true → visible_content t a c.base c.versions ≡ sees entries (model_opening s) h
       (a.0 + 1) o
-  visible_is may = sym (seen_on_top t a c.base c.versions may)
-      ∙ on_top c.versions refl (sym (may_read_is s h l t is o c k a la) ∙ may)
+  visible_is may = grind (arith, nat_tests, seen_on_top, on_top, may_read_is)
 
   all_readers : (rs : List ActionId) → ((x : ActionId) → contains (history_numbers rs) (x.0 + 1) ≡ true
       → is_live h (x.0 + 1) ≡ true) → list_all (λ x. is_ancestor t x.0 a.0) rs
       ≡ list_all (λ x. model.is_ancestor h x (a.0 + 1)) (history_numbers rs)
   all_readers [] f = refl
   all_readers (x ∷ rs) f =
-      ap (λ b. b && list_all (λ x. is_ancestor t x.0 a.0) rs)
-      (ancestor_begun_is t h is (orderly s h l) x.0 a.0 (live_begun h (x.0 + 1)
-      (f x (contains_first (x.0 + 1) (history_numbers rs)))) (live_begun h (a.0 + 1) la))
-      ∙ ap (λ b. model.is_ancestor h (x.0 + 1) (a.0 + 1) && b)
-      (all_readers rs (λ y i. f y (or_right (eqb (y.0 + 1) (x.0 + 1)) (contains (history_numbers rs) (y.0 + 1)) i)))
-
-  and_turn : (a b : Bool) → (a && b) ≡ (b && a)
-  and_turn true true = refl
-  and_turn true false = refl
-  and_turn false true = refl
-  and_turn false false = refl
+      grind (arith, nat_tests, ancestor_begun_is, orderly, live_begun, contains_first, all_readers rs)
 
   pub may_write_is : may_write t c a ≡ holders_of.may_write entries h (a.0 + 1) o
-  may_write_is =
-      ap (λ b. b && all_above t a c.readers) (may_read_is s h l t is o c k a la)
-      ∙ ap (λ b. holders_of.may_read entries h (a.0 + 1) o && b)
-      (all_readers c.readers (λ x i. reader_live s h l o (x.0 + 1)
-      (sym (ap (λ rs. contains rs (x.0 + 1)) k.readers) ∙ i))
-      ∙ ap (list_all (λ x. model.is_ancestor h x (a.0 + 1))) k.readers)
-      ∙ and_turn (holders_of.may_read entries h (a.0 + 1) o)
-      (list_all (λ x. model.is_ancestor h x (a.0 + 1)) (readers entries h o))
+  may_write_is = grind (arith, nat_tests, may_read_is s h l t is o c k a la, all_readers c.readers, reader_live)

@@ -1,21 +1,18 @@
 -- The proof of what a cell tells.
-use Rattle.std.proofs.Common.{List, [], ap, arith, refl, ℕ, ◌+◌, ◌-◌, ◌∙◌, ◌∷◌, ◌≡◌}
+use Rattle.std.proofs.{Common.{List, [], ap, arith, refl, ℕ, ◌-◌, ◌∙◌, ◌∷◌, ◌≡◌}, lemmas.Bool.Decides.nat_tests}
 use Rattle.std.specs.Prelude.{Option, map}
 use Rattle.argus_actions.specs.declared.action_id.ActionId.{ActionId}
 use Rattle.argus_contents.specs.Content.{PlainContent}
-use Rattle.argus_journal.proofs.Legal.{lawful}
-use Rattle.argus_journal.specs.{Events.history, Numbering.all_in_program, JournalFacts.visible_to}
-use Rattle.argus_refinement.proofs.{CellHolders.may_read_is, CellOrder.{stack_is, told_is}}
-use Rattle.argus_refinement.proofs.CellSeen.{may_write_is, visible_is}
+use Rattle.argus_journal.{proofs.Legal.lawful, specs.{Events.history, Numbering.all_in_program}}
+use Rattle.argus_journal.specs.JournalFacts.{visible_to}
+use Rattle.argus_refinement.proofs.{CellHolders.may_read_is, CellOrder.{stack_is, told_is}, CellSeen.may_write_is}
+use Rattle.argus_refinement.{proofs.CellSeen.visible_is, specs.CellRefinement.history_numbers}
 use Rattle.argus_refinement.proofs.cell_laws.a_cell_refines_the_history.Goals as goal
-use Rattle.argus_refinement.specs.CellRefinement.{history_numbers}
 
 -- a number up and down again
 down : (ids : List ActionId) → map (λ (x : ActionId). x.0) ids ≡ all_in_program (history_numbers ids)
 down [] = refl
-down (x ∷ ids) =
-    let same : x.0 ≡ (x.0 + 1) - 1 = omega arith in
-    ap (λ n. n ∷ map (λ (y : ActionId). y.0) ids) same ∙ ap (λ ns. ((x.0 + 1) - 1) ∷ ns) (down ids)
+down (x ∷ ids) = grind (arith, nat_tests, down ids)
 
 pub returns : goal.returns
 returns c = record {

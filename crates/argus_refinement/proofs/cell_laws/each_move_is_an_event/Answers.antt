@@ -1,13 +1,12 @@
 -- The proof that each move of a cell is an event.
 use Rattle.std.specs.Prelude.{◌+◌}
 use Rattle.argus_actions.specs.Tree.{after_begin, after_commit}
-use Rattle.argus_journal.proofs.NextEntry.{by_event}
-use Rattle.argus_journal.specs.Events.{history}
+use Rattle.argus_journal.{proofs.NextEntry.by_event, specs.Events.history}
 use Rattle.argus_refinement.proofs.{CellAborts.ended_cell, CellAccesses.{aside_cell, read_cell, written_cell}}
 use Rattle.argus_refinement.proofs.{CellBegins.begin_cell, CellCommits.{sub_cell, top_cell}}
-use Rattle.argus_refinement.proofs.cell_laws.each_move_is_an_event.Goals as goal
 use Rattle.argus_refinement.specs.{CellRefinement.IsCell, TreeRefinement.history_origin}
 use Rattle.argus_model.specs.Event.{Aborted, Accessed, Began, Committed}
+use Rattle.argus_refinement.proofs.cell_laws.each_move_is_an_event.Goals as goal
 
 pub returns : goal.returns
 returns c = record {
