@@ -1,13 +1,12 @@
 -- Heads and links, when one more entry has been linked.
-use Rattle.std.proofs.Common.{List, None, Option, Some, ap, arith, cond, inl, inr, length, refl, replicate, set, subst}
-use Rattle.std.proofs.{Common.{sym, ℕ, ◌+◌, ◌<◌, ◌∙◌, ◌≡◌, ◌≢◌, ◌≤◌}, lemmas.Option.slice_get_within}
-use Rattle.std.proofs.lemmas.Bool.{cases_eq, cases_lt, false≢true, ne_eqb}
-use Rattle.std.proofs.lemmas.List.{get_or-replicate, get_or-set_other, get_or-set_same, length-replicate, length-set}
-use Rattle.std.proofs.lemmas.Option.{get_or_from_slice_get, none-some, slice_get_cases, slice_get_read}
-use Rattle.std.specs.{Option.{option_map, unwrap_or}, Prelude.{is_some, slice_get}}
+use Rattle.std.proofs.Common.{List, None, Option, Some, ap, arith, inl, inr, length, refl, set, subst, sym, ℕ, ◌+◌, ◌<◌}
+use Rattle.std.proofs.{Common.{◌∙◌, ◌≡◌, ◌≢◌, ◌≤◌}, lemmas.Bool.{Decides.nat_tests, cases_eq, false≢true}}
+use Rattle.std.proofs.lemmas.Option.{slice_get_within, get_or_from_slice_get, none-some, slice_get_cases}
+use Rattle.std.proofs.lemmas.{Option.slice_get_read, List.{get_or-set_other, get_or-set_same, length-set}}
+use Rattle.std.specs.{Option.option_map, Prelude.{is_some, slice_get}}
 use Rattle.argus_actions.specs.declared.action_id.ActionId.{ActionId}
-use Rattle.argus_audit.specs.Writes.{AreHeads, AreLinks, IsWrite, Skips, written_by}
-use Rattle.argus_audit.proofs.Visits.{writer_at, writer_is}
+use Rattle.argus_audit.{specs.Writes.{AreHeads, AreLinks, IsWrite, Skips, written_by}, proofs.Visits.writer_at}
+use Rattle.argus_audit.proofs.Visits.{writer_is}
 use Rattle.argus_contents.specs.declared.obj_id.ObjId.{ObjId}
 use Rattle.argus_entries.specs.Entry.{PlainEntry}
 use Rattle.argus_journal.specs.Replaying.{writer_by}
@@ -29,42 +28,23 @@ got_other xs at i v x n e =
 
 unwritten : (o : ℕ) (w : Option (ActionId × ObjId)) → option_map (λ (write : ActionId × ObjId). write.1) w ≡ None
     → writer_at o w ≡ None
-unwritten o None e = refl
-unwritten o (Some write) e = absurd (cc)
+unwritten o w e = grind (arith)
 
 written_other : (o : ℕ) (k : ObjId) (w : Option (ActionId × ObjId))
     → option_map (λ (write : ActionId × ObjId). write.1) w ≡ Some k → o ≢ k.0 → writer_at o w ≡ None
-written_other o k None e n = refl
-written_other o k (Some write) e n =
-    let same : write.1.0 ≡ k.0 = ap (λ x. (unwrap_or x k).0) e in
-    ap (λ b. cond b (Some write.0) None) (ne_eqb write.1.0 o (λ here. n (sym here ∙ same)))
+written_other o k w e n = grind (arith, nat_tests)
 
 module _ (xs : List PlainEntry) where
   pub joined : (o from mid to : ℕ) → Skips xs o from mid → Skips xs o mid to → Skips xs o from to
-  joined o from mid to first second i e low high is =
-      elim (cases_lt i mid) [
-        | inl lt ↦ first i e low lt is
-        | inr ge ↦ second i e ge high is
-      ]
+  joined o from mid to first second i e low high is = grind (arith, nat_tests)
 
   pub nothing : (o from to : ℕ) → to ≤ from → Skips xs o from to
   nothing o from to le i e low high is = absurd (omega (arith, le, low, high))
 
   past_all : (o from to : ℕ) → length xs ≤ from → Skips xs o from to
-  past_all o from to past i e low high is =
-      let within = slice_get_within xs i e is in absurd (omega (arith, past, low, within))
+  past_all o from to past i e low high is = grind (arith, nat_tests, slice_get_within)
 
   -- at first nothing is linked
-
-  pub heads_start : (heads : List ℕ) (from : ℕ) → length xs ≤ from → AreHeads xs from heads
-  heads_start heads from past o to is = past_all o from to past
-
-  pub links_start : (n : ℕ) → AreLinks xs (replicate n 0)
-  links_start n i o to is written =
-      let low = subst (λ m. i < m) (length-replicate n 0) (slice_get_within (replicate n 0) i to is) in
-      let none : to ≡ 0 =
-      sym (get_or_from_slice_get (replicate n 0) i to 0 is) ∙ get_or-replicate n i 0 0 low in
-      nothing o (i + 1) to (omega (arith, none))
 
   -- the entry at this place writes this object, if any
   module _ (place : ℕ) (q : Option ObjId)
@@ -72,19 +52,14 @@ module _ (xs : List PlainEntry) where
       → q ≡ option_map (λ (write : ActionId × ObjId). write.1) (written_by e.call e.reply)) where
     passed : (o : ℕ) → ((e : PlainEntry) → slice_get xs place ≡ Some e → writer_by e.call e.reply o ≡ None)
         → Skips xs o place (place + 1)
-    passed o none i e low high is =
-        let here : i ≡ place = omega (arith, low, high) in
-        none e (subst (λ k. slice_get xs k ≡ Some e) here is)
+    passed o none i e low high is = grind (arith, nat_tests)
 
     passed_none : q ≡ None → (o : ℕ) → Skips xs o place (place + 1)
-    passed_none n o =
-        passed o
-        (λ e is. writer_is e.call e.reply o ∙ unwritten o (written_by e.call e.reply) (sym (found e is) ∙ n))
+    passed_none n o = grind (arith, nat_tests, passed, writer_is, unwritten)
 
     none_other : (k : ObjId) → q ≡ Some k → (o : ℕ) → o ≢ k.0 → (e : PlainEntry) → slice_get xs place ≡ Some e
         → writer_by e.call e.reply o ≡ None
-    none_other k s o n e is =
-        writer_is e.call e.reply o ∙ written_other o k (written_by e.call e.reply) (sym (found e is) ∙ s) n
+    none_other k s o n e is = grind (arith, nat_tests, writer_is, written_other)
 
     passed_other : (k : ObjId) → q ≡ Some k → (o : ℕ) → o ≢ k.0 → Skips xs o place (place + 1)
     passed_other k s o n = passed o (none_other k s o n)
@@ -102,9 +77,7 @@ module _ (xs : List PlainEntry) where
         → AreHeads xs place (set heads k.0 place)
     heads_set heads k s are o to is =
         elim (cases_eq o k.0) [
-          | inl same ↦
-              let here = got_same heads k.0 place to (subst (λ m. slice_get (set heads k.0 place) m ≡ Some to) same is) in
-              nothing o place to (omega (arith, here))
+          | inl same ↦ grind (arith, nat_tests, got_same)
           | inr n ↦
               joined o place (place + 1) to (passed_other k s o n) (are o to (got_other heads k.0 o place to n is))
         ]

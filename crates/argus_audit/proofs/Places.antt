@@ -1,9 +1,8 @@
 -- One more entry, and all of them.
-use Rattle.std.proofs.Common.{List, None, Some, [], ap, arith, drop, inl, inr, reverse, subst, suc, sym, take, ℕ, ◌++◌}
-use Rattle.std.proofs.{Common.{◌+◌, ◌∙◌, ◌∷◌, ◌≡◌, ◌≤◌}, Math.Seq.take-suc}
-use Rattle.std.proofs.lemmas.List.{reverse-append, reverse-reverse, take-append-drop, take_all}
-use Rattle.std.proofs.lemmas.Option.{get_or_from_slice_get, none-some, slice_get_cases, slice_get_within}
-use Rattle.std.specs.Prelude.{slice_get}
+use Rattle.std.proofs.Common.{List, None, Some, [], ap, arith, drop, reverse, subst, suc, sym, take, ℕ, ◌++◌, ◌+◌, ◌∙◌}
+use Rattle.std.proofs.{Common.{◌∷◌, ◌≡◌, ◌≤◌}, lemmas.{Bool.Decides.nat_tests, List.{reverse-append, reverse-reverse}}}
+use Rattle.std.proofs.lemmas.{List.{take-append-drop, take_all}, Option.{get_or_from_slice_get, none-some}}
+use Rattle.std.{proofs.{lemmas.Option.{slice_get_cases, slice_get_within}, Math.Seq.take-suc}, specs.Prelude.slice_get}
 use Rattle.argus_audit.specs.Places.{first_entries}
 use Rattle.argus_entries.specs.Entry.{PlainEntry}
 use Rattle.argus_journal.specs.{Legal.Legal, Opening.Opening}
@@ -19,13 +18,7 @@ one_more j n e is =
     ∙ reverse-append (take n (reverse j)) (e ∷ [])
 
 pub no_more : (j : List PlainEntry) (n : ℕ) → slice_get (reverse j) n ≡ None → first_entries j (n + 1) ≡ first_entries j n
-no_more j n none =
-    elim ((slice_get_cases (reverse j) n).1) [
-      | inl here ↦ absurd (none-some here.0 (sym none ∙ here.2))
-      | inr past ↦
-          let long = past.0 in
-          ap reverse (take_all (n + 1) (reverse j) (omega (arith, long)) ∙ sym (take_all n (reverse j) long))
-    ]
+no_more j n none = grind (arith, nat_tests, slice_get_cases, none-some, take_all)
 
 -- the older entries of a legal journal are legal
 older_legal : (s : Opening) (newer older : List PlainEntry) → Legal s (newer ++ older) → Legal s older

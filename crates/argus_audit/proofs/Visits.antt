@@ -1,46 +1,25 @@
 -- Entries that don't write an object leave its content.
-use Rattle.std.proofs.Common.{Bool, List, None, Option, Some, ap, arith, cond, false, inl, inr, refl, reverse, subst}
-use Rattle.std.proofs.{Common.{suc, sym, true, zero, ℕ, ◌+◌, ◌-◌, ◌∙◌, ◌≡◌, ◌≤◌}, lemmas.Option.slice_get_cases}
+use Rattle.std.proofs.Common.{Bool, List, None, Option, Some, ap, arith, cond, inl, inr, reverse, suc, sym, zero, ℕ}
+use Rattle.std.proofs.{Common.{◌+◌, ◌-◌, ◌∙◌, ◌≡◌, ◌≤◌}, lemmas.{Bool.Decides.nat_tests, Option.slice_get_cases}}
 use Rattle.std.specs.Prelude.{slice_get, ◌&&◌, ◌==◌}
 use Rattle.argus_actions.specs.declared.action_id.ActionId.{ActionId}
-use Rattle.argus_audit.specs.{Places.first_entries, Writes.{Skips, written_by}}
-use Rattle.argus_audit.proofs.Places.{no_more, one_more}
+use Rattle.argus_audit.{specs.{Places.first_entries, Writes.{Skips, written_by}}, proofs.Places.{no_more, one_more}}
 use Rattle.argus_contents.specs.{Content.PlainContent, declared.obj_id.ObjId.ObjId}
-use Rattle.argus_entries.specs.Call.{PlainCall, abort, abort_others, alter, ask, begin_nested, begin_sub, begin_top}
-use Rattle.argus_entries.specs.{Call.{commit, declare, test_read, test_write}, Entry.PlainEntry, Reply.PlainReply}
-use Rattle.argus_journal.specs.{Entries.content_after_call, Events.{is_answered, says_yes}, Opening.Opening}
-use Rattle.argus_journal.specs.Replaying.{counts_by_entries, replayed, writer_by, written_if}
+use Rattle.argus_entries.specs.{Call.PlainCall, Entry.PlainEntry, Reply.PlainReply}
+use Rattle.argus_journal.specs.{Entries.content_after_call, Opening.Opening, Replaying.{counts_by_entries, replayed}}
+use Rattle.argus_journal.specs.Replaying.{writer_by, written_if}
 
 -- the action, if the object is this one
 abbrev pub writer_at : ℕ → Option (ActionId × ObjId) → Option ActionId
 writer_at o None = None
 writer_at o (Some write) = cond (write.1.0 == o) (Some write.0) None
 
-and_true : (m : Bool) → (m && true) ≡ m
-and_true true = refl
-and_true false = refl
-
-and_false : (m : Bool) → (m && false) ≡ false
-and_false true = refl
-and_false false = refl
-
 writer_if : (o i : ℕ) (b : Bool) (a : ActionId)
     → cond ((i == o) && b) (Some a) None ≡ writer_at o (cond b (Some (a, record { 0 = i })) None)
-writer_if o i true a = ap (λ k. cond k (Some a) None) (and_true (i == o))
-writer_if o i false a = ap (λ k. cond k (Some a) None) (and_false (i == o))
+writer_if o i b a = grind (arith)
 
 pub writer_is : (c : PlainCall) (r : PlainReply) (o : ℕ) → writer_by c r o ≡ writer_at o (written_by c r)
-writer_is (alter a i x) r o = writer_if o i (is_answered r) (record { 0 = a })
-writer_is (test_write a i) r o = writer_if o i (says_yes r) (record { 0 = a })
-writer_is (declare shape) r o = refl
-writer_is begin_top r o = refl
-writer_is (begin_sub p) r o = refl
-writer_is (begin_nested p) r o = refl
-writer_is (commit a) r o = refl
-writer_is (abort a) r o = refl
-writer_is (abort_others a) r o = refl
-writer_is (ask a i q) r o = refl
-writer_is (test_read a i) r o = refl
+writer_is c r o = grind (arith, nat_tests, writer_if)
 
 module _ (s : Opening) (j : List PlainEntry) (reader : Option ActionId) (o : ℕ) where
   abbrev counts : ℕ → Bool
@@ -67,16 +46,10 @@ module _ (s : Opening) (j : List PlainEntry) (reader : Option ActionId) (o : ℕ
 
   skipped : (k from : ℕ) → Skips (reverse j) o from (from + k) → left (from + k) ≡ left from
   skipped zero from skips = let same : from + 0 ≡ from = omega arith in ap left same
-  skipped (suc k) from skips =
-      let next : from + suc k ≡ (from + k) + 1 = omega arith in
-      ap left next
-      ∙ passed (from + k) (λ e is. skips (from + k) e (omega arith) (omega arith) is)
-      ∙ skipped k from (λ i e low high is. skips i e low (omega (arith, high)) is)
+  skipped (suc k) from skips = grind (arith, nat_tests, passed (from + k), skipped k from)
 
   pub skipped_to : (from to : ℕ) → from ≤ to → Skips (reverse j) o from to → left to ≡ left from
-  skipped_to from to le skips =
-      let same : from + (to - from) ≡ to = omega (arith, le) in
-      ap left (sym same) ∙ skipped (to - from) from (subst (λ k. Skips (reverse j) o from k) (sym same) skips)
+  skipped_to from to le skips = grind (arith, nat_tests, skipped (to - from) from)
 
   -- an entry that writes it, by an action that counts or not
   pub written_at : (n : ℕ) (e : PlainEntry) (a : ActionId) (b : Bool) → slice_get (reverse j) n ≡ Some e

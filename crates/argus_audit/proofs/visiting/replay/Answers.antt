@@ -1,7 +1,6 @@
 -- Entries that are passed by leave the content.
-use Rattle.std.proofs.Common.{arith, reverse, subst, sym, ◌+◌, ◌∙◌}
-use Rattle.argus_audit.specs.Writes.{AreWrites}
-use Rattle.argus_audit.proofs.Visits.{skipped_to}
+use Rattle.std.proofs.{Common.{arith, reverse, subst, sym, ◌∙◌}, lemmas.Bool.Decides.nat_tests}
+use Rattle.argus_audit.{specs.Writes.AreWrites, proofs.Visits.skipped_to}
 use Rattle.argus_journal.specs.Journal.{entries_of, opening_of}
 use Rattle.argus_audit.proofs.visiting.replay.Goals as goal
 
@@ -18,8 +17,4 @@ loop-place-init c =
     (omega arith) c.first-place.ensures)
 
 pub loop-place-preserved : goal.loop-place-preserved
-loop-place-preserved c =
-    let journal = c.args.journal.now in
-    c.in_ok-visit.ensures
-    ∙ sym (skipped_to (opening_of journal) (entries_of journal) c.args.reader c.args.o.0 (c.loop-place.place + 1)
-    c.next_place-place.result (omega (arith, c.next_place-place.ensures.later)) c.next_place-place.ensures.skips)
+loop-place-preserved c = grind (arith, nat_tests, skipped_to)

@@ -1,10 +1,9 @@
 -- What one more entry leaves, by whether it writes the object and counts.
-use Rattle.std.proofs.Common.{ap, false, sym, true, ◌∙◌}
-use Rattle.argus_audit.proofs.{Places.first_legal, Visits.{unwritten_at, written_at}}
-use Rattle.argus_audit.specs.Places.{first_entries}
+use Rattle.std.proofs.{Common.{ap, false, sym, true, ◌∙◌, arith}, lemmas.Bool.Decides.nat_tests}
 use Rattle.argus_entries.specs.Entry.{plain_entry}
 use Rattle.argus_journal.specs.{Entries.content_after_call, Journal.{entries_of, opening_of}}
 use Rattle.argus_journal.proofs.Replay.{replayed_keeps}
+use Rattle.argus_audit.proofs.{Places.first_legal, Visits.{unwritten_at, written_at}}
 use Rattle.argus_audit.proofs.visiting.visit.Goals as goal
 
 pub returns-in_default-writer_of : goal.returns-in_default-writer_of
@@ -15,12 +14,7 @@ returns-in_default-writer_of c =
     (plain_entry c.in-Some.entry.now) (sym c.in-Some.ensures) (sym c.in_default-writer_of.ensures))
 
 pub write-requires : goal.write-requires
-write-requires c =
-    let s = opening_of c.args.journal.now in
-    let j = entries_of c.args.journal.now in
-    rw c.requires.content
-    (replayed_keeps s j c.args.reader c.args.o.0 (first_entries j c.args.place) c.requires.sound
-    (first_legal s j c.args.place c.requires.legal))
+write-requires c = grind (arith, nat_tests, replayed_keeps, first_legal)
 
 pub returns-in_ok-write : goal.returns-in_ok-write
 returns-in_ok-write c =

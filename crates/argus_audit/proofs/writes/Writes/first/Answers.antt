@@ -1,6 +1,5 @@
 -- The object's head.
-use Rattle.std.proofs.Common.{ap, sym, ◌∙◌}
-use Rattle.std.specs.Prelude.{slice_get}
+use Rattle.std.{proofs.Common.{ap, sym, ◌∙◌}, specs.Prelude.slice_get}
 use Rattle.argus_audit.proofs.writes.Writes.first.Goals as goal
 
 pub returns-in-Some : goal.returns-in-Some
