@@ -1,37 +1,33 @@
 -- The refusals of accesses are the journal's, and what is so where nothing refuses one.
-use Rattle.std.proofs.Common.{Bool, List, None, Option, Some, ap, arith, false, get_or, inl, inr, length, refl, subst}
-use Rattle.std.proofs.{Common.{sym, true, ℕ, ◌+◌, ◌<◌, ◌≤◌, ◌∙◌, ◌≡◌}, lemmas.Bool.{cases_lt, le-ltb, lt-ltb}}
-use Rattle.std.proofs.{lemmas.List.length-map, lemmas.Option.{slice_get-get_or, slice_get-map, slice_get_within}}
-use Rattle.std.specs.{Option.{option_map, option_or}, Prelude.{slice_get, slice_index_or}}
+use Rattle.std.proofs.Common.{Bool, List, None, Option, Some, ap, arith, get_or, inl, inr, length, refl, subst, sym}
+use Rattle.std.proofs.{Common.{true, ℕ, ◌+◌, ◌<◌, ◌≤◌, ◌∙◌, ◌≡◌}, lemmas.Bool.{cases_lt, Decides.nat_tests}}
+use Rattle.std.proofs.lemmas.{List.length-map, Option.{slice_get-get_or, slice_get-map, slice_get_within}}
+use Rattle.std.specs.{Option.option_or, Prelude.{slice_get, slice_index_or}}
 use Rattle.argus_actions.specs.{Refusals.commit_refusal, Tree.Tree, declared.action_id.ActionId.ActionId}
 use Rattle.argus_actions.specs.declared.action_refusal.ActionRefusal.{ActionRefusal}
 use Rattle.argus_contents.specs.{Content.KeepsLimits, Shape.PlainShape, declared.obj_id.ObjId.ObjId}
 use Rattle.argus_entries.specs.{Call.PlainCall, Entry.PlainEntry, Reply.{PlainReply, refused}}
-use Rattle.argus_entries.specs.declared.refusal.Refusal.{Refusal}
-use Rattle.argus_entries.specs.declared.refusal.Refusal.TheVariants.{Conflict, IllTyped, NoObject}
+use Rattle.argus_entries.specs.declared.refusal.Refusal.{Refusal, TheVariants.{Conflict, IllTyped}}
 use Rattle.argus_core.specs.{Accessing.{IsFree, access_refusal, refused_at, seen_at}, GuardianState.journal_view_of}
 use Rattle.argus_core.specs.StateRefinement.{StateRefinesJournal}
 use Rattle.argus_core.specs.declared.engine.atomic_object.AtomicObject.{AtomicObject}
-use Rattle.argus_core.specs.declared.engine.guardian_state.GuardianState.{GuardianState}
-use Rattle.argus_core.proofs.Ends.{commit_refused, some_object}
+use Rattle.argus_core.{specs.declared.engine.guardian_state.GuardianState.GuardianState, proofs.Ends.commit_refused}
+use Rattle.argus_core.proofs.Ends.{some_object}
 use Rattle.argus_journal.specs.{Answers.{granted, if_declared, if_free, or_refused, suits, unless}, Entries.entries}
 use Rattle.argus_journal.specs.{Events.history, JournalView.{refusal_to, reply_to}, Opening.{Opening, model_opening}}
 use Rattle.argus_journal.specs.{LegalJournal.{entries_in, opening_in}, Objects.{declared, shape_of, shapes}}
 use Rattle.argus_journal.proofs.{Contents.content_fits, Fitting.fits_keeps, Legal.{free_none, lawful}}
-use Rattle.argus_refinement.specs.TreeRefinement.{journal_refusal_if_any}
-use Rattle.argus_refinement.proofs.{CellHolders.may_read_is, CellSeen.{may_write_is, visible_is}}
-use Rattle.argus_refinement.proofs.TreeRefusals.{free_rest}
+use Rattle.argus_refinement.{specs.TreeRefinement.journal_refusal_if_any, proofs.CellHolders.may_read_is}
+use Rattle.argus_refinement.proofs.{CellSeen.{may_write_is, visible_is}, TreeRefusals.free_rest}
 use Rattle.argus_model.specs.{Contents.sees, History.History, Owner.{counts_for, owner}, Status.is_live}
-use Rattle.argus_model.specs.Holders as model
 use Rattle.argus_objects.specs.{Object.Object, declared.holdings.Holdings.Holdings}
+use Rattle.argus_model.specs.Holders as model
 use Rattle.argus_objects.specs.Rules as cell
 
 -- the object that was found is the one of its place
 found_at : (objects : List AtomicObject) (o : ℕ) (x : AtomicObject) (d : AtomicObject) → slice_get objects o ≡ Some x
     → x ≡ slice_index_or objects o d
-found_at objects o x d e =
-    let k : Some x ≡ Some (get_or objects o d) =
-    sym e ∙ slice_get-get_or objects o d (slice_get_within objects o x e) in cc
+found_at objects o x d e = grind (arith, nat_tests, slice_get-get_or, slice_get_within)
 
 none_past : (objects : List AtomicObject) (o : ℕ) → slice_get objects o ≡ None → length objects ≤ o
 none_past objects o e =
@@ -53,25 +49,7 @@ pub record IsGranted (t : Tree) (objects : List AtomicObject) (a o : ℕ) (fits 
 
 pub granted_parts : (t : Tree) (objects : List AtomicObject) (a o : ℕ) (fits : PlainShape → Bool) (free : Object → Bool)
     → access_refusal t objects a o fits free ≡ None → IsGranted t objects a o fits free
-granted_parts t objects a o fits free e = at (commit_refusal t a) refl (slice_get objects o) refl e
-  where
-    tests : (b c : Bool) → unless b IllTyped (unless c Conflict None) ≡ None → (b ≡ true) × (c ≡ true)
-    tests true true e = (refl, refl)
-    tests true false e = cc
-    tests false c e = cc
-
-    at : (q : Option ActionRefusal) → commit_refusal t a ≡ q → (x : Option AtomicObject) → slice_get objects o ≡ x
-        → option_or (journal_refusal_if_any q) (refused_at x fits free) ≡ None → IsGranted t objects a o fits free
-    at (Some why) is x found e = cc
-    at None is None found e = cc
-    at None is (Some x) found e =
-        let q = tests (fits x.shape) (free x.cell) e in
-        record {
-          accepted = is;
-          low = slice_get_within objects o x found;
-          suits = λ d. ap (λ (y : AtomicObject). fits y.shape) (sym (found_at objects o x d found)) ∙ q.0;
-          free = λ d. ap (λ (y : AtomicObject). free y.cell) (sym (found_at objects o x d found)) ∙ q.1;
-        }
+granted_parts t objects a o fits free e = grind (arith, nat_tests, slice_get_within, found_at)
 
 module _ (t : Tree) (objects : List AtomicObject) (holdings : Holdings) (s : Opening) (j : List PlainEntry)
     (k : StateRefinesJournal t objects holdings s j) (a : ActionId) (o : ℕ) where
@@ -82,7 +60,7 @@ module _ (t : Tree) (objects : List AtomicObject) (holdings : Holdings) (s : Ope
   count = ap (λ xs. length xs) (sym k.shapes) ∙ length-map objects (λ (k : AtomicObject). k.shape)
 
   pub acts : commit_refusal t a.0 ≡ None → is_live (history s j) (a.0 + 1) ≡ true
-  acts free = (free_none h a.0 None (sym (commit_refused t objects holdings s j k a)
+  acts free = (free_none h a.0 None (sym (commit_refused _ _ _ _ _ k a)
       ∙ ap journal_refusal_if_any free)).live
 
   -- the lock's test agrees with the history's, at the object that is there
@@ -95,29 +73,19 @@ module _ (t : Tree) (objects : List AtomicObject) (holdings : Holdings) (s : Ope
 
     at_object : is_live h (a.0 + 1) ≡ true → (x : Option AtomicObject) → slice_get objects o ≡ x
         → refused_at x fits free ≡ rest
-    at_object la None e =
-        let ge = none_past objects o e in
-        let c = count in
-        sym (ap (λ b. unless b NoObject (unless (suits fits (slice_get (shapes s j) o)) IllTyped
-        (unless lock Conflict None))) (le-ltb o (length (shapes s j)) (omega (arith, ge, c))))
+    at_object la None e = grind (arith, nat_tests, none_past objects o e, count)
     at_object la (Some x) e =
         let lt = slice_get_within objects o x e in
-        let c = count in
-        let shape_is : slice_get (shapes s j) o ≡ Some x.shape =
-        ap (λ xs. slice_get xs o) (sym k.shapes) ∙ slice_get-map (λ (k : AtomicObject). k.shape) objects o
-        ∙ ap (option_map (λ (k : AtomicObject). k.shape)) e in
-        sym (ap (λ b. unless b NoObject (unless (suits fits (slice_get (shapes s j) o)) IllTyped
-        (unless lock Conflict None))) (lt-ltb o (length (shapes s j)) (omega (arith, lt, c)))
-        ∙ ap (λ q. unless (suits fits q) IllTyped (unless lock Conflict None)) shape_is
-        ∙ ap (λ b. unless (fits x.shape) IllTyped (unless b Conflict None))
-        (sym (agree la x lt) ∙ ap (λ (y : AtomicObject). free y.cell) (sym (found_at objects o x x e))))
+        let shape_is = slice_get-map (λ (k : AtomicObject). k.shape) objects o in
+        let found = found_at objects o x x e in
+        grind (arith, nat_tests, lt, count, shape_is, found)
 
     pub access_is : access_refusal t objects a.0 o fits free
         ≡ if_free (history s j) a.0 (if_declared (shapes s j) o
         (unless (suits fits (slice_get (shapes s j) o)) IllTyped (unless lock Conflict None)))
     access_is =
         at (commit_refusal t a.0) refl
-        ∙ ap (λ q. option_or q rest) (commit_refused t objects holdings s j k a)
+        ∙ ap (λ q. option_or q rest) (commit_refused _ _ _ _ _ k a)
         ∙ sym (free_rest h a.0 rest)
       where
         at : (q : Option ActionRefusal) → commit_refusal t a.0 ≡ q
@@ -128,19 +96,16 @@ module _ (t : Tree) (objects : List AtomicObject) (holdings : Holdings) (s : Ope
 
   pub reads_agree : is_live (history s j) (a.0 + 1) ≡ true → (d : AtomicObject) → o < length objects
       → cell.may_read t (slice_index_or objects o d).cell a ≡ model.may_read entries (history s j) (a.0 + 1) o
-  reads_agree la d lt = may_read_is s h (lawful s j k.legal) t k.state.actions o (slice_index_or objects o d).cell
-      (k.state.each o d lt) a la
+  reads_agree la d lt = grind (arith, nat_tests, may_read_is, lawful)
 
   pub writes_agree : is_live (history s j) (a.0 + 1) ≡ true → (d : AtomicObject) → o < length objects
       → cell.may_write t (slice_index_or objects o d).cell a ≡ model.may_write entries (history s j) (a.0 + 1) o
-  writes_agree la d lt = may_write_is s h (lawful s j k.legal) t k.state.actions o (slice_index_or objects o d).cell
-      (k.state.each o d lt) a la
+  writes_agree la d lt = grind (arith, nat_tests, may_write_is, lawful)
 
   pub seen_is : is_live (history s j) (a.0 + 1) ≡ true → (d : AtomicObject) → o < length objects
       → cell.may_read t (slice_index_or objects o d).cell a ≡ true
       → seen_at t a objects o d ≡ sees entries (model_opening s) (history s j) (a.0 + 1) o
-  seen_is la d lt may = visible_is s h (lawful s j k.legal) t k.state.actions o (slice_index_or objects o d).cell
-      (k.state.each o d lt) a la may
+  seen_is la d lt may = grind (arith, nat_tests, visible_is, lawful)
 
   seen_keeps : KeepsLimits (sees entries (model_opening s) (history s j) (a.0 + 1) o)
   seen_keeps =
@@ -180,6 +145,4 @@ module _ {p : GuardianState} {a : ActionId} {o : ObjId} {call : PlainCall} {fits
 
     -- and then the action may act, the object is there, and its lock is free
     pub access_free : IsFree p.tree p.objects.items a o free
-    access_free =
-        let w = granted_parts p.tree p.objects.items a.0 o.0 fits free e in
-        record { accepted = w.accepted; low = w.low; opens = w.free }
+    access_free = grind (arith, nat_tests, granted_parts)

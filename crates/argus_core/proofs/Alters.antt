@@ -1,39 +1,29 @@
 -- Changes, as the guardian refuses and grants them.
-use Rattle.std.proofs.Common.{List, None, ap, length, refl, sym, ◌+◌, ◌∙◌, ◌∷◌, ◌≡◌}
-use Rattle.std.specs.Prelude.{slice_get}
+use Rattle.std.proofs.Common.{List, None, ap, length, refl, sym, ◌∙◌, ◌∷◌, ◌≡◌, arith, Bool}
+use Rattle.std.proofs.lemmas.Bool.Decides.{nat_tests}
 use Rattle.argus_actions.specs.declared.action_id.ActionId.{ActionId}
 use Rattle.argus_contents.specs.{Fitting.change_suits, Change.{PlainChange, outcome}, Answer.PlainAnswer}
-use Rattle.argus_contents.specs.declared.obj_id.ObjId.{ObjId}
+use Rattle.argus_contents.specs.{declared.obj_id.ObjId.ObjId, Shape.PlainShape}
 use Rattle.argus_entries.specs.{Call.alter, Entry.PlainEntry, Reply.answered}
-use Rattle.argus_entries.specs.declared.refusal.Refusal.TheVariants.{Conflict, IllTyped}
 use Rattle.argus_core.specs.Accessing.{IsAccessed, IsAltered, IsFree, access_refusal, seen_at}
 use Rattle.argus_core.specs.{StateRefinement.StateRefinesJournal, GuardianState.{StateInvariant, journal_view_of}}
 use Rattle.argus_core.specs.declared.engine.atomic_object.AtomicObject.{AtomicObject}
-use Rattle.argus_core.specs.declared.engine.guardian_state.GuardianState.{GuardianState}
-use Rattle.argus_core.proofs.Accesses.{IsAccess, access_free, access_granted, access_is, acts, count, seen_is}
-use Rattle.argus_core.proofs.{Accesses.writes_agree, Ends.some_object, FreeLocks.writer_reads, MadeAccesses.made_change}
-use Rattle.argus_journal.specs.{Answers.{if_declared, if_free, suits, unless}, Entries.entries, Events.history}
+use Rattle.argus_core.{specs.declared.engine.guardian_state.GuardianState.GuardianState, proofs.Accesses.IsAccess}
+use Rattle.argus_core.proofs.Accesses.{access_free, access_granted, access_is, acts, count, seen_is, writes_agree}
+use Rattle.argus_core.proofs.{Ends.some_object, FreeLocks.writer_reads, MadeAccesses.made_change}
 use Rattle.argus_journal.specs.{JournalView.{entry_with, reply_to}, LegalJournal.{entries_in, opening_in}}
-use Rattle.argus_journal.specs.{Objects.shapes, Opening.Opening}
-use Rattle.argus_model.specs.Holders as model
+use Rattle.argus_journal.specs.Opening.{Opening}
 use Rattle.argus_objects.specs.{Rules.{may_read, may_write}, declared.holdings.Holdings.Holdings}
 
 module _ (p : GuardianState) (k : StateInvariant p) (a : ActionId) (o : ObjId) (change : PlainChange) where
   pub alters : IsAccess p a o (alter a.0 o.0 change) (λ shape. change_suits shape (length p.objects.items) change)
       (λ c. may_write p.tree c a)
-  alters = record {
-    refuses =
-        let s = opening_in p.journal in
-        let j = entries_in p.journal in
-        let lock = model.may_write entries (history s j) (a.0 + 1) o.0 in
-        access_is p.tree p.objects.items p.holdings s j k a o.0
-        (λ shape. change_suits shape (length p.objects.items) change) (λ c. may_write p.tree c a) lock
-        (writes_agree p.tree p.objects.items p.holdings s j k a o.0)
-        ∙ ap (λ n. if_free (history s j) a.0 (if_declared (shapes s j) o.0
-        (unless (suits (λ shape. change_suits shape n change) (slice_get (shapes s j) o.0)) IllTyped
-        (unless lock Conflict None))))
-        (sym (count p.tree p.objects.items p.holdings s j k a o.0));
-  }
+  alters =
+      let fits : PlainShape → Bool = λ shape. change_suits shape (length p.objects.items) change in
+      let is = access_is _ _ _ _ _ k a o.0 fits (λ c. may_write p.tree c a) in
+      let agree = writes_agree _ _ _ _ _ k a o.0 in
+      let many = count _ _ _ _ _ k a o.0 in
+      grind (arith, nat_tests, is, agree, many)
 
   module _ (e : access_refusal p.tree p.objects.items a.0 o.0
       (λ shape. change_suits shape (length p.objects.items) change) (λ c. may_write p.tree c a) ≡ None) where
@@ -51,8 +41,8 @@ module _ (p : GuardianState) (k : StateInvariant p) (a : ActionId) (o : ObjId) (
         let s = opening_in p.journal in
         let j = entries_in p.journal in
         let d : AtomicObject = some_object p.objects.items o.0 alter_free.low in
-        ap answered (f d ∙ ap (λ c. (outcome change c).1) (seen_is p.tree p.objects.items p.holdings s j k a o.0
-        (acts p.tree p.objects.items p.holdings s j k a o.0 alter_free.accepted) d alter_free.low
+        ap answered (f d ∙ ap (λ c. (outcome change c).1) (seen_is _ _ _ _ _ k a o.0
+        (acts _ _ _ _ _ k a o.0 alter_free.accepted) d alter_free.low
         (alter_reads.opens d)))
         ∙ sym (access_granted alters e)
 
@@ -71,5 +61,5 @@ module _ (p : GuardianState) (k : StateInvariant p) (a : ActionId) (o : ObjId) (
         → StateRefinesJournal p.tree objects' holdings' (opening_in p.journal)
         (entry_with (alter a.0 o.0 change) (answered x) ∷ entries_in p.journal)
     alter_made x f objects' holdings' moved =
-        made_change p (entry_with (alter a.0 o.0 change) (answered x)) a o k objects' holdings' change
+        made_change p (entry_with (alter a.0 o.0 change) (answered x)) a o k _ _ change
         (alter_told x f) alter_free (record { event = refl; object = refl; write = refl }) (λ seen. refl) moved

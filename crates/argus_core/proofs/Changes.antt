@@ -1,11 +1,9 @@
 -- Objects on a list are changed one after another.
-use Rattle.std.proofs.Common.{Bool, List, [], ap, arith, false, inl, inr, length, refl, subst, sym, true, suc, take}
-use Rattle.std.proofs.Common.{get_or, set, zero, ℕ, ◌+◌, ◌<◌, ◌≤◌, ◌∙◌, ◌∷◌, ◌≡◌, ◌≢◌, eqb, ◌||◌}
-use Rattle.std.proofs.{lemmas.Bool.{cases_eq, eq-eqb, ne_eqb, or_from, or_right}, lemmas.Grind.get_or-set_at}
-use Rattle.std.proofs.{lemmas.List.{get_or-set_other, length-set}, lemmas.List.Folds.{list_any_at, list_any_more}}
-use Rattle.std.proofs.lemmas.Map.Keys.{apart_from_distinct}
-use Rattle.std.specs.{List.IsDistinct, Prelude.slice_index_or}
-use Rattle.argus_objects.proofs.InOrder.{any_default}
+use Rattle.std.proofs.Common.{Bool, List, ap, arith, false, length, refl, subst, sym, true, suc, take, get_or, set}
+use Rattle.std.proofs.{Common.{zero, ℕ, ◌+◌, ◌<◌, ◌≤◌, ◌∙◌, ◌≡◌, ◌≢◌, eqb, ◌||◌}, lemmas.Bool.or_from}
+use Rattle.std.proofs.lemmas.{Bool.Decides.nat_tests, Grind.get_or-set_at, List.{get_or-set_other, length-set}}
+use Rattle.std.proofs.lemmas.{List.{Folds.{list_any_at, list_any_more}, get_or_default}, Map.Keys.apart_from_distinct}
+use Rattle.std.specs.List.{IsDistinct}
 use Rattle.argus_contents.specs.declared.obj_id.ObjId.{ObjId}
 use Rattle.argus_actions.specs.Tree.{Tree}
 use Rattle.argus_core.specs.Moving.{AreChanged, AreLawful, AreThere, ChangedIf, IsChanged, is_listed}
@@ -15,9 +13,7 @@ use Rattle.argus_objects.specs.{Object.Object, Rules.is_lawful}
 -- the item of this place is on the list
 pub listed_at : (list : List ObjId) (place : ℕ) (default : ObjId) → place < length list
     → is_listed list (get_or list place default).0 ≡ true
-listed_at list place default comes =
-    let number = (get_or list place default).0 in
-    list_any_at (λ x. eqb x.0 number) list place default comes (eq-eqb number number refl)
+listed_at list place default comes = grind (arith, nat_tests, list_any_at)
 
 -- where none is listed twice, the item of this place doesn't stand before it
 pub not_before : (list : List ObjId) (place : ℕ) (default : ObjId) → IsDistinct (λ x y. eqb x.0 y.0) list
@@ -32,10 +28,6 @@ not_before list place default once comes (suc before) low =
     subst (λ n. is_listed (take n list) number ≡ false) next
     (list_any_more (λ x. eqb x.0 number) list before default (omega arith)
     ∙ or_from (is_listed (take before list) number) (eqb (get_or list before default).0 number) earlier apart)
-
-or_false : (b : Bool) → (b || false) ≡ b
-or_false true = refl
-or_false false = refl
 
 changed_here : (R : Object → Object → Type 0) (b : Bool) (old new : Object) → b ≡ true → R old new
     → ChangedIf b R old new
@@ -68,10 +60,7 @@ module _ (R : Object → Object → Type 0) (list : List ObjId) (place : ℕ) (d
 
   -- the next object hasn't been changed yet
   pub same_yet : (get_or now number object).cell ≡ (get_or old number object).cell
-  same_yet =
-      unchanged R (is_listed (take place list) number) (get_or old number object).cell
-      (get_or now number object).cell (not_before list place default once comes place (omega arith))
-      (so_far.each number object was_there).cell
+  same_yet = grind (arith, nat_tests, unchanged, not_before, was_there)
 
   -- so it is lawful, as all were at first
   pub lawful_yet : (t : Tree) → AreLawful t old → is_lawful t (get_or now number object).cell ≡ true
@@ -87,50 +76,15 @@ module _ (R : Object → Object → Type 0) (list : List ObjId) (place : ℕ) (d
     listed_now : (o : ℕ) → is_listed (take (place + 1) list) o ≡ (is_listed (take place list) o || eqb number o)
     listed_now o = list_any_more (λ x. eqb x.0 o) list place default comes
 
-    changed_there : (o : ℕ) (other : AtomicObject) → number ≡ o
-        → IsChanged R (take (place + 1) list) old after o other
+    changed_there : (o : ℕ) (other : AtomicObject) → number ≡ o → IsChanged R (take (place + 1) list) old after o other
     changed_there o other same =
-        let is_put : slice_index_or after o other ≡ put = get_or-set_at now number o put other (sym same) within in
-        let was : slice_index_or old o other ≡ get_or old number object =
-        ap (λ n. get_or old n other) (sym same) ∙ any_default old number other object was_there in
-        let cell_was = same_yet ∙ sym (ap (λ (x : AtomicObject). x.cell) was) in
-        let is_listed_now : is_listed (take (place + 1) list) o ≡ true =
-        listed_now o ∙ or_right (is_listed (take place list) o) (eqb number o) (eq-eqb number o same) in
-        record {
-          shape = ap (λ (x : AtomicObject). x.shape) is_put ∙ (so_far.each number object was_there).shape
-              ∙ sym (ap (λ (x : AtomicObject). x.shape) was);
-          cell =
-              changed_here R (is_listed (take (place + 1) list) o) (slice_index_or old o other).cell
-              (slice_index_or after o other).cell is_listed_now
-              (subst (λ (x : AtomicObject). R (slice_index_or old o other).cell x.cell) (sym is_put)
-              (subst (λ c. R c new) cell_was changed));
-        }
+        grind (arith, nat_tests, get_or-set_at, within, get_or_default, was_there, same_yet, listed_now, changed_here)
 
     as_before : (o : ℕ) (other : AtomicObject) → o < length old → number ≢ o
         → IsChanged R (take (place + 1) list) old after o other
-    as_before o other low another =
-        let is_left : slice_index_or after o other ≡ slice_index_or now o other =
-        get_or-set_other now number o put other (λ same. another (sym same)) in
-        let was = so_far.each o other low in
-        let as_listed : is_listed (take (place + 1) list) o ≡ is_listed (take place list) o =
-        listed_now o ∙ ap (λ b. is_listed (take place list) o || b) (ne_eqb number o another)
-        ∙ or_false (is_listed (take place list) o) in
-        record {
-          shape = ap (λ (x : AtomicObject). x.shape) is_left ∙ was.shape;
-          cell =
-              subst (λ (x : AtomicObject). ChangedIf (is_listed (take (place + 1) list) o) R
-              (slice_index_or old o other).cell x.cell) (sym is_left)
-              (subst (λ b. ChangedIf b R (slice_index_or old o other).cell (slice_index_or now o other).cell)
-              (sym as_listed) was.cell);
-        }
+    as_before o other low another = grind (arith, nat_tests, get_or-set_other, listed_now)
 
     -- once the next object is changed, those up to it are
     pub more_changed : AreChanged R (take (place + 1) list) old
         (set now number (record { shape = (get_or now number object).shape; cell = new }))
-    more_changed = record {
-      count = length-set now number put ∙ so_far.count;
-      each = λ o other low. elim (cases_eq number o) [
-        | inl same ↦ changed_there o other same
-        | inr another ↦ as_before o other low another
-      ];
-    }
+    more_changed = grind (arith, nat_tests, length-set, changed_there, as_before)

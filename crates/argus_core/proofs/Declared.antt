@@ -1,22 +1,19 @@
 -- A declaration: one more object, which nobody holds.
-use Rattle.std.proofs.Common.{List, None, Option, Some, [], ap, arith, false, inl, inr, length, refl, subst, suc, sym}
-use Rattle.std.proofs.{Common.{true, zero, ℕ, ◌+◌, ◌<◌, ◌≤◌, ◌++◌, ◌∙◌, ◌∷◌, ◌≡◌}, Math.Seq.get_or-append_seam}
-use Rattle.std.proofs.{lemmas.Bool.{cases_Bool, cases_lt, or_parts}, lemmas.Bool.Decides.nat_tests}
-use Rattle.std.proofs.lemmas.List.{get_or_append_left, length-append, length-map, map-append}
-use Rattle.std.proofs.lemmas.Option.{slice_get_past}
-use Rattle.std.specs.Prelude.{nat_lt, slice_index_or}
+use Rattle.std.proofs.Common.{List, None, Option, [], ap, arith, false, inl, inr, length, refl, subst, suc, sym, true}
+use Rattle.std.proofs.{Common.{zero, ℕ, ◌+◌, ◌<◌, ◌≤◌, ◌++◌, ◌∙◌, ◌∷◌, ◌≡◌}, Math.Seq.get_or-append_seam}
+use Rattle.std.proofs.lemmas.{Bool.{cases_Bool, cases_lt, or_parts, Decides.nat_tests}, List.get_or_append_left}
+use Rattle.std.proofs.lemmas.{List.{length-append, length-map, map-append}, Option.slice_get_past}
+use Rattle.std.specs.Prelude.{slice_index_or}
 use Rattle.argus_actions.specs.{Tree.Tree, declared.action_id.ActionId.ActionId}
 use Rattle.argus_contents.specs.{Content.PlainContent, Shape.PlainShape, declared.limits.TheConstants.MAX_OBJECTS}
 use Rattle.argus_entries.specs.{Call.declare, Entry.PlainEntry, Reply.{object, refused}}
 use Rattle.argus_entries.specs.declared.refusal.Refusal.TheVariants.{TooMany}
 use Rattle.argus_core.specs.StateRefinement.{StateRefinesJournal, holds}
 use Rattle.argus_core.specs.declared.engine.atomic_object.AtomicObject.{AtomicObject}
-use Rattle.argus_journal.specs.{JournalView.entry_with, Answers.{answer, granted, or_refused, unless}, Entries.entries}
-use Rattle.argus_journal.specs.{Events.history, Objects.{declared, shapes}}
-use Rattle.argus_journal.specs.Opening.{Opening, fits_shape, model_opening}
+use Rattle.argus_journal.specs.{JournalView.entry_with, Answers.answer, Entries.entries, Events.history}
+use Rattle.argus_journal.specs.{Objects.{declared, shapes}, Opening.{Opening, fits_shape, model_opening}}
 use Rattle.argus_journal.proofs.{Contents.content_fits, Fitting.nothing, NextEntry.readers_above}
-use Rattle.argus_refinement.specs.CellRefinement.{IsCell}
-use Rattle.argus_refinement.proofs.CellHolders.{cell_same}
+use Rattle.argus_refinement.{specs.CellRefinement.IsCell, proofs.CellHolders.cell_same}
 use Rattle.argus_model.specs.{Contents.base, Holders.{readers, writers}, Numbers.contains, Owner.{is_base, owner}}
 use Rattle.argus_model.proofs.Numbers.{contains_first}
 use Rattle.argus_objects.specs.{Object.Object, declared.holdings.Holdings.Holdings}
@@ -28,8 +25,7 @@ none_listed (y ∷ ys) f = nothing (sym (f y) ∙ contains_first y ys)
 
 -- no content fits where no shape is
 absent : (n : ℕ) (c : Option PlainContent) → fits_shape None n c ≡ true → c ≡ None
-absent n None e = refl
-absent n (Some c) e = nothing e
+absent n c e = grind (arith, nat_tests)
 
 module _ (t : Tree) (objects : List AtomicObject) (holdings : Holdings) (s : Opening) (j : List PlainEntry)
     (k : StateRefinesJournal t objects holdings s j) where
@@ -74,32 +70,15 @@ module _ (t : Tree) (objects : List AtomicObject) (holdings : Holdings) (s : Ope
 
   fresh_cell : (c : Object) → c.base ≡ None → c.readers ≡ [] → c.versions ≡ []
       → IsCell s (history s j) t (length objects) c
-  fresh_cell c b r v =
-      cell_same s (history s j) t t (length objects) fresh c (record { folded = refl; rows = refl })
-      (record { base = b; readers = r; versions = v })
-      (record {
-        lawful = refl;
-        base = sym no_base;
-        readers = sym no_reader;
-        writers = λ x. sym (or_parts (contains (readers entries (history s j) (length objects)) (x.0 + 1))
-            (contains (writers entries (history s j) (length objects)) (x.0 + 1)) (nobody x.0)).1;
-        seen = tt;
-      })
+  fresh_cell c b r v = grind (arith, nat_tests, cell_same, no_base, no_reader, nobody)
 
   pub declare_refused : (shape : PlainShape) → MAX_OBJECTS ≤ length objects
       → answer s j (declare shape) ≡ refused TooMany
-  declare_refused shape full =
-      let e = count in
-      let past : nat_lt (length (shapes s j)) MAX_OBJECTS ≡ false = grind (arith, nat_tests) in
-      ap (λ b. or_refused (unless b TooMany None) (granted s (history s j) (shapes s j) (declare shape))) past
+  declare_refused shape full = grind (arith, nat_tests, count)
 
   module _ (shape : PlainShape) (low : length objects < MAX_OBJECTS) where
     pub declared_right : object (length objects) ≡ answer s j (declare shape)
-    declared_right =
-        let e = count in
-        let fits : nat_lt (length (shapes s j)) MAX_OBJECTS ≡ true = grind (arith, nat_tests) in
-        ap object (sym count)
-        ∙ sym (ap (λ b. or_refused (unless b TooMany None) (object (length (shapes s j)))) fits)
+    declared_right = grind (arith, nat_tests, count)
 
     one_more : (x : AtomicObject) → x.shape ≡ shape → x.cell.base ≡ None → x.cell.readers ≡ []
         → x.cell.versions ≡ []
@@ -139,7 +118,4 @@ module _ (t : Tree) (objects : List AtomicObject) (holdings : Holdings) (s : Ope
     pub kept_declared : (n : ℕ) → n ≡ length objects → (x : AtomicObject) → x.shape ≡ shape → x.cell.base ≡ None
         → x.cell.readers ≡ [] → x.cell.versions ≡ []
         → StateRefinesJournal t (objects ++ x ∷ []) holdings s (entry_with (declare shape) (object n) ∷ j)
-    kept_declared n number x is b r v =
-        subst (λ m. StateRefinesJournal t (objects ++ x ∷ []) holdings s (entry_with (declare shape) (object m) ∷ j))
-        (sym number)
-        (one_more x is b r v)
+    kept_declared n number x is b r v = grind (arith, nat_tests, one_more x is b r v)

@@ -1,27 +1,25 @@
 -- All objects, and the lists of what each action holds, when actions are ended.
-use Rattle.std.proofs.Common.{Bool, List, Some, [], ap, arith, cond, false, inl, inr, length, refl, subst, sym, true, ℕ}
-use Rattle.std.proofs.Common.{◌+◌, ◌-◌, ◌<◌, ◌∙◌, ◌∷◌, ◌≡◌, ◌||◌, ⊎_elim}
-use Rattle.std.proofs.lemmas.Bool.{and_parts, cases_Bool, or_cases}
-use Rattle.std.specs.{List.filter, Prelude.{not, slice_index_or, ◌&&◌}}
+use Rattle.std.proofs.Common.{Bool, List, Some, [], ap, arith, length, subst, sym, true, ℕ, ◌+◌, ◌-◌, ◌<◌, ◌∙◌, ◌∷◌}
+use Rattle.std.{proofs.{Common.{◌≡◌, ◌||◌}, lemmas.Bool.{and_parts, Decides.nat_tests}}, specs.Prelude.not}
+use Rattle.std.specs.Prelude.{slice_index_or, ◌&&◌}
 use Rattle.argus_actions.specs.{Rows.{has_ancestor, under_at}, Tree.{Tree, is_ancestor, is_live_sibling}}
 use Rattle.argus_actions.specs.declared.action_id.ActionId.{ActionId}
-use Rattle.argus_contents.specs.declared.obj_id.ObjId.{ObjId}
 use Rattle.argus_entries.specs.Entry.{PlainEntry}
-use Rattle.argus_core.specs.{StateRefinement.{StateRefinesHistory, holds}, Moving.is_listed}
-use Rattle.argus_core.specs.{Sweeping.{AreCovered, AreEnded}, declared.engine.atomic_object.AtomicObject.AtomicObject}
+use Rattle.argus_core.specs.{StateRefinement.{StateRefinesHistory, holds}, Moving.is_listed, Sweeping.AreCovered}
+use Rattle.argus_core.specs.{Sweeping.AreEnded, declared.engine.atomic_object.AtomicObject.AtomicObject}
 use Rattle.argus_journal.specs.{Entries.entries, Opening.{Opening, model_opening}}
-use Rattle.argus_refinement.specs.TreeRefinement.{IsTree}
-use Rattle.argus_refinement.proofs.{CellAborts.ended_cell, CellHolders.{orderly, reader_live, writer_live}}
-use Rattle.argus_refinement.proofs.{CellLists.reader_said, TreeAnswers.ancestor_begun_is, TreeSteps.sibling_is}
-use Rattle.argus_refinement.proofs.TreeRows.{ancestor_found, ancestor_from}
-use Rattle.argus_model.specs.Ancestors as model
-use Rattle.argus_model.specs.{Event.Aborted, History.{History, ◌▹◌}, Holders.{readers, writers}, Lawful.Lawful}
-use Rattle.argus_model.specs.{Meaning.reads, Numbers.contains, Status.{is_begun, is_live, is_sibling, live_siblings}}
-use Rattle.argus_model.proofs.{Bools.{or_none, same_bool}, Live.{contains_siblings, is_begun_parts}, Standing.Orderly}
+use Rattle.argus_refinement.{specs.TreeRefinement.IsTree, proofs.{CellAborts.ended_cell, CellHolders.orderly}}
+use Rattle.argus_refinement.proofs.{CellHolders.{reader_live, writer_live}, CellLists.reader_said}
+use Rattle.argus_refinement.proofs.{TreeAnswers.ancestor_begun_is, TreeSteps.sibling_is, TreeRows.ancestor_found}
+use Rattle.argus_refinement.proofs.TreeRows.{ancestor_from}
+use Rattle.argus_model.specs.{Event.Aborted, History.{History, ◌▹◌}, Lawful.Lawful, Meaning.reads, Status.is_begun}
+use Rattle.argus_model.{specs.Status.{is_live, is_sibling, live_siblings}, proofs.Bools.same_bool}
+use Rattle.argus_model.proofs.{Live.{contains_siblings, is_begun_parts}, Standing.Orderly}
 use Rattle.argus_model.proofs.{NextHolders.{contains_filtered, holders_after_abort}, Numbers.{any_found, any_from}}
 use Rattle.argus_model.proofs.Siblings.{live_begun}
 use Rattle.argus_objects.specs.{Holdings.objects_held_by, CellChanges.{has_version, is_reader}}
 use Rattle.argus_objects.specs.declared.holdings.Holdings.{Holdings}
+use Rattle.argus_model.specs.Ancestors as model
 
 -- ended says of each live action whether it stands under one of those that the event names; t' is the tree after it
 module _ (s : Opening) (h : History PlainEntry) (t t' : Tree) (objects objects' : List AtomicObject)
@@ -34,27 +32,24 @@ module _ (s : Opening) (h : History PlainEntry) (t t' : Tree) (objects objects' 
   spared : (x : ActionId) (o : ℕ) → holds (Aborted actions ▹ h) (x.0 + 1) o
       ≡ (holds h (x.0 + 1) o && not (model.is_under h actions (x.0 + 1)))
   spared x o =
-      let p = λ (n : ℕ). not (model.is_under h actions n) in
-      ap (λ rs. contains rs (x.0 + 1) || contains (writers entries (Aborted actions ▹ h) o) (x.0 + 1))
-      (holders_after_abort (reads entries) h actions (orderly s (Aborted actions ▹ h) l) o)
-      ∙ ap (λ ws. contains (filter p (readers entries h o)) (x.0 + 1) || contains ws (x.0 + 1))
-      (holders_after_abort entries.writes h actions (orderly s (Aborted actions ▹ h) l) o)
-      ∙ ap (λ b. b || contains (filter p (writers entries h o)) (x.0 + 1))
-      (contains_filtered p (readers entries h o) (x.0 + 1))
-      ∙ ap (λ b. (contains (readers entries h o) (x.0 + 1) && p (x.0 + 1)) || b)
-      (contains_filtered p (writers entries h o) (x.0 + 1))
-      ∙ both (contains (readers entries h o) (x.0 + 1)) (contains (writers entries h o) (x.0 + 1)) (p (x.0 + 1))
-    where
-      both : (a b c : Bool) → ((a && c) || (b && c)) ≡ ((a || b) && c)
-      both true true true = refl
-      both true true false = refl
-      both true false true = refl
-      both true false false = refl
-      both false b c = refl
+      let w = orderly s (Aborted actions ▹ h) l in
+      let rs = holders_after_abort (reads entries) h actions w o in
+      let ws = holders_after_abort entries.writes h actions w o in
+      grind (arith, nat_tests, rs, ws, contains_filtered)
 
   holder_live : (x : ActionId) (o : ℕ) → holds h (x.0 + 1) o ≡ true → is_live h (x.0 + 1) ≡ true
-  holder_live x o e = ⊎_elim (λ i. reader_live s h l.1 o (x.0 + 1) i) (λ i. writer_live s h l.1 o (x.0 + 1) i)
-      (or_cases (contains (readers entries h o) (x.0 + 1)) (contains (writers entries h o) (x.0 + 1)) e)
+  holder_live x o e = grind (arith, nat_tests, reader_live, writer_live)
+
+  -- who is on a list after it holds the object then
+  held_now : (x : ActionId) (o : ℕ) → is_listed (objects_held_by holdings' x) o ≡ holds (Aborted actions ▹ h)
+      (x.0 + 1) o
+  held_now x o = grind (arith, nat_tests, spared x o, holder_live x o)
+
+  -- and the object is there
+  there_now : (x : ActionId) (o : ℕ) → is_listed (objects_held_by holdings' x) o ≡ true → o < length objects'
+  there_now x o i =
+      let list = ap (λ list. is_listed list o) (moved.lists x) in
+      grind (arith, nat_tests, list, k.there x o, moved.count)
 
   pub parts_ended : StateRefinesHistory t' objects' holdings' s (Aborted actions ▹ h)
   parts_ended = record {
@@ -64,46 +59,14 @@ module _ (s : Opening) (h : History PlainEntry) (t t' : Tree) (objects objects' 
         let r = moved.cell o d low in
         ended_cell s h t t' k.actions actions ended l under more o (slice_index_or objects o d).cell
         (slice_index_or objects' o d).cell (k.each o d low) r.base r.readers r.versions r.lawful;
-    held = λ x o.
-        ap (λ list. is_listed list o) (moved.lists x)
-        ∙ elim (cases_Bool (holds h (x.0 + 1) o)) [
-          | inl e ↦
-              ap (λ b. is_listed (cond b [] (objects_held_by holdings x)) o) (under x (holder_live x o e))
-              ∙ elim (cases_Bool (model.is_under h actions (x.0 + 1))) [
-                | inl u ↦ ap (λ b. is_listed (cond b [] (objects_held_by holdings x)) o) u
-                    ∙ sym (spared x o ∙ ap (λ b. holds h (x.0 + 1) o && not b) u ∙ and_off (holds h (x.0 + 1) o))
-                | inr u ↦ ap (λ b. is_listed (cond b [] (objects_held_by holdings x)) o) u ∙ k.held x o
-                    ∙ sym (spared x o ∙ ap (λ b. holds h (x.0 + 1) o && not b) u ∙ and_on (holds h (x.0 + 1) o))
-              ]
-          | inr e ↦
-              elim (ended x.0) as (λ b. is_listed (cond b [] (objects_held_by holdings x)) o ≡ false)
-              [ true ↦ refl | false ↦ k.held x o ∙ e ]
-              ∙ sym (spared x o ∙ ap (λ b. b && not (model.is_under h actions (x.0 + 1))) e)
-        ];
-    there = λ x o i.
-        subst (λ n. o < n) (sym moved.count)
-        (k.there x o (shrinks (ended x.0) (objects_held_by holdings x) o
-        (sym (ap (λ list. is_listed list o) (moved.lists x)) ∙ i)));
+    held = held_now;
+    there = there_now;
   }
-    where
-      and_off : (b : Bool) → (b && false) ≡ false
-      and_off true = refl
-      and_off false = refl
-
-      and_on : (b : Bool) → (b && true) ≡ b
-      and_on true = refl
-      and_on false = refl
-
-      shrinks : (b : Bool) (list : List ObjId) (o : ℕ) → is_listed (cond b [] list) o ≡ true → is_listed list o ≡ true
-      shrinks true list o e = cc
-      shrinks false list o e = e
 
 -- who stands under an action that is aborted, in both words
 pub under_one : (h : History PlainEntry) (t : Tree) → IsTree t h → Orderly h → (a : ℕ) → is_live h (a + 1) ≡ true
     → (x : ActionId) → is_live h (x.0 + 1) ≡ true → is_ancestor t a x.0 ≡ model.is_under h ((a + 1) ∷ []) (x.0 + 1)
-under_one h t is w a la x lx =
-    ancestor_begun_is t h is w a x.0 (live_begun h (a + 1) la) (live_begun h (x.0 + 1) lx)
-    ∙ or_none (model.is_ancestor h (a + 1) (x.0 + 1))
+under_one h t is w a la x lx = grind (arith, nat_tests, ancestor_begun_is, live_begun)
 
 -- who stands under a live sibling, in both words
 module _ (h : History PlainEntry) (t : Tree) (is : IsTree t h) (w : Orderly h) (a u : ℕ) (la : is_live h (a + 1) ≡ true)
@@ -143,12 +106,7 @@ module _ (s : Opening) (h : History PlainEntry) (t : Tree) (objects : List Atomi
       → is_listed (objects_held_by holdings x) o
       ≡ (is_reader x (slice_index_or objects o d).cell.readers
       || has_version x (slice_index_or objects o d).cell.versions)
-  listed_if_held x o d lt =
-      let c = k.each o d lt in
-      k.held x o
-      ∙ sym (ap (λ b. b || has_version x (slice_index_or objects o d).cell.versions)
-      (reader_said x (slice_index_or objects o d).cell.readers ∙ ap (λ rs. contains rs (x.0 + 1)) c.readers)
-      ∙ ap (λ b. contains (readers entries h o) (x.0 + 1) || b) (c.writers x))
+  listed_if_held x o d lt = grind (arith, nat_tests, reader_said)
 
   pub parts_cover : AreCovered objects holdings
   parts_cover = λ x o d lt e. listed_if_held x o d lt ∙ e

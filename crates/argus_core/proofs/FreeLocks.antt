@@ -1,18 +1,16 @@
 -- What a test that says yes tells of the lock, and what a free lock is good for.
-use Rattle.std.proofs.{Common.{Bool, None, Option, Some, length, refl, sym, true, ◌<◌, ◌∙◌, ◌≡◌}, lemmas.Bool.and_parts}
-use Rattle.std.specs.Prelude.{slice_index_or}
+use Rattle.std.proofs.Common.{Bool, None, Option, length, sym, true, ◌<◌, ◌∙◌, ◌≡◌, arith}
+use Rattle.std.proofs.lemmas.Bool.Decides.{nat_tests}
 use Rattle.argus_actions.specs.declared.action_id.ActionId.{ActionId}
 use Rattle.argus_contents.specs.{Answer.{PlainAnswer, flag}, Content.KeepsLimits, declared.obj_id.ObjId.ObjId}
 use Rattle.argus_entries.specs.{Call.PlainCall, Reply.{PlainReply, answered}, declared.refusal.Refusal.Refusal}
-use Rattle.argus_core.specs.Accessing.{IsFree, IsListedIfHeld, seen_at}
-use Rattle.argus_core.specs.GuardianState.{StateInvariant, journal_view_of}
-use Rattle.argus_core.specs.declared.engine.atomic_object.AtomicObject.{AtomicObject}
-use Rattle.argus_core.specs.declared.engine.guardian_state.GuardianState.{GuardianState}
-use Rattle.argus_journal.specs.{JournalView.{refusal_to, reply_to}, Answers.or_refused, Events.history}
-use Rattle.argus_journal.specs.LegalJournal.{entries_in, opening_in}
-use Rattle.argus_core.proofs.{Accesses.{acts, granted_to, seen_limits}, EndedState.listed_if_held}
-use Rattle.argus_core.proofs.Tests.{IsTest, test_free, test_lock, tests}
-use Rattle.argus_objects.specs.{Object.{Object, holders}, Rules.{all_above, may_read, may_write}}
+use Rattle.argus_core.specs.{Accessing.{IsFree, IsListedIfHeld, seen_at}, GuardianState.StateInvariant}
+use Rattle.argus_core.specs.{GuardianState.journal_view_of, declared.engine.atomic_object.AtomicObject.AtomicObject}
+use Rattle.argus_core.{specs.declared.engine.guardian_state.GuardianState.GuardianState, proofs.Accesses.acts}
+use Rattle.argus_core.proofs.{Accesses.{granted_to, seen_limits}, EndedState.listed_if_held, Tests.{IsTest, test_free}}
+use Rattle.argus_core.proofs.Tests.{test_lock, tests}
+use Rattle.argus_journal.specs.{JournalView.{refusal_to, reply_to}, Answers.or_refused}
+use Rattle.argus_objects.specs.{Object.Object, Rules.{may_read, may_write}}
 
 -- what is answered isn't refused
 record IsGrantedWith (q : Option Refusal) (r : PlainReply) (x : PlainAnswer) : Type 0 where
@@ -21,8 +19,7 @@ record IsGrantedWith (q : Option Refusal) (r : PlainReply) (x : PlainAnswer) : T
 
 not_refused : (q : Option Refusal) (r : PlainReply) (x : PlainAnswer) → or_refused q r ≡ answered x → IsGrantedWith q r
     x
-not_refused None r x e = record { free = refl; reply = e }
-not_refused (Some why) r x e = cc
+not_refused q r x e = grind (arith, nat_tests)
 
 same_flag : (b c : Bool) → answered (flag b) ≡ answered (flag c) → b ≡ c
 same_flag b c e = cc
@@ -33,35 +30,23 @@ pub said_free : {p : GuardianState} {a : ActionId} {o : ObjId} {call : PlainCall
 said_free {p} {call = call} test says =
     let w = not_refused (refusal_to (journal_view_of p) call) (granted_to p call) (flag true) says in
     let e = (tests test).refuses ∙ w.free in
-    test_free test e
-    (λ d. test_lock test e d ∙ same_flag test.lock true (sym test.grants ∙ w.reply))
+    test_free test e (λ d. test_lock test e d ∙ same_flag test.lock true (sym test.grants ∙ w.reply))
 
 module _ (p : GuardianState) (k : StateInvariant p) (a : ActionId) (o : ObjId) where
   -- the action's list has the object exactly if the cell says that the action holds it
   pub listed_held : o.0 < length p.objects.items → IsListedIfHeld p.objects.items p.holdings a o
-  listed_held low d =
-      let s = opening_in p.journal in
-      listed_if_held s (history s (entries_in p.journal)) p.tree p.objects.items p.holdings k.state a o.0 d low
+  listed_held low d = grind (arith, nat_tests, listed_if_held _ _ _ _ _ k.state a o.0 d low)
 
   -- what is seen keeps the limits
   pub reader_limits : IsFree p.tree p.objects.items a o (λ cell. may_read p.tree cell a) → (d : AtomicObject)
       → KeepsLimits (seen_at p.tree a p.objects.items o.0 d)
   reader_limits f d =
-      let s = opening_in p.journal in
-      let j = entries_in p.journal in
-      seen_limits p.tree p.objects.items p.holdings s j k a o.0
-      (acts p.tree p.objects.items p.holdings s j k a o.0 f.accepted) d f.low (f.opens d)
+      grind (arith, nat_tests, seen_limits _ _ _ _ _ k a o.0 (acts _ _ _ _ _ k a o.0 f.accepted) d f.low (f.opens d))
 
   -- who may write may read
   module _ (f : IsFree p.tree p.objects.items a o (λ cell. may_write p.tree cell a)) where
     pub writer_reads : IsFree p.tree p.objects.items a o (λ cell. may_read p.tree cell a)
-    writer_reads = record {
-      accepted = f.accepted;
-      low = f.low;
-      opens = λ d.
-          let cell = (slice_index_or p.objects.items o.0 d).cell in
-          (and_parts (all_above p.tree a (holders cell.versions)) (all_above p.tree a cell.readers) (f.opens d)).0;
-    }
+    writer_reads = grind (arith, nat_tests)
 
     pub writer_limits : (d : AtomicObject) → KeepsLimits (seen_at p.tree a p.objects.items o.0 d)
     writer_limits = reader_limits writer_reads

@@ -9,7 +9,6 @@ pub mod Declared
 pub mod Sweeps
 pub mod SweepSiblings
 pub mod Begun
-pub mod Begins
 pub mod Noted
 pub mod CommittedState
 pub mod EndedState

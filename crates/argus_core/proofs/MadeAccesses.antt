@@ -1,5 +1,5 @@
 -- What a granted access leaves.
-use Rattle.std.proofs.{Common.{List, Option, [], ap, false, sym, true, ◌+◌, ◌∙◌, ◌∷◌, ◌≡◌}, lemmas.Bool.and_parts}
+use Rattle.std.proofs.{Common.{List, Option, ap, false, sym, true, ◌+◌, ◌∙◌, ◌∷◌, ◌≡◌}, lemmas.Bool.and_parts}
 use Rattle.std.specs.Prelude.{slice_index_or}
 use Rattle.argus_actions.specs.declared.action_id.ActionId.{ActionId}
 use Rattle.argus_contents.specs.{Change.{PlainChange, outcome}, Content.PlainContent, declared.obj_id.ObjId.ObjId}
@@ -7,12 +7,10 @@ use Rattle.argus_entries.specs.Entry.{PlainEntry}
 use Rattle.argus_core.specs.{Accessing.{IsAccessEntry, IsAccessed, IsAltered, IsFree}, Moving.IsRead}
 use Rattle.argus_core.specs.{StateRefinement.StateRefinesJournal, GuardianState.{StateInvariant, journal_view_of}}
 use Rattle.argus_core.specs.declared.engine.atomic_object.AtomicObject.{AtomicObject}
-use Rattle.argus_core.specs.declared.engine.guardian_state.GuardianState.{GuardianState}
+use Rattle.argus_core.{specs.declared.engine.guardian_state.GuardianState.GuardianState, proofs.Accessed.parts_accessed}
+use Rattle.argus_core.proofs.{Accesses.{acts, reads_agree}, Begun.kept_event, Ends.{shapes_kept, some_object}}
 use Rattle.argus_journal.specs.{JournalView.reply_to, Entries.{entries, content_after_call}, Events.history}
-use Rattle.argus_journal.specs.{LegalJournal.{entries_in, opening_in}, Opening.model_opening}
-use Rattle.argus_core.proofs.{Accessed.parts_accessed, Accesses.{acts, reads_agree}, Begun.kept_event}
-use Rattle.argus_core.proofs.Ends.{shapes_kept, some_object}
-use Rattle.argus_journal.proofs.Legal.{lawful}
+use Rattle.argus_journal.{specs.{LegalJournal.{entries_in, opening_in}, Opening.model_opening}, proofs.Legal.lawful}
 use Rattle.argus_refinement.proofs.{CellAccesses.{read_cell, written_cell}, CellHolders.may_read_is}
 use Rattle.argus_refinement.proofs.CellSeen.{visible_is}
 use Rattle.argus_model.specs.{Contents.sees, Event.Accessed}
@@ -29,10 +27,10 @@ pub made_read : (p : GuardianState) (e : PlainEntry) (a : ActionId) (o : ObjId) 
 made_read p e a o k objects' holdings' right free told moved =
     let s = opening_in p.journal in
     let h = history s (entries_in p.journal) in
-    kept_event s e (entries_in p.journal) p.tree p.tree p.objects.items objects' p.holdings holdings' k right
-    told.object (shapes_kept (IsRead p.tree a) (o ∷ []) p.objects.items objects' moved.objects)
+    kept_event _ _ _ _ _ _ _ _ _ k right
+    told.object (shapes_kept _ _ _ _ moved.objects)
     moved.objects.count (Accessed (a.0 + 1) o.0 e) told.event
-    (λ l. parts_accessed (IsRead p.tree a) s h p.tree p.objects.items objects' p.holdings holdings' k.state a o e l
+    (λ l. parts_accessed (IsRead p.tree a) _ _ _ _ _ _ _ k.state a o e l
     free.low
     (λ c c' i r. read_cell s h p.tree k.state.actions a o.0 e l told.write c c' i r.base r.readers r.versions r.lawful)
     moved)
@@ -56,15 +54,15 @@ made_change p e a o k objects' holdings' change right free told left moved =
     let cell = (slice_index_or xs o.0 d).cell in
     let reads : may_read t cell a ≡ true =
     (and_parts (all_above t a (holders cell.versions)) (all_above t a cell.readers) (free.opens d)).0 in
-    let la = acts t xs p.holdings s j k a o.0 free.accepted in
-    kept_event s e j t t xs objects' p.holdings holdings' k right
-    told.object (shapes_kept (IsAltered t a change) (o ∷ []) xs objects' moved.objects)
+    let la = acts _ _ _ _ _ k a o.0 free.accepted in
+    kept_event _ _ _ _ _ _ _ _ _ k right
+    told.object (shapes_kept _ _ _ _ moved.objects)
     moved.objects.count (Accessed (a.0 + 1) o.0 e) told.event
-    (λ l. parts_accessed (IsAltered t a change) s h t xs objects' p.holdings holdings' k.state a o e l free.low
+    (λ l. parts_accessed (IsAltered t a change) _ _ _ _ _ _ _ k.state a o e l free.low
     (λ c c' i r.
     let may : may_read t c a ≡ true =
     may_read_is s h (lawful s j k.legal) t k.state.actions o.0 c i a la
-    ∙ sym (reads_agree t xs p.holdings s j k a o.0 la d free.low)
+    ∙ sym (reads_agree _ _ _ _ _ k a o.0 la d free.low)
     ∙ reads in
     let is : (changed t a change c).0 ≡ content_after_call e.call (sees entries (model_opening s) h (a.0 + 1) o.0) =
     ap (λ x. (outcome change x).0) (visible_is s h (lawful s j k.legal) t k.state.actions o.0 c i a la may)

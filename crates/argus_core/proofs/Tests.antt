@@ -1,22 +1,21 @@
 -- Tests of locks, as the guardian refuses and grants them.
 use Rattle.std.proofs.Common.{Bool, List, None, Option, [], ap, arith, inl, inr, length, refl, sym, true, ℕ, ◌+◌, ◌<◌}
-use Rattle.std.proofs.{Common.{◌∙◌, ◌∷◌, ◌≡◌}, lemmas.Bool.{cases_lt, le-ltb}, lemmas.Option.slice_get-get_or}
-use Rattle.std.specs.Prelude.{slice_get, slice_index_or}
+use Rattle.std.proofs.{Common.{◌∙◌, ◌∷◌, ◌≡◌}, lemmas.Bool.{cases_lt, le-ltb, Decides.nat_tests}}
+use Rattle.std.{proofs.lemmas.Option.slice_get-get_or, specs.Prelude.{slice_get, slice_index_or}}
 use Rattle.argus_actions.specs.declared.action_id.ActionId.{ActionId}
 use Rattle.argus_contents.specs.{Answer.flag, Shape.PlainShape, declared.obj_id.ObjId.ObjId}
 use Rattle.argus_entries.specs.{Call.{PlainCall, test_read, test_write}, Reply.answered}
-use Rattle.argus_entries.specs.declared.refusal.Refusal.{Refusal}
-use Rattle.argus_entries.specs.declared.refusal.Refusal.TheVariants.{Conflict, IllTyped, NoObject}
+use Rattle.argus_entries.specs.declared.refusal.Refusal.{Refusal, TheVariants.{Conflict, IllTyped, NoObject}}
 use Rattle.argus_core.specs.{Accessing.{IsFree, access_refusal}, GuardianState.{StateInvariant, journal_view_of}}
 use Rattle.argus_core.specs.declared.engine.atomic_object.AtomicObject.{AtomicObject}
-use Rattle.argus_core.specs.declared.engine.guardian_state.GuardianState.{GuardianState}
-use Rattle.argus_core.proofs.Accesses.{IsAccess, access_free, access_granted, access_is, acts, granted_to, history_of}
+use Rattle.argus_core.{specs.declared.engine.guardian_state.GuardianState.GuardianState, proofs.Accesses.IsAccess}
+use Rattle.argus_core.proofs.Accesses.{access_free, access_granted, access_is, acts, granted_to, history_of}
 use Rattle.argus_core.proofs.{Accesses.{reads_agree, shapes_of, writes_agree}, Ends.some_object}
-use Rattle.argus_journal.specs.{Answers.{if_declared, if_free, suits, unless}, Entries.entries}
-use Rattle.argus_journal.specs.{JournalView.{JournalView, refusal_to, reply_to}, LegalJournal.{entries_in, opening_in}}
-use Rattle.argus_model.specs.Holders as model
+use Rattle.argus_journal.specs.{Answers.{if_declared, if_free, suits, unless}, Entries.entries, JournalView.JournalView}
+use Rattle.argus_journal.specs.JournalView.{refusal_to, reply_to}
 use Rattle.argus_model.specs.Status.{is_live}
 use Rattle.argus_objects.specs.{Object.Object, Rules.{may_read, may_write}}
+use Rattle.argus_model.specs.Holders as model
 
 -- a shape that is there suits where all shapes do
 all_suit : (xs : List PlainShape) (o : ℕ) → if_declared xs o
@@ -56,7 +55,7 @@ module _ (p : GuardianState) (k : StateInvariant p) (a : ActionId) (o : ObjId) w
     lock = model.may_read entries (history_of p) (a.0 + 1) o.0;
     refuses = refl;
     grants = refl;
-    agrees = reads_agree p.tree p.objects.items p.holdings (opening_in p.journal) (entries_in p.journal) k a o.0;
+    agrees = reads_agree _ _ _ _ _ k a o.0;
   }
 
   pub writes : IsTest p a o (test_write a.0 o.0) (λ c. may_write p.tree c a)
@@ -65,20 +64,17 @@ module _ (p : GuardianState) (k : StateInvariant p) (a : ActionId) (o : ObjId) w
     lock = model.may_write entries (history_of p) (a.0 + 1) o.0;
     refuses = refl;
     grants = refl;
-    agrees = writes_agree p.tree p.objects.items p.holdings (opening_in p.journal) (entries_in p.journal) k a o.0;
+    agrees = writes_agree _ _ _ _ _ k a o.0;
   }
 
 module _ {p : GuardianState} {a : ActionId} {o : ObjId} {call : PlainCall} {free : Object → Bool}
     (test : IsTest p a o call free) where
   -- it is an access for which each shape and each lock will do
   pub tests : IsAccess p a o call (λ shape. true) (λ c. true)
-  tests = record {
-    refuses =
-        access_is p.tree p.objects.items p.holdings (opening_in p.journal) (entries_in p.journal) test.kept a o.0
-        (λ shape. true) (λ c. true) true (λ la d lt. refl)
-        ∙ ap (if_free (history_of p) a.0) (all_suit (shapes_of p) o.0)
-        ∙ sym test.refuses;
-  }
+  tests =
+      let is = access_is _ _ _ _ _ test.kept a o.0 (λ shape. true) (λ c. true) true (λ la d lt. refl) in
+      let all = all_suit (shapes_of p) o.0 in
+      grind (arith, nat_tests, is, all)
 
   module _ (e : refused_test p a o ≡ None) where
     -- the object is there
@@ -87,10 +83,7 @@ module _ {p : GuardianState} {a : ActionId} {o : ObjId} {call : PlainCall} {free
 
     -- what the cell says of the lock is what the history says
     pub test_lock : (d : AtomicObject) → free (slice_index_or p.objects.items o.0 d).cell ≡ test.lock
-    test_lock d =
-        let w = access_free tests e in
-        test.agrees (acts p.tree p.objects.items p.holdings (opening_in p.journal) (entries_in p.journal) test.kept a
-        o.0 w.accepted) d w.low
+    test_lock d = grind (arith, nat_tests, access_free tests e, acts _ _ _ _ _ test.kept a o.0)
 
     -- and is the answer
     pub test_right : (b : Bool) → ((d : AtomicObject) → b ≡ free (slice_index_or p.objects.items o.0 d).cell)

@@ -1,7 +1,6 @@
 -- What an action has written, as the walk over its list finds it.
-use Rattle.std.proofs.Common.{List, None, Option, Some, [], ap, cond, get_or, inl, inr, length, map, refl, sym, take, ℕ}
-use Rattle.std.proofs.{Common.{◌++◌, ◌+◌, ◌<◌, ◌||◌, ◌∙◌, ◌∷◌, ◌≡◌}, lemmas.Bool.{cases_Bool, cases_eq, eq-eqb, ne_eqb}}
-use Rattle.std.proofs.lemmas.List.{map-append, take_more}
+use Rattle.std.proofs.Common.{List, Option, [], ap, cond, get_or, length, map, refl, take, ℕ, ◌++◌, ◌+◌, ◌<◌, ◌∙◌, ◌∷◌}
+use Rattle.std.proofs.{Common.{◌≡◌, arith}, lemmas.{List.{map-append, take_more}, Bool.Decides.nat_tests}}
 use Rattle.std.specs.{Option.{is_some, option_map}, Prelude.slice_index_or}
 use Rattle.argus_actions.specs.declared.action_id.ActionId.{ActionId}
 use Rattle.argus_contents.specs.{Content.{PlainContent, plain_option}, declared.content.Content.Content}
@@ -12,16 +11,7 @@ use Rattle.argus_objects.specs.{CellChanges.{has_version, version_of}, Object.Pl
 -- an action has a version where there is one of it
 pub has_where_found : (a : ActionId) (vs : List PlainVersion) → is_some (version_of a vs) ≡ has_version a vs
 has_where_found a [] = refl
-has_where_found a (v ∷ vs) =
-    elim (cases_eq v.holder.0 a.0) [
-      | inl e ↦
-          ap (λ b. is_some (cond b (Some v.content) (version_of a vs))) (eq-eqb v.holder.0 a.0 e)
-          ∙ sym (ap (λ b. b || has_version a vs) (eq-eqb v.holder.0 a.0 e))
-      | inr n ↦
-          ap (λ b. is_some (cond b (Some v.content) (version_of a vs))) (ne_eqb v.holder.0 a.0 n)
-          ∙ has_where_found a vs
-          ∙ sym (ap (λ b. b || has_version a vs) (ne_eqb v.holder.0 a.0 n))
-    ]
+has_where_found a (v ∷ vs) = grind (arith, nat_tests, has_where_found a vs)
 
 -- a number with a content, as the program and as the model have it
 abbrev numbered : ℕ → Option Content → ObjId × Option Content
@@ -38,19 +28,7 @@ module _ (a : ActionId) (objects : List AtomicObject) (d : AtomicObject) where
       → written_in a objects d (list ++ o ∷ [])
       ≡ written_in a objects d list ++ cond (has_version a (slice_index_or objects o.0 d).cell.versions) (o.0 ∷ []) []
   written_last [] o = refl
-  written_last (x ∷ list) o =
-      elim (cases_Bool (has_version a (slice_index_or objects x.0 d).cell.versions)) [
-        | inl e ↦
-            ap (λ b. cond b (x.0 ∷ written_in a objects d (list ++ o ∷ [])) (written_in a objects d (list ++ o ∷ []))) e
-            ∙ ap (λ ns. x.0 ∷ ns) (written_last list o)
-            ∙ sym (ap (λ b. cond b (x.0 ∷ written_in a objects d list) (written_in a objects d list)
-            ++ cond (has_version a (slice_index_or objects o.0 d).cell.versions) (o.0 ∷ []) []) e)
-        | inr e ↦
-            ap (λ b. cond b (x.0 ∷ written_in a objects d (list ++ o ∷ [])) (written_in a objects d (list ++ o ∷ []))) e
-            ∙ written_last list o
-            ∙ sym (ap (λ b. cond b (x.0 ∷ written_in a objects d list) (written_in a objects d list)
-            ++ cond (has_version a (slice_index_or objects o.0 d).cell.versions) (o.0 ∷ []) []) e)
-      ]
+  written_last (x ∷ list) o = grind (arith, nat_tests, written_last list o)
 
   pub written_more : (list : List ObjId) (i : ℕ) (e : ObjId) → i < length list
       → written_in a objects d (take (i + 1) list)
@@ -66,15 +44,8 @@ module _ (a : ActionId) (objects : List AtomicObject) (d : AtomicObject) where
       → plain_option content ≡ version_in a objects d (get_or numbers i 0)
       → plain_effect items' ≡ map (λ o. (o, version_in a objects d o)) (take (i + 1) numbers)
   copied_more numbers i items items' content low e is same =
-      let n = get_or numbers i 0 in
-      let f : ℕ → ℕ × Option PlainContent = λ o. (o, version_in a objects d o) in
-      ap plain_effect is
-      ∙ map-append told items (numbered n content ∷ [])
-      ∙ ap (λ ps. ps ++ with_plain n (plain_option content) ∷ []) e
-      ∙ ap (λ c. map f (take i numbers) ++ with_plain n c ∷ []) same
-      ∙ sym (ap (map f) (take_more numbers i 0 low) ∙ map-append f (take i numbers) (n ∷ []))
+      grind (arith, nat_tests, map-append told items, take_more numbers i 0 low, map-append)
 
 -- there is one where there is one of it
 pub some_mapped : {X Y : Type 0} (f : X → Y) (q : Option X) → is_some (option_map f q) ≡ is_some q
-some_mapped f None = refl
-some_mapped f (Some x) = refl
+some_mapped f q = grind (arith, nat_tests)

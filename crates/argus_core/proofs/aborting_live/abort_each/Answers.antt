@@ -1,8 +1,8 @@
 -- Each action that is live when its turn comes is a topaction, and is aborted; in the end none is live.
 use Rattle.std.proofs.Common.{ap, arith, sym, ◌∙◌}
 use Rattle.argus_core.proofs.AbortingLive.{all_aborted, all_quiet, next_at, over_aborted, over_folded, on_err}
-use Rattle.argus_core.proofs.AbortingLive.{over_next, some_left}
-use Rattle.argus_core.proofs.aborting_live.abort_each.Goals.{else-is_live, then-is_live+in_ok-abort+in-Answered-1}
+use Rattle.argus_core.proofs.{AbortingLive.{over_next, some_left}, aborting_live.abort_each.Goals.else-is_live}
+use Rattle.argus_core.proofs.aborting_live.abort_each.Goals.{then-is_live+in_ok-abort+in-Answered-1}
 use Rattle.argus_core.proofs.aborting_live.abort_each.Goals.{then-is_live+in_ok-abort+in-Object-1}
 use Rattle.argus_core.specs.{AbortingLive.live_topactions, GuardianState.journal_view_of}
 use Rattle.argus_core.proofs.aborting_live.abort_each.Goals as goal

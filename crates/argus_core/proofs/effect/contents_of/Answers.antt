@@ -1,10 +1,10 @@
 -- One object more is copied as the action's version of it, until all are.
-use Rattle.std.proofs.{Common.{ap, get_or, map, ◌∙◌}, lemmas.List.{get_or_default, take_all}}
-use Rattle.std.specs.{Option.unwrap_or, Prelude.None}
+use Rattle.std.{proofs.{Common.{ap, get_or, map, ◌∙◌}, lemmas.List.{get_or_default, take_all}}, specs.Option.unwrap_or}
+use Rattle.std.specs.Prelude.{None}
 use Rattle.argus_core.specs.{Effect.version_in, declared.engine.atomic_object.AtomicObject.AtomicObject}
 use Rattle.argus_core.proofs.Written.{copied_more}
-use Rattle.argus_core.proofs.effect.contents_of.Goals as goal
 use Rattle.argus_objects.specs.CellChanges.{version_of}
+use Rattle.argus_core.proofs.effect.contents_of.Goals as goal
 
 pub loop-number-preserved : goal.loop-number-preserved
 loop-number-preserved c = λ d.

@@ -4,8 +4,7 @@ use Rattle.argus_core.proofs.Effects.{any_object, effect_where, found_effect, fo
 use Rattle.argus_core.proofs.effect.effect_in.Goals as goal
 
 pub returns-then-not-is_live : goal.returns-then-not-is_live
-returns-then-not-is_live c =
-    sym (effect_where c.args.state.now c.requires c.args.a false c.if-not-is_live.ensures)
+returns-then-not-is_live c = sym (effect_where c.args.state.now c.requires c.args.a false c.if-not-is_live.ensures)
 
 pub contents_of-requires : goal.contents_of-requires
 contents_of-requires c =

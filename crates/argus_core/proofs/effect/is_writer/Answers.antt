@@ -1,10 +1,9 @@
 -- An action has a version exactly where one of it is found.
-use Rattle.std.proofs.Common.{ap, sym, ◌∙◌}
-use Rattle.std.specs.Option.{is_some}
+use Rattle.std.{proofs.Common.{ap, sym, ◌∙◌}, specs.Option.is_some}
 use Rattle.argus_contents.specs.Content.{plain_option}
 use Rattle.argus_core.proofs.Written.{has_where_found, some_mapped}
-use Rattle.argus_core.proofs.effect.is_writer.Goals as goal
 use Rattle.argus_objects.specs.Object.{versions_newest_first}
+use Rattle.argus_core.proofs.effect.is_writer.Goals as goal
 
 pub returns : goal.returns
 returns c =

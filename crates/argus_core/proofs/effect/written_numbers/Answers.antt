@@ -2,8 +2,8 @@
 use Rattle.std.proofs.{Common.{[], ap, cond, get_or, sym, take, ◌++◌, ◌∙◌, ◌∷◌}, lemmas.List.get_or_default}
 use Rattle.argus_core.specs.{Effect.written_in, declared.engine.atomic_object.AtomicObject.AtomicObject}
 use Rattle.argus_core.proofs.{Changes.listed_at, Written.written_more}
-use Rattle.argus_core.proofs.effect.written_numbers.Goals as goal
 use Rattle.argus_objects.specs.CellChanges.{has_version}
+use Rattle.argus_core.proofs.effect.written_numbers.Goals as goal
 
 pub bounds-objects-o : goal.bounds-objects-o
 bounds-objects-o c =

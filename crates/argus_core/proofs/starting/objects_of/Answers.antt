@@ -1,5 +1,5 @@
 -- One more object, with its copies and no holder.
-use Rattle.std.proofs.{Common.arith, lemmas.Grind.common_steps, lemmas.List.Elements.All-append}
+use Rattle.std.proofs.{Common.arith, lemmas.{Grind.common_steps, List.Elements.All-append}}
 use Rattle.argus_core.proofs.Started.{IsFree, one_free}
 use Rattle.argus_core.proofs.starting.objects_of.Goals as goal
 

@@ -1,5 +1,5 @@
 -- What a granted query is answered, at what the action sees, is the reply that the journal gives.
-use Rattle.std.proofs.{Common.{arith, length, ◌∙◌, ◌≡◌}, lemmas.List.with_items_is}
+use Rattle.std.proofs.{Common.{arith, ◌∙◌}, lemmas.{List.with_items_is, Grind.common_steps}}
 use Rattle.argus_core.proofs.{Asks.{ask_free, ask_made, ask_told}, FreeLocks.reader_limits}
 use Rattle.argus_core.proofs.engine.accessing.answer_with_memory.Goals as goal
 
@@ -14,10 +14,7 @@ query_answer-requires-clause-granted c =
     (ask_free c.args.state.now c.requires.kept c.args.a c.args.o c.args.query c.requires.free).opens
 
 pub query_answer-requires-clause-limits : goal.query_answer-requires-clause-limits
-query_answer-requires-clause-limits c =
-    rw (c.as_slice-seen.ensures.value)
-    (reader_limits c.args.state.now c.requires.kept c.args.a c.args.o
-    (ask_free c.args.state.now c.requires.kept c.args.a c.args.o c.args.query c.requires.free))
+query_answer-requires-clause-limits c = grind (arith, common_steps, reader_limits, ask_free)
 
 pub grant_read-requires-clause-free : goal.grant_read-requires-clause-free
 grant_read-requires-clause-free c =
@@ -34,13 +31,8 @@ pub returns-clause-kept : goal.returns-clause-kept
 returns-clause-kept c =
     let p = c.args.state.now in
     let new = c.grant_read.new.objects in
-    let fits : length new ≡ p.objects.len = omega arith in
-    rw (
-      with_items_is p.objects new fits,
-      c.push.ensures.entries,
-      c.push.ensures.opening,
-      c.in_ok-reply.ensures.second,
-    )
+    rw (with_items_is p.objects new (omega arith), c.push.ensures.entries, c.push.ensures.opening)
+    (rw (c.in_ok-reply.ensures.second)
     (ask_made p c.requires.kept c.args.a c.args.o c.args.query c.requires.free _
     (rw (c.as_slice-seen.ensures.value) at c.in_ok-answer.ensures) new c.grant_read.new.holdings
-    (rw (c.as_mut_slice-objects.ensures.value) at c.grant_read.ensures))
+    (rw (c.as_mut_slice-objects.ensures.value) at c.grant_read.ensures)))

@@ -1,14 +1,14 @@
 -- A query is refused as the journal refuses it; else its object is there, and making room changes nothing of that.
 use Rattle.std.proofs.Common.{None, subst, sym, ◌∙◌, ◌≡◌}
 use Rattle.argus_actions.specs.declared.action_id.ActionId.{ActionId}
-use Rattle.argus_contents.specs.{declared.obj_id.ObjId.ObjId, declared.query.Query.Query, Fitting.query_suits}
+use Rattle.argus_contents.specs.{declared.{obj_id.ObjId.ObjId, query.Query.Query}, Fitting.query_suits}
 use Rattle.argus_entries.specs.Call.{ask}
 use Rattle.argus_journal.specs.JournalView.{JournalView, refusal_to}
 use Rattle.argus_core.specs.{Accessing.access_refusal, GuardianState.{StateInvariant, journal_view_of}}
-use Rattle.argus_core.specs.declared.engine.guardian_state.GuardianState.{GuardianState}
-use Rattle.argus_core.proofs.{Accesses.{access_free, access_refused}, Asks.{ask_free, asks}, FreeLocks.reader_limits}
-use Rattle.argus_core.proofs.engine.accessing.ask.Goals as goal
+use Rattle.argus_core.{specs.declared.engine.guardian_state.GuardianState.GuardianState, proofs.Accesses.access_free}
+use Rattle.argus_core.proofs.{Accesses.access_refused, Asks.{ask_free, asks}, FreeLocks.reader_limits}
 use Rattle.argus_objects.specs.Rules.{may_read}
+use Rattle.argus_core.proofs.engine.accessing.ask.Goals as goal
 
 -- what isn't refused isn't refused where the journal is the same
 still : (p new : GuardianState) (k : StateInvariant p) (a : ActionId) (o : ObjId) (query : Query)
@@ -47,7 +47,8 @@ small_answer-requires-clause-limits c =
     (reader_limits c.reserve_granted_read.new.state c.reserve_granted_read.ensures.kept c.args.a c.args.o
     (ask_free c.reserve_granted_read.new.state c.reserve_granted_read.ensures.kept c.args.a c.args.o c.args.query
     (still c.args.state.now c.reserve_granted_read.new.state c.requires c.args.a c.args.o c.args.query
-    (sym (rw (c.as_slice.ensures.value) at c.ask_refusal.ensures) ∙ c.in-None.is) c.reserve_granted_read.ensures.journal)))
+    (sym (rw (c.as_slice.ensures.value) at c.ask_refusal.ensures)
+    ∙ c.in-None.is) c.reserve_granted_read.ensures.journal)))
 
 pub record_answer-requires-clause-free : goal.record_answer-requires-clause-free
 record_answer-requires-clause-free c =

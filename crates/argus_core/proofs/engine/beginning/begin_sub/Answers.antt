@@ -18,13 +18,14 @@ pub push-requires-clause-answered : goal.push-requires-clause-answered
 push-requires-clause-answered c =
     let new = c.reserve_begin in
     begin_right new.new.state new.ensures.kept c.args.state.now c.requires new.ensures.journal
-    (begins_sub c.args.parent.0) (sym c.begin_sub_refusal.ensures ∙ c.in-None.is) c.begin_sub_reserved-a.result
-    c.begin_sub_reserved-a.ensures.number
+    (begins_sub c.args.parent.0)
+    (sym c.begin_sub_refusal.ensures ∙ c.in-None.is) _ c.begin_sub_reserved-a.ensures.number
 
 pub returns-clause-kept : goal.returns-clause-kept
 returns-clause-kept c =
     let new = c.reserve_begin in
     rw (c.push.ensures.entries, c.push.ensures.opening)
     (begin_kept new.new.state new.ensures.kept c.args.state.now c.requires new.ensures.journal
-    (begins_sub c.args.parent.0) (sym c.begin_sub_refusal.ensures ∙ c.in-None.is) c.begin_sub_reserved-a.result
-    c.begin_sub_reserved-a.ensures.number c.begin_sub_reserved-a.new.self c.begin_sub_reserved-a.ensures.tree)
+    (begins_sub c.args.parent.0)
+    (sym c.begin_sub_refusal.ensures
+    ∙ c.in-None.is) _ c.begin_sub_reserved-a.ensures.number _ c.begin_sub_reserved-a.ensures.tree)

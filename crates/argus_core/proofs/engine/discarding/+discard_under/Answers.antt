@@ -1,7 +1,7 @@
 -- When no subaction is left, the action itself is ended, and so all that stand under it.
-use Rattle.std.proofs.Common.{arith, length, subst, sym, ◌<◌}
-use Rattle.argus_core.proofs.Sweeps.{IsWalked, covered_more, ended_lawful, own_ended, there_less, walk_end, walk_fewer}
-use Rattle.argus_core.proofs.Sweeps.{walk_next, walk_start, walk_step}
+use Rattle.std.proofs.{Common.arith, lemmas.Grind.common_steps}
+use Rattle.argus_core.proofs.Sweeps.{covered_more, ended_lawful, own_ended, there_less, walk_end, walk_fewer, walk_next}
+use Rattle.argus_core.proofs.Sweeps.{walk_start, walk_step}
 use Rattle.argus_core.proofs.engine.discarding.+discard_under.Goals as goal
 
 pub loop-sub-init : goal.loop-sub-init
@@ -11,73 +11,34 @@ loop-sub-init t c =
 
 pub discard_under-requires : goal.discard_under-requires
 discard_under-requires t c =
-    let tree = c.args.tree.now in
-    let k = subst (IsWalked tree c.args.a.0 c.args.objects.now c.loop-sub.objects c.args.holdings.now
-    c.loop-sub.holdings) c.in-Some.is c.loop-sub.invariant in
-    let q = walk_next tree c.requires.linked c.args.a.0 c.args.objects.now c.loop-sub.objects c.args.holdings.now
-    c.loop-sub.holdings c.in-Some.below k in (
+    let k = rw c.in-Some.is at c.loop-sub.invariant in
+    let q = walk_next c.args.tree.now c.requires.linked _ _ _ _ _ c.in-Some.below k in
+    let lawful = ended_lawful k.ended in
+    let there = there_less k.ended c.requires.there in
+    let covered = covered_more k.ended c.requires.covered in (
       omega (arith, q.0, q.1, c.decreases),
-      (
-        c.requires.linked,
-        (
-          q.2,
-          (
-            q.1,
-            (
-              ended_lawful tree _ c.args.objects.now c.loop-sub.objects c.args.holdings.now c.loop-sub.holdings
-                  k.ended,
-              (
-                λ x o e. subst (λ n. o < n) (sym k.ended.count) (there_less _ c.args.holdings.now
-                    c.loop-sub.holdings (length c.args.objects.now) k.ended.lists c.requires.there x o e),
-                covered_more tree _ c.args.objects.now c.loop-sub.objects c.args.holdings.now c.loop-sub.holdings
-                    k.ended c.requires.covered,
-              ),
-            ),
-          ),
-        ),
-      ),
+      (c.requires.linked, (q.2, (q.1, (lawful, (there, covered))))),
     )
 
 pub loop-sub-smaller : goal.loop-sub-smaller
 loop-sub-smaller t c =
-    let tree = c.args.tree.now in
-    let k = subst (IsWalked tree c.args.a.0 c.args.objects.now c.loop-sub.objects c.args.holdings.now
-    c.loop-sub.holdings) c.in-Some.is c.loop-sub.invariant in
     rw (c.older_sub-sub.ensures, c.in-Some.is)
-    (walk_fewer tree c.requires.linked c.args.a.0 c.args.objects.now c.loop-sub.objects c.args.holdings.now
-    c.loop-sub.holdings c.in-Some.below k)
+    (walk_fewer c.args.tree.now c.requires.linked _ _ _ _ _ c.in-Some.below (rw c.in-Some.is at c.loop-sub.invariant))
 
 pub loop-sub-preserved : goal.loop-sub-preserved
-loop-sub-preserved t c =
-    let tree = c.args.tree.now in
-    let k = subst (IsWalked tree c.args.a.0 c.args.objects.now c.loop-sub.objects c.args.holdings.now
-    c.loop-sub.holdings) c.in-Some.is c.loop-sub.invariant in
-    rw c.older_sub-sub.ensures
-    (walk_step tree c.requires.linked c.args.a.0 c.args.objects.now c.loop-sub.objects c.args.holdings.now
-    c.loop-sub.holdings c.in-Some.below c.discard_under.new.objects c.discard_under.new.holdings k
-    c.discard_under.ensures)
+loop-sub-preserved t c = grind (arith, common_steps, walk_step)
 
 pub release_all-requires-clause-lawful : goal.release_all-requires-clause-lawful
-release_all-requires-clause-lawful t c =
-    ended_lawful c.args.tree.now _ c.args.objects.now c.loop-sub.objects c.args.holdings.now c.loop-sub.holdings
-    c.loop-sub.invariant.ended
+release_all-requires-clause-lawful t c = ended_lawful c.loop-sub.invariant.ended
 
 pub release_all-requires-clause-there : goal.release_all-requires-clause-there
 release_all-requires-clause-there t c =
-    let k = c.loop-sub.invariant in
-    rw c.of.ensures.list
-    (λ o e. subst (λ n. o < n) (sym k.ended.count) (there_less _ c.args.holdings.now c.loop-sub.holdings
-    (length c.args.objects.now) k.ended.lists c.requires.there c.args.a o e))
+    rw c.of.ensures.list (there_less c.loop-sub.invariant.ended c.requires.there c.args.a)
 
 pub returns : goal.returns
 returns t c =
     let tree = c.args.tree.now in
-    let k = subst (IsWalked tree c.args.a.0 c.args.objects.now c.loop-sub.objects c.args.holdings.now
-    c.loop-sub.holdings) c.in_default.is c.loop-sub.invariant in
-    walk_end tree c.requires.linked c.args.a.0 c.args.objects.now c.loop-sub.objects c.args.holdings.now
-    c.loop-sub.holdings c.requires.begun c.requires.held c.release_all.new.objects c.clear.new.self k
-    (own_ended tree c.args.a c.loop-sub.objects c.release_all.new.objects c.loop-sub.holdings c.clear.new.self
-    (rw c.of.ensures.list at c.release_all.ensures) c.clear.ensures
-    (ended_lawful tree _ c.args.objects.now c.loop-sub.objects c.args.holdings.now c.loop-sub.holdings k.ended)
-    (covered_more tree _ c.args.objects.now c.loop-sub.objects c.args.holdings.now c.loop-sub.holdings k.ended
-    c.requires.covered))
+    let k = rw c.in_default.is at c.loop-sub.invariant in
+    walk_end tree c.requires.linked _ _ _ _ _ c.requires.begun c.requires.held _ _ k
+    (own_ended tree c.args.a _ _ _ _ (rw c.of.ensures.list at c.release_all.ensures) c.clear.ensures
+    (ended_lawful k.ended) (covered_more k.ended c.requires.covered))

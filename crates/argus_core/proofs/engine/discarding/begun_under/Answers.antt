@@ -1,6 +1,5 @@
 -- An action was begun under its parent, or else under its creator.
-use Rattle.std.proofs.Common.{ap, sym, ◌∙◌}
-use Rattle.std.specs.Option.{option_map}
+use Rattle.std.{proofs.Common.{ap, sym, ◌∙◌}, specs.Option.option_map}
 use Rattle.argus_actions.specs.{Tree.row_of, declared.action_id.ActionId.ActionId}
 use Rattle.argus_core.proofs.Under.{under_creator, under_parent}
 use Rattle.argus_core.proofs.engine.discarding.begun_under.Goals as goal

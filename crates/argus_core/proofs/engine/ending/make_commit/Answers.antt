@@ -1,7 +1,7 @@
 -- A commit that nothing refuses is answered `Done`.
 use Rattle.std.proofs.Common.{subst}
-use Rattle.argus_core.specs.CommitStep.{CanCommit}
-use Rattle.argus_core.proofs.{OfState.{commits, end_right}, engine.ending.make_commit.Goals.{in-Inherit, in-Settle}}
+use Rattle.argus_core.{specs.CommitStep.CanCommit, proofs.OfState.{commits, end_right}}
+use Rattle.argus_core.proofs.engine.ending.make_commit.Goals.{in-Inherit, in-Settle}
 use Rattle.argus_core.proofs.engine.ending.make_commit.Goals as goal
 
 pub returns-clause-reply : goal.returns-clause-reply

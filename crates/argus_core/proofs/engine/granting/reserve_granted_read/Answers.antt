@@ -1,8 +1,8 @@
 -- Room for a lock changes nothing that the journal speaks of.
-use Rattle.std.proofs.{Common.{arith, length, ◌≡◌}, lemmas.List.with_items_is}
+use Rattle.std.proofs.{Common.arith, lemmas.List.with_items_is}
 use Rattle.argus_core.proofs.{Accessed.kept_locks, FreeLocks.listed_held}
-use Rattle.argus_core.proofs.engine.granting.reserve_granted_read.Goals as goal
 use Rattle.argus_journal.specs.LegalJournal.{entries_in, opening_in}
+use Rattle.argus_core.proofs.engine.granting.reserve_granted_read.Goals as goal
 
 pub reserve_read-requires-clause-listed : goal.reserve_read-requires-clause-listed
 reserve_read-requires-clause-listed c =
@@ -14,9 +14,8 @@ returns-clause-kept c =
     let p = c.args.state.now in
     let s = opening_in p.journal in
     let j = entries_in p.journal in
-    let new = c.reserve_read.new.objects in
     let held = c.reserve_read.new.holdings in
-    let fits : length new ≡ p.objects.len = omega arith in
-    rw (with_items_is p.objects new fits, c.reserve.ensures.entries, c.reserve.ensures.opening)
-    (kept_locks p.tree p.objects.items new p.holdings held s j c.args.o c.requires.kept
-    (rw (c.as_mut_slice-objects.ensures.value) at c.reserve_read.ensures.same))
+    rw (with_items_is p.objects c.reserve_read.new.objects (omega arith), c.reserve.ensures.entries)
+    (rw (c.reserve.ensures.opening)
+    (kept_locks _ _ _ _ _ _ _ _ c.requires.kept
+    (rw (c.as_mut_slice-objects.ensures.value) at c.reserve_read.ensures.same)))

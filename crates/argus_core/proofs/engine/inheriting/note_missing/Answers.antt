@@ -4,23 +4,20 @@ use Rattle.std.proofs.{Common.{true, ◌+◌, ◌<◌, ◌≤◌, ◌||◌, ◌�
 use Rattle.std.specs.{List.IsDistinct, Prelude.{not, ◌==◌}}
 use Rattle.argus_actions.specs.declared.action_id.ActionId.{ActionId}
 use Rattle.argus_contents.specs.declared.obj_id.ObjId.{ObjId}
-use Rattle.argus_core.specs.Moving.{is_listed}
-use Rattle.argus_core.proofs.{Changes.listed_at, Noted.{listed_yet, passed_more}}
-use Rattle.argus_core.proofs.engine.inheriting.note_missing.Goals as goal
+use Rattle.argus_core.{specs.Moving.is_listed, proofs.{Changes.listed_at, Noted.{listed_yet, passed_more}}}
 use Rattle.argus_objects.specs.{CellChanges.{has_version, is_reader}, declared.holdings.Holdings.Holdings}
 use Rattle.argus_objects.specs.Holdings.{Lists, TakesOnePlace, holdings_room_of, noted, objects_held_by, passed}
+use Rattle.argus_core.proofs.engine.inheriting.note_missing.Goals as goal
 
 -- the list of another action is as it was
 other_list : (old new : Holdings) (p a : ActionId) (list : List ObjId) → Lists old p list new → a.0 ≢ p.0
     → objects_held_by new a ≡ objects_held_by old a
-other_list old new p a list lists other =
-    lists a ∙ ap (λ b. cond b list (objects_held_by old a)) (ne_eqb a.0 p.0 other)
+other_list old new p a list lists other = lists a ∙ ap (λ b. cond b list (objects_held_by old a)) (ne_eqb a.0 p.0 other)
 
 -- this action's is the new one
 this_list : (old new : Holdings) (p x : ActionId) (list : List ObjId) → Lists old p list new → x.0 ≡ p.0
     → objects_held_by new x ≡ list
-this_list old new p x list lists same =
-    lists x ∙ ap (λ b. cond b list (objects_held_by old x)) (eq-eqb x.0 p.0 same)
+this_list old new p x list lists same = lists x ∙ ap (λ b. cond b list (objects_held_by old x)) (eq-eqb x.0 p.0 same)
 
 -- the list is changed twice
 list_again : (old mid new : Holdings) (p : ActionId) (one two : List ObjId) → Lists old p one mid → Lists mid p two new

@@ -1,7 +1,7 @@
 -- The parent's list has the objects so far, and all other lists are as before.
 use Rattle.std.proofs.Common.{length, take, ◌+◌, ◌≤◌}
-use Rattle.argus_core.proofs.engine.inheriting.note_missing.Given as goal
 use Rattle.argus_objects.specs.Holdings.{Lists, holdings_room_of, objects_held_by, passed}
+use Rattle.argus_core.proofs.engine.inheriting.note_missing.Given as goal
 
 abbrev pub invariant-loop-place : goal.invariant-loop-place
 invariant-loop-place l =

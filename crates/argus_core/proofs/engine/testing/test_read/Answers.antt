@@ -1,10 +1,10 @@
 -- The journal refuses the test likewise, or says no with nothing changed, or yes with the lock taken.
-use Rattle.std.proofs.{Common.{arith, false, length, refl, sym, true, ◌∙◌, ◌≡◌}, lemmas.List.with_items_is}
+use Rattle.std.proofs.{Common.{arith, false, refl, sym, true, ◌∙◌}, lemmas.List.with_items_is}
 use Rattle.argus_contents.specs.Answer.{flag}
 use Rattle.argus_entries.specs.{Call.test_read, Reply.answered}
 use Rattle.argus_journal.specs.JournalView.{entry_with}
-use Rattle.argus_core.proofs.{Accesses.access_refused, FreeLocks.said_free, MadeAccesses.made_read}
-use Rattle.argus_core.proofs.Tests.{reads, test_low, test_right, test_still, tests}
+use Rattle.argus_core.proofs.{Accesses.access_refused, FreeLocks.said_free, MadeAccesses.made_read, Tests.reads}
+use Rattle.argus_core.proofs.Tests.{test_low, test_right, test_still, tests}
 use Rattle.argus_core.proofs.engine.testing.test_read.Goals as goal
 
 pub refuse-requires-clause-right : goal.refuse-requires-clause-right
@@ -54,15 +54,14 @@ pub returns-clause-kept : goal.returns-clause-kept
 returns-clause-kept c =
     let p = c.reserve_granted_read.new.state in
     let k = c.reserve_granted_read.ensures.kept in
-    let new = c.grant_read.new.objects in
-    let fits : length new ≡ p.objects.len = omega arith in
     let yes =
     test_still (reads c.args.state.now c.requires c.args.a c.args.o)
     (sym (rw (c.as_slice.ensures.value) at c.test_refusal.ensures) ∙ c.in-None.is) true
     (λ d. sym c.if-not-is_readable.false ∙ (rw (c.as_slice-2.ensures.value) at c.is_readable.ensures) d)
     c.reserve_granted_read.new.state c.reserve_granted_read.ensures.journal in
-    rw (with_items_is p.objects new fits, c.push-2.ensures.entries, c.push-2.ensures.opening)
-    (made_read p (entry_with (test_read c.args.a.0 c.args.o.0) (answered (flag true))) c.args.a c.args.o k new
-    c.grant_read.new.holdings yes (said_free (reads p k c.args.a c.args.o) (sym yes))
+    rw (with_items_is p.objects c.grant_read.new.objects (omega arith), c.push-2.ensures.entries)
+    (rw (c.push-2.ensures.opening)
+    (made_read p (entry_with (test_read c.args.a.0 c.args.o.0) (answered (flag true))) c.args.a c.args.o k _ _ yes
+    (said_free (reads p k c.args.a c.args.o) (sym yes))
     (record { event = refl; object = refl; write = refl })
-    (rw (c.as_mut_slice-objects.ensures.value) at c.grant_read.ensures))
+    (rw (c.as_mut_slice-objects.ensures.value) at c.grant_read.ensures)))

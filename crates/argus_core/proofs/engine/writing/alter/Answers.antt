@@ -1,10 +1,10 @@
 -- A change is refused as the journal refuses it, or made where the journal grants it, with its answer.
-use Rattle.std.proofs.{Common.{None, Some, ap, arith, length, sym, ◌∙◌, ◌≡◌}, lemmas.List.with_items_is}
+use Rattle.std.proofs.{Common.{None, Some, ap, arith, sym, ◌∙◌}, lemmas.List.with_items_is}
 use Rattle.argus_contents.specs.{Answer.done_or, Change.plain_change}
 use Rattle.argus_core.proofs.{Accessed.kept_locks, Accesses.access_refused, FreeLocks.{listed_held, writer_limits}}
 use Rattle.argus_core.proofs.Alters.{alter_free, alter_made, alter_still, alters}
-use Rattle.argus_core.proofs.engine.writing.alter.Goals as goal
 use Rattle.argus_journal.specs.LegalJournal.{entries_in, opening_in}
+use Rattle.argus_core.proofs.engine.writing.alter.Goals as goal
 
 pub refuse-requires-clause-right : goal.refuse-requires-clause-right
 refuse-requires-clause-right c =
@@ -38,13 +38,10 @@ grant_change-requires-clause-listed c =
 
 pub returns-in_err-grant_change-clause-kept : goal.returns-in_err-grant_change-clause-kept
 returns-in_err-grant_change-clause-kept c =
-    let p = c.args.state.now in
-    let new = c.grant_change.new.objects in
-    let fits : length new ≡ p.objects.len = omega arith in
-    rw (with_items_is p.objects new fits, c.reserve.ensures.entries, c.reserve.ensures.opening)
-    (kept_locks p.tree p.objects.items new p.holdings c.grant_change.new.holdings (opening_in p.journal)
-    (entries_in p.journal) c.args.o c.requires
-    (rw (c.as_mut_slice-objects.ensures.value) at c.in_err-grant_change.ensures.err))
+    rw (with_items_is c.args.state.now.objects c.grant_change.new.objects (omega arith), c.reserve.ensures.entries)
+    (rw (c.reserve.ensures.opening)
+    (kept_locks _ _ _ _ _ _ _ _ c.requires
+    (rw (c.as_mut_slice-objects.ensures.value) at c.in_err-grant_change.ensures.err)))
 
 pub push-requires-clause-answered : goal.push-requires-clause-answered
 push-requires-clause-answered c =
@@ -66,34 +63,23 @@ pub returns-in-None-2-clause-kept : goal.returns-in-None-2-clause-kept
 returns-in-None-2-clause-kept c =
     let p = c.args.state.now in
     let new = c.grant_change.new.objects in
-    let fits : length new ≡ p.objects.len = omega arith in
-    rw (
-      with_items_is p.objects new fits,
-      c.push.ensures.entries,
-      c.push.ensures.opening,
-      c.reserve.ensures.entries,
-      c.reserve.ensures.opening,
-    )
+    rw (with_items_is p.objects new (omega arith), c.push.ensures.entries, c.push.ensures.opening)
+    (rw (c.reserve.ensures.entries)
+    (rw (c.reserve.ensures.opening)
     (alter_made p c.requires c.args.a c.args.o (plain_change c.args.change)
     (sym (rw (c.as_slice.ensures.value) at c.alter_refusal.ensures) ∙ c.in-None.is) (done_or None)
     (λ d. ap done_or (sym c.in-None-2.is)
     ∙ (rw (c.as_mut_slice-objects.ensures.value) at c.in_ok-grant_change.ensures.answer) d)
-    new c.grant_change.new.holdings (rw (c.as_mut_slice-objects.ensures.value) at c.in_ok-grant_change.ensures.ok))
+    new c.grant_change.new.holdings (rw (c.as_mut_slice-objects.ensures.value) at c.in_ok-grant_change.ensures.ok))))
 
 pub returns-in-Some-2-clause-kept : goal.returns-in-Some-2-clause-kept
 returns-in-Some-2-clause-kept c =
     let p = c.args.state.now in
     let new = c.grant_change.new.objects in
-    let fits : length new ≡ p.objects.len = omega arith in
-    rw (
-      with_items_is p.objects new fits,
-      c.push-in-Some-2.ensures.entries,
-      c.push-in-Some-2.ensures.opening,
-      c.reserve.ensures.entries,
-      c.reserve.ensures.opening,
-    )
+    rw (with_items_is p.objects new (omega arith), c.push-in-Some-2.ensures.entries, c.push-in-Some-2.ensures.opening)
+    (rw (c.reserve.ensures.entries, c.reserve.ensures.opening)
     (alter_made p c.requires c.args.a c.args.o (plain_change c.args.change)
     (sym (rw (c.as_slice.ensures.value) at c.alter_refusal.ensures) ∙ c.in-None.is) (done_or (Some c.in-Some-2.signal))
     (λ d. ap done_or (sym c.in-Some-2.is)
     ∙ (rw (c.as_mut_slice-objects.ensures.value) at c.in_ok-grant_change.ensures.answer) d)
-    new c.grant_change.new.holdings (rw (c.as_mut_slice-objects.ensures.value) at c.in_ok-grant_change.ensures.ok))
+    new c.grant_change.new.holdings (rw (c.as_mut_slice-objects.ensures.value) at c.in_ok-grant_change.ensures.ok)))

@@ -4,12 +4,12 @@ use Rattle.argus_actions.specs.declared.action_id.ActionId.{ActionId}
 use Rattle.argus_contents.specs.{Change.{PlainChange, plain_change}, Fitting.change_suits, declared.obj_id.ObjId.ObjId}
 use Rattle.argus_entries.specs.Call.{alter}
 use Rattle.argus_core.specs.{Accessing.access_refusal, GuardianState.{StateInvariant, journal_view_of}}
-use Rattle.argus_core.specs.declared.engine.guardian_state.GuardianState.{GuardianState}
-use Rattle.argus_core.proofs.{Accessed.kept_locks, Alters.{alter_free, alter_made, alter_still, alters}}
-use Rattle.argus_core.proofs.FreeLocks.{listed_held, writer_limits, writer_reads}
-use Rattle.argus_core.proofs.engine.writing.alter_with_value.Goals as goal
+use Rattle.argus_core.{specs.declared.engine.guardian_state.GuardianState.GuardianState, proofs.Accessed.kept_locks}
+use Rattle.argus_core.proofs.{Alters.{alter_free, alter_made, alter_still, alters}, FreeLocks.listed_held}
+use Rattle.argus_core.proofs.FreeLocks.{writer_limits, writer_reads}
 use Rattle.argus_journal.specs.{JournalView.refusal_to, LegalJournal.{entries_in, opening_in}}
 use Rattle.argus_objects.specs.Rules.{may_write}
+use Rattle.argus_core.proofs.engine.writing.alter_with_value.Goals as goal
 
 -- what the journal doesn't refuse isn't refused
 refused_not : (p : GuardianState) (k : StateInvariant p) (a : ActionId) (o : ObjId) (change : PlainChange)
@@ -61,13 +61,10 @@ grant_removal-requires-clause-listed c =
 
 pub returns-in_err-grant_removal-clause-kept : goal.returns-in_err-grant_removal-clause-kept
 returns-in_err-grant_removal-clause-kept c =
-    let p = c.args.state.now in
-    let new = c.grant_removal.new.objects in
-    let fits : length new ≡ p.objects.len = omega arith in
-    rw (with_items_is p.objects new fits, c.reserve.ensures.entries, c.reserve.ensures.opening)
-    (kept_locks p.tree p.objects.items new p.holdings c.grant_removal.new.holdings (opening_in p.journal)
-    (entries_in p.journal) c.args.o c.requires.kept
-    (rw (c.as_mut_slice-objects.ensures.value) at c.in_err-grant_removal.ensures.err))
+    rw (with_items_is c.args.state.now.objects c.grant_removal.new.objects (omega arith), c.reserve.ensures.entries)
+    (rw (c.reserve.ensures.opening)
+    (kept_locks _ _ _ _ _ _ _ _ c.requires.kept
+    (rw (c.as_mut_slice-objects.ensures.value) at c.in_err-grant_removal.ensures.err)))
 
 pub push-requires-clause-answered : goal.push-requires-clause-answered
 push-requires-clause-answered c =
@@ -81,16 +78,10 @@ pub returns-clause-kept : goal.returns-clause-kept
 returns-clause-kept c =
     let p = c.args.state.now in
     let new = c.grant_removal.new.objects in
-    let fits : length new ≡ p.objects.len = omega arith in
-    rw (
-      with_items_is p.objects new fits,
-      c.push.ensures.entries,
-      c.push.ensures.opening,
-      c.reserve.ensures.entries,
-      c.reserve.ensures.opening,
-      c.in_ok-reply.ensures.second,
-    )
+    rw (with_items_is p.objects new (omega arith), c.push.ensures.entries, c.push.ensures.opening)
+    (rw (c.reserve.ensures.entries)
+    (rw (c.reserve.ensures.opening, c.in_ok-reply.ensures.second)
     (alter_made p c.requires.kept c.args.a c.args.o (plain_change c.args.change)
     (refused_not c.args.state.now c.requires.kept c.args.a c.args.o (plain_change c.args.change) c.requires.free) _
     (rw (c.as_slice-seen.ensures.value) at c.in_ok-answer.ensures) new c.grant_removal.new.holdings
-    (rw (c.as_mut_slice-objects.ensures.value) at c.in_ok-grant_removal.ensures.ok))
+    (rw (c.as_mut_slice-objects.ensures.value) at c.in_ok-grant_removal.ensures.ok))))

@@ -2,10 +2,9 @@
 use Rattle.std.proofs.Common.{ap, sym, ◌∙◌}
 use Rattle.argus_contents.specs.Change.{plain_change}
 use Rattle.argus_entries.specs.{Call.{alter, ask, plain_call}, declared.call.Call.Call}
-use Rattle.argus_core.proofs.guardian.Guardian.access_refusal.Goals as goal
-use Rattle.argus_core.specs.Objects.{refusal_of_access}
-use Rattle.argus_core.proofs.{Alters.alters, Asks.asks}
+use Rattle.argus_core.{specs.Objects.refusal_of_access, proofs.{Alters.alters, Asks.asks}}
 use Rattle.argus_journal.specs.JournalView.{JournalView}
+use Rattle.argus_core.proofs.guardian.Guardian.access_refusal.Goals as goal
 
 pub returns-in-Ask : goal.returns-in-Ask
 returns-in-Ask c =

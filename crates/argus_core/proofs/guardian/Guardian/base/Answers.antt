@@ -1,8 +1,7 @@
 -- What is in an object for good fits its shape, since the journal is legal.
-use Rattle.argus_core.proofs.guardian.Guardian.base.Goals as goal
-use Rattle.argus_journal.proofs.Contents.{content_fits}
-use Rattle.argus_journal.specs.{Events.history, LegalJournal.{entries_in, opening_in}}
+use Rattle.argus_journal.{proofs.Contents.content_fits, specs.{Events.history, LegalJournal.{entries_in, opening_in}}}
 use Rattle.argus_model.specs.Owner.{is_base, owner}
+use Rattle.argus_core.proofs.guardian.Guardian.base.Goals as goal
 
 pub returns-in-Some-clause-fits : goal.returns-in-Some-clause-fits
 returns-in-Some-clause-fits c =

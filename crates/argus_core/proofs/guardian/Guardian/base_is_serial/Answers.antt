@@ -1,6 +1,6 @@
 -- The bases are what the serial run leaves: a law of a guardian's legal journal.
-use Rattle.argus_core.proofs.guardian.Guardian.base_is_serial.Goals as goal
 use Rattle.argus_journal.specs.LegalJournal.{entries_in, opening_in}
+use Rattle.argus_core.proofs.guardian.Guardian.base_is_serial.Goals as goal
 
 pub returns : goal.returns
 returns c =

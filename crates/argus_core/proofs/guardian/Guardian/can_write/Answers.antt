@@ -1,7 +1,7 @@
 -- The journal answers a test for writing by a refusal, or by whether the lock could be had.
 use Rattle.std.proofs.Common.{sym, ◌∙◌}
-use Rattle.argus_core.proofs.{Told.{granted_where, not_granted}, Accesses.access_refused}
-use Rattle.argus_core.proofs.Tests.{writes, test_right, tests}
+use Rattle.argus_core.proofs.{Told.{granted_where, not_granted}, Accesses.access_refused, Tests.{writes, test_right}}
+use Rattle.argus_core.proofs.Tests.{tests}
 use Rattle.argus_core.proofs.guardian.Guardian.can_write.Goals as goal
 
 pub returns-in-Some : goal.returns-in-Some

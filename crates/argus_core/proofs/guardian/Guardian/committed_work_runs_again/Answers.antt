@@ -1,6 +1,6 @@
 -- Committed work, run again, gives its answers again and leaves the bases: a law of a guardian's legal journal.
-use Rattle.argus_core.proofs.guardian.Guardian.committed_work_runs_again.Goals as goal
 use Rattle.argus_journal.specs.LegalJournal.{entries_in, opening_in}
+use Rattle.argus_core.proofs.guardian.Guardian.committed_work_runs_again.Goals as goal
 
 pub returns-clause-answers : goal.returns-clause-answers
 returns-clause-answers c =

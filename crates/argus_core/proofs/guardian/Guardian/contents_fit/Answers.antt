@@ -1,6 +1,6 @@
 -- Bases, and what actions see, fit the objects' shapes: a law of a guardian's legal journal.
-use Rattle.argus_core.proofs.guardian.Guardian.contents_fit.Goals as goal
 use Rattle.argus_journal.specs.LegalJournal.{entries_in, opening_in}
+use Rattle.argus_core.proofs.guardian.Guardian.contents_fit.Goals as goal
 
 pub returns-clause-base : goal.returns-clause-base
 returns-clause-base c =

@@ -1,6 +1,6 @@
 -- Of a writer and any other holder one is the other's ancestor: a law of a guardian's legal journal.
-use Rattle.argus_core.proofs.guardian.Guardian.exclusion.Goals as goal
 use Rattle.argus_journal.specs.LegalJournal.{entries_in, opening_in}
+use Rattle.argus_core.proofs.guardian.Guardian.exclusion.Goals as goal
 
 pub returns-clause-related : goal.returns-clause-related
 returns-clause-related c =

@@ -2,8 +2,8 @@
 use Rattle.std.proofs.Common.{Some, ap, map, ◌∙◌, ◌≡◌}
 use Rattle.argus_actions.specs.declared.action_id.ActionId.{ActionId}
 use Rattle.argus_core.proofs.Told.{cell_there, there}
-use Rattle.argus_core.proofs.guardian.Guardian.holders.Goals as goal
 use Rattle.argus_journal.specs.{LegalJournal.{entries_in, opening_in}, JournalFacts.readers_of}
+use Rattle.argus_core.proofs.guardian.Guardian.holders.Goals as goal
 
 pub returns-in-Some : goal.returns-in-Some
 returns-in-Some c =

@@ -1,8 +1,8 @@
 -- The search in the tree begins at the first action that isn't folded, or where it is asked to.
 use Rattle.std.proofs.Common.{ap, arith, ◌∙◌}
 use Rattle.argus_core.proofs.StatusTold.{first_found, live_found, none_folded, none_found}
-use Rattle.argus_core.proofs.guardian.Guardian.live.Goals as goal
 use Rattle.argus_journal.specs.Opening.{Opening}
+use Rattle.argus_core.proofs.guardian.Guardian.live.Goals as goal
 
 pub returns-then-from-first-clause-live : goal.returns-then-from-first-clause-live
 returns-then-from-first-clause-live c =

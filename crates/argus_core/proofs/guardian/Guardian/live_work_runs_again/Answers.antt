@@ -1,6 +1,6 @@
 -- A live action's work, run behind the committed, gives its answers again: a law of a guardian's legal journal.
-use Rattle.argus_core.proofs.guardian.Guardian.live_work_runs_again.Goals as goal
 use Rattle.argus_journal.specs.LegalJournal.{entries_in, opening_in}
+use Rattle.argus_core.proofs.guardian.Guardian.live_work_runs_again.Goals as goal
 
 pub returns-clause-begins : goal.returns-clause-begins
 returns-clause-begins c =

@@ -2,8 +2,8 @@
 use Rattle.std.proofs.{Common.{ap, map, subst, sym, ◌∙◌, ◌≤◌}, lemmas.List.length-map}
 use Rattle.argus_contents.specs.declared.limits.TheConstants.{MAX_OBJECTS}
 use Rattle.argus_core.proofs.Started.{kept_started}
-use Rattle.argus_core.proofs.guardian.Guardian.starting_at.Goals as goal
 use Rattle.argus_journal.specs.Opening.{KeepsNumbers, Opening, opening_with, plain_object}
+use Rattle.argus_core.proofs.guardian.Guardian.starting_at.Goals as goal
 
 pub invariant_of-result : goal.invariant_of-result
 invariant_of-result c =

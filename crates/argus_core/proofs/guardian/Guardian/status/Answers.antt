@@ -4,6 +4,4 @@ use Rattle.argus_core.proofs.StatusTold.{status_told}
 use Rattle.argus_core.proofs.guardian.Guardian.status.Goals as goal
 
 pub returns : goal.returns
-returns c =
-    rw (← c.self.view_is)
-    (c.status.ensures ∙ status_told c.self.inside.state c.self.invariant c.args.a.0)
+returns c = rw (← c.self.view_is) (c.status.ensures ∙ status_told c.self.inside.state c.self.invariant c.args.a.0)

@@ -1,9 +1,8 @@
 -- The versions in the object's cell are those of the journal.
 use Rattle.std.proofs.Common.{Some, ap, map, sym, ◌∙◌, ◌≡◌}
-use Rattle.argus_core.proofs.Told.{cell_there, in_order, there}
-use Rattle.argus_core.proofs.guardian.Guardian.versions.Goals as goal
-use Rattle.argus_core.specs.Objects.{version_pair}
+use Rattle.argus_core.{proofs.Told.{cell_there, in_order, there}, specs.Objects.version_pair}
 use Rattle.argus_journal.specs.{LegalJournal.{entries_in, opening_in}, JournalFacts.versions_of}
+use Rattle.argus_core.proofs.guardian.Guardian.versions.Goals as goal
 use Rattle.argus_refinement.specs.CellRefinement as laws
 
 pub returns-in-Some : goal.returns-in-Some
