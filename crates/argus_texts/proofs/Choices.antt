@@ -33,20 +33,17 @@ colon_stops k p text a rest r n =
 
 behind_colon : (k : ℕ) (text : List ℕ) (a : ℕ) (next mid : List ℕ) (left : ℕ) → Reads Tags text a next → next ≡ 58 ∷ mid
     → Stops (Parts k) mid left → Stops (Choices k) text left
-behind_colon k text a next mid left r e s =
-    stops_in (decimal a ++ 58 ∷ []) (Parts k) (Choices k)
+behind_colon k text a next mid left r e s = stops_in (decimal a ++ 58 ∷ []) (Parts k) (Choices k)
     (pair_second Tags (Parts k) 58 tag_clear tag_precedes a r.good) text mid left
     (pair_whole Tags 58 text a next mid r e) s
 
 pub part_stops : (k : ℕ) (text : List ℕ) (a : ℕ) (next mid : List ℕ) (left : ℕ) → Reads Tags text a next
     → next ≡ 58 ∷ mid → Stops (Values k) mid left → Stops (Choices k) text left
-part_stops k text a next mid left r e s =
-    behind_colon k text a next mid left r e
+part_stops k text a next mid left r e s = behind_colon k text a next mid left r e
     (stops_behind [] (Values k) (Parts k) (pair_first (Values k) (Word []) 62 (value_then k) tt tt) mid left s)
 
 pub angle_stops : (k : ℕ) (text : List ℕ) (a : ℕ) (next mid : List ℕ) (v : PlainValue) (rest : List ℕ)
     → Reads Tags text a next → next ≡ 58 ∷ mid → Reads (Values k) mid v rest → IsNot 62 rest
     → Stops (Choices k) text (length rest)
-angle_stops k text a next mid v rest r e q n =
-    behind_colon k text a next mid (length rest) r e
+angle_stops k text a next mid v rest r e q n = behind_colon k text a next mid (length rest) r e
     (pair_between (Values k) (Word []) 62 (values_clear k) (value_then k) tt tt mid v rest q n)

@@ -2,15 +2,15 @@
 use Rattle.std.proofs.Common.{◌≡◌, ◌≢◌, ℕ, inl, inr, List, [], ◌∷◌, ◌++◌, length, refl, sym, ap, ◌∙◌, subst}
 use Rattle.std.proofs.Common.{append_assoc, append-nil, arith}
 use Rattle.std.specs.{Prelude.ℤ, Fmt.{decimal, signed_decimal}}
-use Rattle.argus_contents.specs.Value.{PlainValue, PlainValues, none, more, listed}
-use Rattle.argus_contents.specs.{Content.{PlainContent, rec, arr, var}, declared.limits.TheConstants.MAX_VALUE_DEPTH}
+use Rattle.argus_contents.specs.{Value.{PlainValue, PlainValues, none, more, listed}, Content.{PlainContent, rec, arr}}
+use Rattle.argus_contents.specs.{Content.var, declared.limits.TheConstants.MAX_VALUE_DEPTH}
 use Rattle.argus_texts.specs.{ContentSpelling.{content_spelling, PartsWithin}, Fault.IsContentText, Laws.IsReadBack}
 use Rattle.argus_texts.specs.{Language.{Reads, Starts, Stops, First, IsNot}, Spelling.{spelling, inside, AllWithin}}
 use Rattle.argus_texts.specs.Languages.{BeginsInt, Ints, Insides, Choices, Contents, Arrays}
 use Rattle.argus_texts.proofs.{Digits.{one_decimal, ints_clear}, Faults.Accepts, Lists.{tail_of, head_of}}
-use Rattle.argus_texts.proofs.Forms.{int_lead, int_front, one_form, one_inside, value_ends, choice_form}
-use Rattle.argus_texts.proofs.Stops.{Clear, Behind, Among, Precedes, stops_in, stops_behind, stops_among, pair_first}
-use Rattle.argus_texts.proofs.Stops.{pair_second, pair_between, pair_whole}
+use Rattle.argus_texts.proofs.{Forms.{int_lead, int_front, one_form, one_inside, value_ends, choice_form}, Stops.Clear}
+use Rattle.argus_texts.proofs.Stops.{Behind, Among, Precedes, stops_in, stops_behind, stops_among, pair_first}
+use Rattle.argus_texts.proofs.Stops.{pair_second, pair_between, pair_whole, behind_byte, starts_with}
 
 -- the list of values
 unlisted : PlainValues → List PlainValue
@@ -38,10 +38,7 @@ Kind (var t v) c = c ≡ 60
 
 kind_of : (k : ℕ) (e : PlainContent) (c : ℕ) (x y : List ℕ) → PartsWithin k e → c ∷ x ≡ content_spelling e ++ y
     → Kind e c
-kind_of k (rec vs) c x y w e = head_of e
-kind_of k (arr low vs) c x y w e =
-    int_lead low c x _ w.0 (e ∙ append_assoc (signed_decimal low) (91 ∷ inside 93 (listed vs)) y)
-kind_of k (var t v) c x y w e = head_of e
+kind_of k p c x y w e = grind (arith, head_of, int_lead, append_assoc)
 
 abbrev Front : List ℕ → Type 0
 Front form = (c : ℕ) × (ds : List ℕ) × (form ≡ c ∷ ds)
@@ -54,21 +51,14 @@ front_of k (var t v) w = (60, decimal t ++ 58 ∷ (spelling v ++ 62 ∷ []), ref
 
 both_kinds : (k : ℕ) (d e : PlainContent) (x y : List ℕ) → PartsWithin k d → PartsWithin k e
     → content_spelling d ++ x ≡ content_spelling e ++ y → (c : ℕ) × Kind d c × Kind e c
-both_kinds k d e x y w v q =
-    let f = front_of k d w in (
-      f.0,
-      kind_of k d f.0 f.1 [] w (sym f.2 ∙ sym (append-nil (content_spelling d))),
-      kind_of k e f.0 (f.1 ++ x) y v
-          (sym (ap (λ (z : List ℕ). z ++ x) f.2) ∙ q),
-    )
+both_kinds k d e x y w v q = grind (arith, front_of, kind_of, append-nil)
 
 pub one_content : (k : ℕ) (d e : PlainContent) (x y : List ℕ) → PartsWithin k d → PartsWithin k e
     → content_spelling d ++ x ≡ content_spelling e ++ y → (d ≡ e) × (x ≡ y)
 one_content k (rec ds) (rec es) x y w v e =
     let r = one_inside k 125 (inr refl) (listed ds) (listed es) x y w v (tail_of e) in
     (ap rec (same_list ds es r.0), r.1)
-one_content k (arr m ds) (arr n es) x y w v e =
-    let both : signed_decimal m ++ 91 ∷ (inside 93 (listed ds) ++ x)
+one_content k (arr m ds) (arr n es) x y w v e = let both : signed_decimal m ++ 91 ∷ (inside 93 (listed ds) ++ x)
     ≡ signed_decimal n ++ 91 ∷ (inside 93 (listed es) ++ y) =
     sym (append_assoc (signed_decimal m) (91 ∷ inside 93 (listed ds)) x) ∙ e
     ∙ append_assoc (signed_decimal n) (91 ∷ inside 93 (listed es)) y in
@@ -91,10 +81,7 @@ contents_clear k =
     record { one = λ d e x y w v p q i. one_content k d e x y w v i; nil = λ d. tt; first = λ d c x y e. tt }
 
 pub content_texts : Accepts (Contents 16) IsContentText
-content_texts = record {
-  from = λ u f. record { content = f.thing; within = f.good; is = f.is };
-  to = λ u a. record { thing = a.content; good = a.within; is = a.is };
-}
+content_texts = grind arith
 
 -- a content that the reader takes is read back
 pub read_back : (c : PlainContent) → PartsWithin MAX_VALUE_DEPTH c → IsReadBack c
@@ -107,45 +94,24 @@ read_back c w = (
 
 brace_starts : (k : ℕ) (e : PlainContent) (u y : List ℕ) → PartsWithin k e → 123 ∷ u ≡ content_spelling e ++ y
     → Starts (Insides 125 k) u
-brace_starts k (rec vs) u y w i =
-    record { thing = listed vs; rest = y; reads = record { good = w; ends = tt; is = tail_of i } }
-brace_starts k e u y w i = let l = kind_of k e 123 u y w i in absurd (omega arith)
+brace_starts k p u y w i = grind (arith, starts_with, tail_of, kind_of)
 
 pub record_brace : (k : ℕ) → Behind (123 ∷ []) (Insides 125 k) (Contents k)
-record_brace k = record {
-  forms = λ u t f. (
-    t,
-    record {
-      thing = rec (unlisted f.thing);
-      good = subst (AllWithin k) (sym (listed_unlisted f.thing)) f.good;
-      is = ap (λ x. 123 ∷ x) (f.is ∙ ap (inside 125) (sym (listed_unlisted f.thing)));
-    },
-  );
-  starts = λ u s. brace_starts k s.thing u s.rest s.reads.good s.reads.is;
-}
+record_brace k = behind_byte 123 _ _ (λ vs g. (
+  rec (unlisted vs),
+  subst (AllWithin k) (sym (listed_unlisted vs)) g,
+  ap (λ ws. 123 ∷ inside 125 ws) (listed_unlisted vs),
+)) (λ e u y w v i. brace_starts k e u y w i)
 
 angle_starts : (k : ℕ) (e : PlainContent) (u y : List ℕ) → PartsWithin k e → 60 ∷ u ≡ content_spelling e ++ y
     → Starts (Choices k) u
 angle_starts k (var t v) u y w i =
-    record {
-      thing = (t, (v, tt));
-      rest = y;
-      reads = record { good = ((omega arith, omega (arith, w.0)), (w.1, tt)); ends = tt; is = tail_of i };
-    }
+    starts_with _ (t, (v, tt)) u y ((omega arith, omega (arith, w.0)), (w.1, tt)) tt (tail_of i)
 angle_starts k e u y w i = let l = kind_of k e 60 u y w i in absurd (omega arith)
 
 pub variant_angle : (k : ℕ) → Behind (60 ∷ []) (Choices k) (Contents k)
-variant_angle k = record {
-  forms = λ u t f. (
-    t,
-    record {
-      thing = var f.thing.0 f.thing.1.0;
-      good = (omega (arith, f.good.0.1), f.good.1.0);
-      is = ap (λ x. 60 ∷ x) f.is;
-    },
-  );
-  starts = λ u s. angle_starts k s.thing u s.rest s.reads.good s.reads.is;
-}
+variant_angle k = behind_byte 60 _ _ (λ t g. (var t.0 t.1.0, (omega (arith, g.0.1), g.1.0), refl))
+    (λ e u y w v i. angle_starts k e u y w i)
 
 -- ARRAYS
 
@@ -158,8 +124,7 @@ array_starts k (rec vs) [] y n w i = cc
 array_starts k (rec vs) (c ∷ u) y n w i = absurd (n.0 (head_of i))
 array_starts k (var t v) [] y n w i = cc
 array_starts k (var t v) (c ∷ u) y n w i = absurd (n.1 (head_of i))
-array_starts k (arr low vs) u y n w i =
-    record { thing = (low, listed vs); rest = y; reads = record { good = (w.0, w.1); ends = tt; is = i } }
+array_starts k (arr low vs) u y n w i = starts_with _ (low, listed vs) u y (w.0, w.1) tt i
 
 arrays : (k : ℕ) → Among BeginsNeither (Arrays k) (Contents k)
 arrays k = record {
@@ -172,8 +137,7 @@ arrays k = record {
 }
 
 pub neither : (x : List ℕ) → IsNot 123 x → IsNot 60 x → First BeginsNeither x
-neither [] p q = tt
-neither (c ∷ x) p q = (p, q)
+neither r p q = grind arith
 
 array_stops : (k : ℕ) (text : List ℕ) (left : ℕ) → First BeginsNeither text → Stops (Arrays k) text left
     → Stops (Contents k) text left
@@ -184,20 +148,17 @@ int_precedes = λ a y. inr (omega arith)
 
 pub low_stops : (k : ℕ) (text : List ℕ) (left : ℕ) → First BeginsNeither text → Stops Ints text left
     → Stops (Contents k) text left
-low_stops k text left n s =
-    array_stops k text left n
+low_stops k text left n s = array_stops k text left n
     (stops_behind [] Ints (Arrays k) (pair_first Ints (Insides 93 k) 91 int_precedes none tt) text left s)
 
 pub bracket_stops : (k : ℕ) (text : List ℕ) (a : ℤ) (rest : List ℕ) → First BeginsNeither text → Reads Ints text a rest
     → IsNot 91 rest → Stops (Contents k) text (length rest)
-bracket_stops k text a rest n r b =
-    array_stops k text (length rest) n
+bracket_stops k text a rest n r b = array_stops k text (length rest) n
     (pair_between Ints (Insides 93 k) 91 ints_clear int_precedes none tt text a rest r b)
 
 pub items_stops : (k : ℕ) (text : List ℕ) (a : ℤ) (next mid : List ℕ) (left : ℕ) → First BeginsNeither text
     → Reads Ints text a next → next ≡ 91 ∷ mid → Stops (Insides 93 k) mid left → Stops (Contents k) text left
-items_stops k text a next mid left n r e s =
-    array_stops k text left n
+items_stops k text a next mid left n r e s = array_stops k text left n
     (stops_in (signed_decimal a ++ 91 ∷ []) (Insides 93 k) (Arrays k)
     (pair_second Ints (Insides 93 k) 91 ints_clear int_precedes a r.good) text mid left
     (pair_whole Ints 91 text a next mid r e) s)

@@ -2,7 +2,7 @@
 use Rattle.std.proofs.Common.{◌≡◌, ℕ, zero, suc, ◌<◌, ◌≤◌, ◌-◌, List, [], ◌∷◌, ◌++◌, length, take, refl, sym, ap, ◌∙◌}
 use Rattle.std.proofs.Common.{subst, append-nil, append_assoc, length-append, arith}
 use Rattle.argus_texts.specs.{Fault.{Begins, IsFault}, Language.{Language, FormOf, Reads, Starts, NoWay, Stops}}
-use Rattle.argus_texts.proofs.Stops.{Clear}
+use Rattle.argus_texts.proofs.Stops.{Clear, starts_with}
 
 -- no accepted text goes on as back does
 abbrev NoForm : (List ℕ → Type 0) → List ℕ → List ℕ → Type 0
@@ -22,8 +22,7 @@ take_more (d ∷ front) back c zero h = absurd (omega arith)
 take_more (d ∷ front) back c (suc n) h = let r = take_more front back c n (omega arith) in (r.0, ap (λ x. d ∷ x) r.1)
 
 fault_refused : (A : List ℕ → Type 0) (front back : List ℕ) → NoForm A front back → A (front ++ back) → ⊥
-fault_refused A front [] h f = h (subst A (append-nil front) f)
-fault_refused A front (c ∷ back) h f = h back f
+fault_refused p front q h f = grind (arith, append-nil)
 
 fault_longest : (A : List ℕ → Type 0) (front back : List ℕ) → NoForm A front back → (n : ℕ) → length front < n
     → n ≤ length (front ++ back) → Begins A (take n (front ++ back)) → ⊥
@@ -47,8 +46,7 @@ left_over front back = omega (arith, length-append front back)
 
 fault_from : (A : List ℕ → Type 0) (text front back : List ℕ) → text ≡ front ++ back → Begins A front
     → NoForm A front back → IsFault A text (length text - length back)
-fault_from A text front back e b h =
-    subst (λ x. IsFault A x (length x - length back)) (sym e)
+fault_from A text front back e b h = subst (λ x. IsFault A x (length x - length back)) (sym e)
     (subst (IsFault A (front ++ back)) (sym (left_over front back)) (fault_at A front back b h))
 
 -- the forms of L are what is accepted
@@ -57,12 +55,7 @@ pub record Accepts (L : Language) (A : List ℕ → Type 0) : Type 0 where
   pub to : (u : List ℕ) → A u → FormOf L u
 
 starts_form : (L : Language) → Clear L → (u : List ℕ) → FormOf L u → Starts L u
-starts_form L k u f =
-    record {
-      thing = f.thing;
-      rest = [];
-      reads = record { good = f.good; ends = k.nil f.thing; is = f.is ∙ sym (append-nil (L.form f.thing)) };
-    }
+starts_form L k u f = starts_with L f.thing u [] f.good (k.nil f.thing) (f.is ∙ sym (append-nil (L.form f.thing)))
 
 no_form_from : (L : Language) (A : List ℕ → Type 0) → Clear L → Accepts L A → (front back : List ℕ) → NoWay L front back
     → NoForm A front back
@@ -72,8 +65,7 @@ no_form_from L A k a front (c ∷ back) h =
 
 stops_fault : (L : Language) (A : List ℕ → Type 0) → Clear L → Accepts L A → (text : List ℕ) (left : ℕ)
     → Stops L text left → IsFault A text (length text - left)
-stops_fault L A k a text left s =
-    subst (λ n. IsFault A text (length text - n)) s.count
+stops_fault L A k a text left s = subst (λ n. IsFault A text (length text - n)) s.count
     (fault_from A text s.front s.back s.whole (s.more, a.from (s.front ++ s.more) s.way)
     (no_form_from L A k a s.front s.back s.no_way))
 
@@ -96,8 +88,7 @@ after_way L A k a d c rest g e more h =
 after_fault : (L : Language) (A : List ℕ → Type 0) → Clear L → Accepts L A → (d : L.Thing) (text rest : List ℕ)
     → Reads L text d rest → 0 < length rest → IsFault A text (length text - length rest)
 after_fault L A k a d text [] r h = absurd (omega arith)
-after_fault L A k a d text (c ∷ rest) r h =
-    fault_from A text (L.form d) (c ∷ rest) r.is
+after_fault L A k a d text (c ∷ rest) r h = fault_from A text (L.form d) (c ∷ rest) r.is
     ([], a.from (L.form d ++ []) (record { thing = d; good = r.good; is = append-nil (L.form d) }))
     (after_way L A k a d c rest r.good r.ends)
 
@@ -106,9 +97,3 @@ pub left_behind : (L : Language) (A : List ℕ → Type 0) → Clear L → Accep
     → Reads L text d rest → 0 < length rest → (length rest ≤ length text) × IsFault A text (length text - length rest)
 left_behind L A k a d text rest r h =
     (omega (arith, ap length r.is, length-append (L.form d) rest), after_fault L A k a d text rest r h)
-
--- a form was read, and nothing comes behind it
-pub whole_form : (L : Language) (d : L.Thing) (text rest : List ℕ) → Reads L text d rest → length rest ≡ 0
-    → text ≡ L.form d
-whole_form L d text [] r h = r.is ∙ append-nil (L.form d)
-whole_form L d text (c ∷ rest) r h = absurd (omega arith)

@@ -1,25 +1,18 @@
 -- A value is no deeper than its type.
 use Rattle.std.proofs.{Common.{◌≡◌, ℕ, zero, suc, ◌≤◌, ◌<◌, ◌-◌, true, arith}, lemmas.Bool.{and_parts, false≢true}}
-use Rattle.argus_contents.specs.{Content.{PlainContent, is_within}, Fitting.is_fitting, Ty.more}
-use Rattle.argus_contents.specs.Shape.{PlainShape, rec, arr, var, depth_of, deepest_of, depth_in, IsMakeable}
-use Rattle.argus_contents.specs.Ty.{PlainTy, PlainFields, null, bool, int, text, atomic, sequence, fields, choice, none}
-use Rattle.argus_contents.specs.Typing.{is_typed, all_typed, each_typed, is_typed_at}
-use Rattle.argus_contents.specs.{Value.{PlainValue, PlainValues, listed}, declared.limits.TheConstants.MAX_VALUE_DEPTH}
-use Rattle.argus_contents.specs.Content as content
-use Rattle.argus_contents.specs.Value as value
+use Rattle.argus_contents.specs.{Content.PlainContent, Fitting.is_fitting, Ty.{more, PlainTy, PlainFields, null, bool}}
+use Rattle.argus_contents.specs.{Ty.{int, text, atomic, sequence, fields, choice, none}, Shape.{PlainShape, rec, arr}}
+use Rattle.argus_contents.specs.{Shape.{var, depth_of, deepest_of, depth_in, IsMakeable}, Typing.{is_typed, all_typed}}
+use Rattle.argus_contents.specs.{Typing.{each_typed, is_typed_at}, Value.{PlainValue, PlainValues, listed}}
+use Rattle.argus_contents.specs.declared.limits.TheConstants.{MAX_VALUE_DEPTH}
 use Rattle.argus_texts.specs.{ContentSpelling.PartsWithin, Spelling.{Within, AllWithin}}
 use Rattle.argus_texts.proofs.Makeable.{makeable_depth}
-use Rattle.std.specs.Prelude.{length}
+use Rattle.argus_contents.specs.Content as content
+use Rattle.argus_contents.specs.Value as value
 
 has_depth : (t : PlainTy) → 0 < depth_of t
 has_depth null = omega arith
-has_depth bool = omega arith
-has_depth int = omega arith
-has_depth text = omega arith
-has_depth atomic = omega arith
-has_depth (sequence x) = omega arith
-has_depth (fields fs) = omega arith
-has_depth (choice fs) = omega arith
+has_depth t = omega arith
 
 -- the type of a tag's value
 record TagType (fs : PlainFields) (n : ℕ) (v : PlainValue) : Type 0 where
@@ -30,9 +23,7 @@ record TagType (fs : PlainFields) (n : ℕ) (v : PlainValue) : Type 0 where
 tag_type : (fs : PlainFields) (t n : ℕ) (v : PlainValue) → is_typed_at fs t n v ≡ true → TagType fs n v
 tag_type none t n v e = absurd (false≢true e)
 tag_type (more name x fs) zero n v e = record { type = x; typed = e; depth = omega arith }
-tag_type (more name x fs) (suc t) n v e =
-    let r = tag_type fs t n v e in let d = r.depth in
-    record { type = r.type; typed = r.typed; depth = omega arith }
+tag_type (more name x fs) (suc t) n v e = grind (arith, tag_type fs t n v e)
 
 mutual
   -- a value of a type is as deep as the type at most
@@ -50,27 +41,7 @@ mutual
   typed_within (choice fs) n d k (value.choice t v) e l w =
       let r = tag_type fs t n v e in let m = r.depth in
       (omega arith, w.1, typed_within r.type n (d - 1) (k - 1) v r.typed (omega arith) w.2)
-  typed_within null n d k (value.sequence vs) e l w = absurd (false≢true e)
-  typed_within bool n d k (value.sequence vs) e l w = absurd (false≢true e)
-  typed_within int n d k (value.sequence vs) e l w = absurd (false≢true e)
-  typed_within text n d k (value.sequence vs) e l w = absurd (false≢true e)
-  typed_within atomic n d k (value.sequence vs) e l w = absurd (false≢true e)
-  typed_within (fields fs) n d k (value.sequence vs) e l w = absurd (false≢true e)
-  typed_within (choice fs) n d k (value.sequence vs) e l w = absurd (false≢true e)
-  typed_within null n d k (value.fields vs) e l w = absurd (false≢true e)
-  typed_within bool n d k (value.fields vs) e l w = absurd (false≢true e)
-  typed_within int n d k (value.fields vs) e l w = absurd (false≢true e)
-  typed_within text n d k (value.fields vs) e l w = absurd (false≢true e)
-  typed_within atomic n d k (value.fields vs) e l w = absurd (false≢true e)
-  typed_within (sequence x) n d k (value.fields vs) e l w = absurd (false≢true e)
-  typed_within (choice fs) n d k (value.fields vs) e l w = absurd (false≢true e)
-  typed_within null n d k (value.choice t v) e l w = absurd (false≢true e)
-  typed_within bool n d k (value.choice t v) e l w = absurd (false≢true e)
-  typed_within int n d k (value.choice t v) e l w = absurd (false≢true e)
-  typed_within text n d k (value.choice t v) e l w = absurd (false≢true e)
-  typed_within atomic n d k (value.choice t v) e l w = absurd (false≢true e)
-  typed_within (sequence x) n d k (value.choice t v) e l w = absurd (false≢true e)
-  typed_within (fields fs) n d k (value.choice t v) e l w = absurd (false≢true e)
+  typed_within t n d k v e l w = absurd (false≢true e)
 
   all_within : (x : PlainTy) (n d k : ℕ) (vs : PlainValues) → all_typed x n vs ≡ true → depth_of x ≤ d
       → AllWithin k vs → AllWithin d vs
@@ -96,16 +67,9 @@ typed_at_within fs t n d k v e l w =
 fitting_within : (s : PlainShape) (n d k : ℕ) (c : PlainContent) → depth_in s ≤ d → is_fitting s n c ≡ true
     → PartsWithin k c → PartsWithin d c
 fitting_within (rec fs) n d k (content.rec vs) l e w = each_within fs n d k (listed vs) e l w
-fitting_within (arr t) n d k (content.arr low vs) l e w =
-    let p = and_parts (is_within low (length vs)) (all_typed t n (listed vs)) e in
-    (w.0, all_within t n d k (listed vs) p.1 l w.1)
+fitting_within (arr t) n d k (content.arr low vs) l e w = grind (arith, and_parts, all_within)
 fitting_within (var fs) n d k (content.var t v) l e w = (w.0, typed_at_within fs t n d k v e l w.1)
-fitting_within (rec fs) n d k (content.arr low vs) l e w = absurd (false≢true e)
-fitting_within (rec fs) n d k (content.var t v) l e w = absurd (false≢true e)
-fitting_within (arr x) n d k (content.rec vs) l e w = absurd (false≢true e)
-fitting_within (arr x) n d k (content.var t v) l e w = absurd (false≢true e)
-fitting_within (var fs) n d k (content.rec vs) l e w = absurd (false≢true e)
-fitting_within (var fs) n d k (content.arr low vs) l e w = absurd (false≢true e)
+fitting_within s n d k c l e w = absurd (false≢true e)
 
 -- a content that fits a shape that can be made is as deep as the reader takes it
 pub fitting_depth : (s : PlainShape) (n k : ℕ) (c : PlainContent) → IsMakeable s → is_fitting s n c ≡ true

@@ -22,45 +22,18 @@ Lead (fields vs) c = c ≡ 123
 Lead (choice t v) c = c ≡ 60
 
 pub int_lead : (z : ℤ) (c : ℕ) (x y : List ℕ) → IsI64 z → c ∷ x ≡ signed_decimal z ++ y → BeginsInt c
-int_lead (pos n) c x y g e =
-    let d : (48 ≤ c) × (c ≤ 57) = first_digit n c x y (omega arith) e in
-    (omega arith, d.1, omega arith, omega arith)
-int_lead (negsuc n) c x y g e =
-    let h : c ≡ 45 = head_of e in
-    (omega arith, omega arith, omega arith, omega arith)
+int_lead p c x y g e = grind (arith, first_digit, head_of)
 
 pub lead_of : (k : ℕ) (e : PlainValue) (c : ℕ) (x y : List ℕ) → Within k e → c ∷ x ≡ spelling e ++ y → Lead e c
-lead_of k null c x y w e = head_of e
-lead_of k (bool true) c x y w e = head_of e
-lead_of k (bool false) c x y w e = head_of e
-lead_of k (int n) c x y w e = int_lead n c x y w.1 e
-lead_of k (text t) c x y w e = head_of e
-lead_of k (atomic o) c x y w e = head_of e
-lead_of k (sequence vs) c x y w e = head_of e
-lead_of k (fields vs) c x y w e = head_of e
-lead_of k (choice t v) c x y w e = head_of e
+lead_of k p c x y w e = grind (arith, head_of, int_lead)
 
 -- the same, without telling the two truth values apart
 abbrev pub Kind : PlainValue → ℕ → Type 0
-Kind null c = c ≡ 110
 Kind (bool b) c = (102 ≤ c) × (c ≤ 116) × (c ≢ 110)
-Kind (int n) c = BeginsInt c
-Kind (text t) c = c ≡ 34
-Kind (atomic o) c = c ≡ 64
-Kind (sequence vs) c = c ≡ 91
-Kind (fields vs) c = c ≡ 123
-Kind (choice t v) c = c ≡ 60
+Kind v c = Lead v c
 
 kind_from : (e : PlainValue) (c : ℕ) → Lead e c → Kind e c
-kind_from null c l = l
-kind_from (bool true) c l = (omega arith, omega arith, omega arith)
-kind_from (bool false) c l = (omega arith, omega arith, omega arith)
-kind_from (int n) c l = l
-kind_from (text t) c l = l
-kind_from (atomic o) c l = l
-kind_from (sequence vs) c l = l
-kind_from (fields vs) c l = l
-kind_from (choice t v) c l = l
+kind_from p c l = grind arith
 
 pub kind_of : (k : ℕ) (e : PlainValue) (c : ℕ) (x y : List ℕ) → Within k e → c ∷ x ≡ spelling e ++ y → Kind e c
 kind_of k e c x y w i = kind_from e c (lead_of k e c x y w i)
@@ -84,9 +57,7 @@ front_of k (fields vs) w = (123, inside 125 vs, refl)
 front_of k (choice t v) w = (60, decimal t ++ 58 ∷ (spelling v ++ 62 ∷ []), refl)
 
 pub some_form : (k : ℕ) (d : PlainValue) (y : List ℕ) → Within k d → [] ≡ spelling d ++ y → ⊥
-some_form k d y w e =
-    let f = front_of k d w in
-    let g : [] ≡ f.0 ∷ (f.1 ++ y) = e ∙ ap (λ (x : List ℕ). x ++ y) f.2 in cc
+some_form k d y w e = grind (arith, front_of)
 
 -- no value's form begins with the byte
 pub record NoLead (c : ℕ) : Type 0 where
@@ -96,25 +67,11 @@ pub record NoLead (c : ℕ) : Type 0 where
   pub no_choice : c ≢ 60
 
 pub no_lead : (d : PlainValue) (c : ℕ) → NoLead c → Lead d c → ⊥
-no_lead null c n l = n.no_scalar.0 l
-no_lead (bool true) c n l = n.no_scalar.1 l
-no_lead (bool false) c n l = n.no_scalar.2 l
-no_lead (int i) c n l = n.no_scalar.5 l
-no_lead (text t) c n l = n.no_scalar.3 l
-no_lead (atomic o) c n l = n.no_scalar.4 l
-no_lead (sequence vs) c n l = n.no_sequence l
-no_lead (fields vs) c n l = n.no_fields l
-no_lead (choice t v) c n l = n.no_choice l
+no_lead p c n l = grind arith
 
 -- a closing byte begins no value's form
 pub close_no_lead : (c : ℕ) → IsClose c → NoLead c
-close_no_lead c h = record {
-  no_scalar =
-      (omega (arith, h), omega (arith, h), omega (arith, h), omega (arith, h), omega (arith, h), λ b. omega (arith, h));
-  no_sequence = omega (arith, h);
-  no_fields = omega (arith, h);
-  no_choice = omega (arith, h);
-}
+close_no_lead c h = grind arith
 
 pub close_no_digit : (c : ℕ) → IsClose c → IsNoDigit c
 close_no_digit c h = inr (omega (arith, h))
@@ -133,47 +90,26 @@ no_digit_behind close i (more d vs) x = inl (omega arith)
 
 -- what may follow a value depends on its first byte alone
 pub value_ends : (d : PlainValue) (x : List ℕ) → NotDigit x → ValueEnds d x
-value_ends null x n = tt
-value_ends (bool b) x n = tt
-value_ends (int i) x n = n
-value_ends (text t) x n = tt
-value_ends (atomic o) x n = n
-value_ends (sequence vs) x n = tt
-value_ends (fields vs) x n = tt
-value_ends (choice t v) x n = tt
+value_ends p x n = grind arith
 
 pub ends_behind : (close : ℕ) → IsClose close → (d : PlainValue) (vs : PlainValues) (x : List ℕ)
     → ValueEnds d (behind close vs ++ x)
 ends_behind close i d vs x = value_ends d (behind close vs ++ x) (no_digit_behind close i vs x)
 
 pub ends_first : (d : PlainValue) (c : ℕ) (x y : List ℕ) → ValueEnds d (c ∷ x) → ValueEnds d (c ∷ y)
-ends_first null c x y e = tt
-ends_first (bool b) c x y e = tt
-ends_first (int i) c x y e = e
-ends_first (text t) c x y e = tt
-ends_first (atomic o) c x y e = e
-ends_first (sequence vs) c x y e = tt
-ends_first (fields vs) c x y e = tt
-ends_first (choice t v) c x y e = tt
+ends_first p c x y e = grind arith
 
 pub value_precedes : (k c : ℕ) → IsNoDigit c → Precedes (Values k) c
 value_precedes k c n = λ d y. value_ends d (c ∷ y) n
 
 both_kinds : (k : ℕ) (d e : PlainValue) (x y : List ℕ) → Within k d → Within k e → spelling d ++ x ≡ spelling e ++ y
     → (c : ℕ) × Kind d c × Kind e c
-both_kinds k d e x y w v q =
-    let f = front_of k d w in (
-      f.0,
-      kind_of k d f.0 f.1 [] w (sym f.2 ∙ sym (append-nil (spelling d))),
-      kind_of k e f.0 (f.1 ++ x) y v
-          (sym (ap (λ (z : List ℕ). z ++ x) f.2) ∙ q),
-    )
+both_kinds k d e x y w v q = grind (arith, front_of, kind_of, append-nil)
 
 -- a tag's form, a value's and what comes behind them
 pub choice_form : (t : ℕ) (v : PlainValue) (x : List ℕ)
     → (decimal t ++ 58 ∷ (spelling v ++ 62 ∷ [])) ++ x ≡ decimal t ++ 58 ∷ (spelling v ++ 62 ∷ x)
-choice_form t v x =
-    append_assoc (decimal t) (58 ∷ (spelling v ++ 62 ∷ [])) x
+choice_form t v x = append_assoc (decimal t) (58 ∷ (spelling v ++ 62 ∷ [])) x
     ∙ ap (λ z. decimal t ++ 58 ∷ z) (append_assoc (spelling v) (62 ∷ []) x)
 
 mutual
@@ -225,8 +161,7 @@ mutual
   one_behind k close i (more d ds) none x y w v e = absurd (close_no_comma close i (head_of e))
   one_behind k close i (more d ds) (more f es) x y w v e =
       let both : spelling d ++ (behind close ds ++ x) ≡ spelling f ++ (behind close es ++ y) =
-      sym (append_assoc (spelling d) (behind close ds) x) ∙ tail_of e
-      ∙ append_assoc (spelling f) (behind close es) y in
+      sym (append_assoc (spelling d) (behind close ds) x) ∙ tail_of e ∙ append_assoc (spelling f) (behind close es) y in
       let r = one_form k d f (behind close ds ++ x) (behind close es ++ y) w.0 v.0 (ends_behind close i d ds x)
       (ends_behind close i f es y) both in
       let s = one_behind k close i ds es x y w.1 v.1 r.1 in

@@ -1,7 +1,7 @@
 -- Texts that had bytes appended.
 use Rattle.std.proofs.Common.{◌≡◌, ℕ, List, [], ◌∷◌, ◌++◌, length, take, refl, sym, ap, ◌∙◌, subst, append_assoc}
-use Rattle.std.proofs.Common.{length-append, String, string_bytes, rules, arith}
-use Rattle.std.proofs.lemmas.Str.{IsCharBoundary-from_take, IsUtf8-string_bytes}
+use Rattle.std.proofs.{Common.{length-append, String, string_bytes, rules, arith}, lemmas.Str.IsCharBoundary-from_take}
+use Rattle.std.proofs.lemmas.Str.{IsUtf8-string_bytes}
 use Rattle.std.specs.{String.string_len, declared.alloc.Global.Global, Str.{IsUtf8, IsCharBoundary}, Fmt.decimal}
 use Rattle.argus_memory.specs.declared.limited.Limited.{Limited}
 use Rattle.argus_contents.specs.Value.{PlainValue, choice, listed}
@@ -25,8 +25,7 @@ len_is s = search (rules, arith)
 -- a string that grew may be cut back to the length that it had
 pub cut_back : (old new : String (Limited Global)) (len : ℕ) → len ≡ string_len old
     → Grew (string_bytes old) (string_bytes new) → IsCharBoundary (string_bytes new) len
-cut_back old new len e g =
-    subst (IsCharBoundary (string_bytes new)) (len_is old ∙ sym e)
+cut_back old new len e g = subst (IsCharBoundary (string_bytes new)) (len_is old ∙ sym e)
     (cut_at_end (string_bytes old) (string_bytes new) (IsUtf8-string_bytes old) (IsUtf8-string_bytes new) g)
 
 regroup : (o p e b q : List ℕ) → ((o ++ p) ++ e) ++ (b ++ q) ≡ o ++ ((p ++ (e ++ b)) ++ q)
@@ -36,11 +35,7 @@ regroup o p e b q = simp append_assoc
 pub quoted_step : (out plain rest others behind target : List ℕ) (first : ℕ) → rest ≡ plain ++ others
     → others ≡ first ∷ behind → escaped plain ≡ plain → out ++ (escaped rest ++ 34 ∷ []) ≡ target
     → ((out ++ plain) ++ escape first) ++ (escaped behind ++ 34 ∷ []) ≡ target
-quoted_step out plain rest others behind target first p q r i =
-    let e : escaped rest ≡ plain ++ (escape first ++ escaped behind) =
-    ap escaped (p ∙ ap (λ x. plain ++ x) q) ∙ escaped-append plain (first ∷ behind)
-    ∙ ap (λ x. x ++ (escape first ++ escaped behind)) r in
-    regroup out plain (escape first) (escaped behind) (34 ∷ []) ∙ ap (λ x. out ++ (x ++ 34 ∷ [])) (sym e) ∙ i
+quoted_step out plain rest others behind target first p q r i = grind (arith, escaped-append, regroup)
 
 regroup_choice : (o d s : List ℕ) → ((o ++ 60 ∷ (d ++ 58 ∷ [])) ++ s) ++ 62 ∷ [] ≡ o ++ 60 ∷ (d ++ 58 ∷ (s ++ 62 ∷ []))
 regroup_choice o d s = simp append_assoc
@@ -54,14 +49,12 @@ choice_step old mid out t v e f =
 behind_commas : (close : ℕ) (vs ws : List PlainValue)
     → behind close (listed (vs ++ ws)) ≡ commas (listed vs) ++ behind close (listed ws)
 behind_commas close [] ws = refl
-behind_commas close (v ∷ vs) ws =
-    ap (λ x. 44 ∷ (spelling v ++ x)) (behind_commas close vs ws)
+behind_commas close (v ∷ vs) ws = ap (λ x. 44 ∷ (spelling v ++ x)) (behind_commas close vs ws)
     ∙ ap (λ x. 44 ∷ x) (sym (append_assoc (spelling v) (commas (listed vs)) (behind close (listed ws))))
 
 behind_last : (close : ℕ) (vs : List PlainValue) → behind close (listed vs) ≡ commas (listed vs) ++ close ∷ []
 behind_last close [] = refl
-behind_last close (v ∷ vs) =
-    ap (λ x. 44 ∷ (spelling v ++ x)) (behind_last close vs)
+behind_last close (v ∷ vs) = ap (λ x. 44 ∷ (spelling v ++ x)) (behind_last close vs)
     ∙ ap (λ x. 44 ∷ x) (sym (append_assoc (spelling v) (commas (listed vs)) (close ∷ [])))
 
 regroup_items : (o s a b z : List ℕ) → (((o ++ s) ++ a) ++ b) ++ z ≡ o ++ (s ++ (a ++ (b ++ z)))
@@ -71,8 +64,4 @@ regroup_items o s a b z = simp append_assoc
 pub items_step : (old one two out : List ℕ) (v : PlainValue) (vs ws : List PlainValue) → one ≡ old ++ spelling v
     → two ≡ one ++ commas (listed vs) → out ≡ two ++ commas (listed ws)
     → out ++ 93 ∷ [] ≡ old ++ inside 93 (listed (v ∷ (vs ++ ws)))
-items_step old one two out v vs ws e f g =
-    ap (λ x. x ++ 93 ∷ []) (g ∙ ap (λ x. x ++ commas (listed ws)) (f ∙ ap (λ x. x ++ commas (listed vs)) e))
-    ∙ regroup_items old (spelling v) (commas (listed vs)) (commas (listed ws)) (93 ∷ [])
-    ∙ ap (λ x. old ++ (spelling v ++ x))
-    (ap (λ x. commas (listed vs) ++ x) (sym (behind_last 93 ws)) ∙ sym (behind_commas 93 vs ws))
+items_step old one two out v vs ws e f g = grind (arith, regroup_items, behind_last, behind_commas)

@@ -1,14 +1,13 @@
 -- Where reading a list of values stops, and what is read of it.
-use Rattle.std.proofs.Common.{◌≡◌, ◌≢◌, ℕ, ◌≤◌, inl, inr, List, [], ◌∷◌, ◌++◌, length, refl, sym, ap, ◌∙◌, subst}
+use Rattle.std.proofs.Common.{◌≡◌, ◌≢◌, ℕ, ◌≤◌, inl, List, [], ◌∷◌, ◌++◌, length, refl, sym, ap, ◌∙◌, subst}
 use Rattle.std.proofs.{Common.{append_assoc, append-nil, arith}, lemmas.List.map-append}
 use Rattle.argus_contents.specs.Value.{PlainValue, PlainValues, none, more, listed, plain_value, plain_list}
 use Rattle.argus_contents.specs.declared.value.Value.{Value}
-use Rattle.argus_texts.specs.Language.{Reads, Starts, NoWay, Stops, First}
-use Rattle.argus_texts.specs.Languages.{ValueEnds, IsClose, Values, Insides, Items}
-use Rattle.argus_texts.specs.Spelling.{spelling, inside, behind, Within, AllWithin}
-use Rattle.argus_texts.proofs.{Lists.{tail_of, head_of}, Values.none_within}
-use Rattle.argus_texts.proofs.Forms.{close_no_comma, one_form, ends_behind, ends_first, value_ends}
-use Rattle.argus_texts.proofs.Stops.{Behind, Among, stops_now, stops_in, stops_behind, stops_among}
+use Rattle.argus_texts.specs.{Language.{Reads, Starts, NoWay, Stops, First}, Languages.{ValueEnds, IsClose, Values}}
+use Rattle.argus_texts.specs.{Languages.{Insides, Items}, Spelling.{spelling, inside, behind, Within, AllWithin}}
+use Rattle.argus_texts.proofs.{Lists.{tail_of, head_of}, Values.none_within, Forms.{close_no_comma, one_form}}
+use Rattle.argus_texts.proofs.{Forms.{ends_behind, ends_first, value_ends}, Stops.{Behind, Among, starts_with}}
+use Rattle.argus_texts.proofs.Stops.{stops_now, stops_in, stops_behind, stops_among}
 
 -- the first value stops
 value_first : (close : ℕ) → IsClose close → (k : ℕ) → Behind [] (Values k) (Items close k)
@@ -21,15 +20,8 @@ value_first close i k = record {
       is = sym (append_assoc u t (close ∷ [])) ∙ ap (λ x. x ++ close ∷ []) f.is;
     },
   );
-  starts = λ u s. record {
-    thing = s.thing.0;
-    rest = behind close s.thing.1 ++ s.rest;
-    reads = record {
-      good = s.reads.good.0;
-      ends = ends_behind close i s.thing.0 s.thing.1 s.rest;
-      is = s.reads.is ∙ append_assoc (spelling s.thing.0) (behind close s.thing.1) s.rest;
-    };
-  };
+  starts = λ u s. starts_with _ s.thing.0 u _ s.reads.good.0 (ends_behind close i s.thing.0 s.thing.1 s.rest)
+      (s.reads.is ∙ append_assoc (spelling s.thing.0) (behind close s.thing.1) s.rest);
 }
 
 pub first_stops : (close : ℕ) → IsClose close → (k : ℕ) (text : List ℕ) (left : ℕ) → Stops (Values k) text left
@@ -114,9 +106,7 @@ no_end_stops close i k d text rest r n = record {
 }
 
 pub no_ascii_end : (close : ℕ) → IsClose close → (x : List ℕ) → First (λ c. 128 ≤ c) x → First (NoEnd close) x
-no_ascii_end close i [] h = tt
-no_ascii_end close (inl i) (c ∷ x) h = (omega arith, omega arith)
-no_ascii_end close (inr i) (c ∷ x) h = (omega arith, omega arith)
+no_ascii_end close i p h = grind arith
 
 -- INSIDE THE BRACKETS
 
@@ -124,8 +114,7 @@ inside_starts : (close k : ℕ) (vs : PlainValues) (u x : List ℕ) → First (�
     → u ≡ inside close vs ++ x → Starts (Items close k) u
 inside_starts close k none [] x n w e = cc
 inside_starts close k none (c ∷ u) x n w e = absurd (n (head_of e))
-inside_starts close k (more d vs) u x n w e =
-    record { thing = (d, vs); rest = x; reads = record { good = (w.0, w.1); ends = tt; is = e } }
+inside_starts close k (more d vs) u x n w e = starts_with _ (d, vs) u x (w.0, w.1) tt e
 
 items_inside : (close k : ℕ) → Among (λ c. c ≢ close) (Items close k) (Insides close k)
 items_inside close k = record {
@@ -147,8 +136,7 @@ deep_way close (c ∷ u) n = λ more s. let t =
 
 -- no level is left for what comes in place of the closing byte
 pub deep_stops : (close : ℕ) (text : List ℕ) → First (λ c. c ≢ close) text → Stops (Insides close 0) text (length text)
-deep_stops close text n =
-    stops_now (Insides close 0) (close ∷ []) (record { thing = none; good = tt; is = refl }) text
+deep_stops close text n = stops_now (Insides close 0) (close ∷ []) (record { thing = none; good = tt; is = refl }) text
     (deep_way close text n)
 
 -- WHAT IS READ
@@ -173,8 +161,7 @@ pub goes_on : (close k : ℕ) (whole rest next others : List ℕ) (done all : Li
     → Going close k whole rest done → Reads (Values k) rest v next → next ≡ 44 ∷ others → all ≡ done ++ v ∷ []
     → Going close k whole others all
 goes_on close k whole rest next others done all v g r e a = λ d ds end w b i.
-    let both : rest ≡ spelling v ++ (behind close (listed (d ∷ ds)) ++ end) =
-    r.is ∙ ap (λ x. spelling v ++ x)
+    let both : rest ≡ spelling v ++ (behind close (listed (d ∷ ds)) ++ end) = r.is ∙ ap (λ x. spelling v ++ x)
     (e ∙ ap (λ x. 44 ∷ x) (i ∙ sym (append_assoc (spelling d) (behind close (listed ds)) end))) in
     let h = g v (d ∷ ds) end r.good (w, b) both in
     let same : done ++ v ∷ (d ∷ ds) ≡ all ++ d ∷ ds =

@@ -1,8 +1,8 @@
 -- Texts between quotes, and where they stop.
 use Rattle.std.proofs.Common.{◌≡◌, ◌≢◌, ℕ, Bool, true, false, ◌<◌, ◌≤◌, ◌+◌, ◌⊎◌, inl, inr, List, [], ◌∷◌, ◌++◌, length}
 use Rattle.std.proofs.Common.{take, get_or, refl, sym, ap, ◌∙◌, subst, append-nil, append_assoc, arith}
-use Rattle.std.proofs.{lemmas.Bool.Decides.eqb_tells, lemmas.Str.IsUtf8-append, lemmas.List.take_more}
-use Rattle.std.specs.{Prelude.{if◌then◌else◌}, Str.IsUtf8}
+use Rattle.std.proofs.lemmas.{Bool.Decides.eqb_tells, Str.IsUtf8-append, List.take_more}
+use Rattle.std.specs.{Prelude.if◌then◌else◌, Str.IsUtf8}
 use lib.Dec.{eqb}
 use lib.Utf8
 use Rattle.argus_texts.specs.{Language.{Reads, NoWay, Stops, First}, Languages.Quoted, Quotes.{IsSpecial, IsNoEscape}}
@@ -22,58 +22,23 @@ Escapes d b = ((d ≡ 34) × (b ≡ 34)) ⊎ (((d ≡ 92) × (b ≡ 92)) ⊎ ((d
 abbrev Written : ℕ → Type 0
 Written b = ((d : ℕ) × Escapes d b × (escape b ≡ 92 ∷ d ∷ [])) ⊎ ((b ≢ 34) × (b ≢ 92) × (b ≢ 10) × (escape b ≡ b ∷ []))
 
-abbrev by_tests : ℕ → Bool → Bool → Bool → List ℕ
-by_tests b p q r = if p then 92 ∷ 34 ∷ [] else (if q then 92 ∷ 92 ∷ [] else (if r then 92 ∷ 110 ∷ [] else b ∷ []))
-
 written_by : (b : ℕ) → ((eqb b 34 ≡ true) × (b ≡ 34)) ⊎ ((eqb b 34 ≡ false) × (b ≢ 34))
     → ((eqb b 92 ≡ true) × (b ≡ 92)) ⊎ ((eqb b 92 ≡ false) × (b ≢ 92))
     → ((eqb b 10 ≡ true) × (b ≡ 10)) ⊎ ((eqb b 10 ≡ false) × (b ≢ 10)) → Written b
-written_by b (inl p) q r = inl (34, inl (refl, p.1), ap (λ t. by_tests b t (eqb b 92) (eqb b 10)) p.0)
-written_by b (inr p) (inl q) r =
-    inl (
-      92,
-      inr (inl (refl, q.1)),
-      ap (λ t. by_tests b t (eqb b 92) (eqb b 10)) p.0
-          ∙ ap (λ t. by_tests b false t (eqb b 10)) q.0,
-    )
-written_by b (inr p) (inr q) (inl r) =
-    inl (
-      110,
-      inr (inr (refl, r.1)),
-      ap (λ t. by_tests b t (eqb b 92) (eqb b 10)) p.0
-          ∙ ap (λ t. by_tests b false t (eqb b 10)) q.0 ∙ ap (λ t. by_tests b false false t) r.0,
-    )
-written_by b (inr p) (inr q) (inr r) =
-    inr (
-      p.1,
-      q.1,
-      r.1,
-      ap (λ t. by_tests b t (eqb b 92) (eqb b 10)) p.0 ∙ ap (λ t. by_tests b false t (eqb b 10)) q.0
-          ∙ ap (λ t. by_tests b false false t) r.0,
-    )
+written_by b p q r = grind arith
 
 written : (b : ℕ) → Written b
 written b = written_by b (eqb_tells b 34) (eqb_tells b 92) (eqb_tells b 10)
 
 same_escape : (d b c : ℕ) → Escapes d b → Escapes d c → b ≡ c
-same_escape d b c (inl p) (inl q) = omega arith
-same_escape d b c (inl p) (inr (inl q)) = omega arith
-same_escape d b c (inl p) (inr (inr q)) = omega arith
-same_escape d b c (inr (inl p)) (inl q) = omega arith
-same_escape d b c (inr (inl p)) (inr (inl q)) = omega arith
-same_escape d b c (inr (inl p)) (inr (inr q)) = omega arith
-same_escape d b c (inr (inr p)) (inl q) = omega arith
-same_escape d b c (inr (inr p)) (inr (inl q)) = omega arith
-same_escape d b c (inr (inr p)) (inr (inr q)) = omega arith
+same_escape d b c p q = grind arith
 
 one_written : (b c : ℕ) (u v : List ℕ) → Written b → Written c → escape b ++ u ≡ escape c ++ v → (b ≡ c) × (u ≡ v)
 one_written b c u v (inl p) (inl q) e =
     let f : 92 ∷ p.0 ∷ u ≡ 92 ∷ q.0 ∷ v = sym (ap (λ x. x ++ u) p.2) ∙ e ∙ ap (λ x. x ++ v) q.2 in
     let d : p.0 ≡ q.0 = head_of (tail_of f) in
     (same_escape q.0 b c (subst (λ m. Escapes m b) d p.1) q.1, tail_of (tail_of f))
-one_written b c u v (inl p) (inr q) e =
-    let f : 92 ∷ p.0 ∷ u ≡ c ∷ v = sym (ap (λ x. x ++ u) p.2) ∙ e ∙ ap (λ x. x ++ v) q.3 in
-    absurd (q.1 (sym (head_of f)))
+one_written b c u v (inl p) (inr q) e = grind (arith, head_of)
 one_written b c u v (inr p) (inl q) e =
     let f : b ∷ u ≡ 92 ∷ q.0 ∷ v = sym (ap (λ x. x ++ u) p.3) ∙ e ∙ ap (λ x. x ++ v) q.2 in absurd (p.1 (head_of f))
 one_written b c u v (inr p) (inr q) e =
@@ -84,40 +49,27 @@ one_escape b c u v e = one_written b c u v (written b) (written c) e
 
 -- what is written of a byte begins with neither a quote nor a line feed
 no_quote_by : (c : ℕ) (v w : List ℕ) → Written c → 34 ∷ w ≡ escape c ++ v → ⊥
-no_quote_by c v w (inl p) e = let f : 34 ∷ w ≡ 92 ∷ p.0 ∷ v = e ∙ ap (λ x. x ++ v) p.2 in omega (arith, head_of f)
-no_quote_by c v w (inr p) e = let f : 34 ∷ w ≡ c ∷ v = e ∙ ap (λ x. x ++ v) p.3 in p.0 (sym (head_of f))
+no_quote_by c v w p e = grind (arith, head_of)
 
 no_feed_by : (c : ℕ) (v w : List ℕ) → Written c → 10 ∷ w ≡ escape c ++ v → ⊥
-no_feed_by c v w (inl p) e = let f : 10 ∷ w ≡ 92 ∷ p.0 ∷ v = e ∙ ap (λ x. x ++ v) p.2 in omega (arith, head_of f)
-no_feed_by c v w (inr p) e = let f : 10 ∷ w ≡ c ∷ v = e ∙ ap (λ x. x ++ v) p.3 in p.2 (sym (head_of f))
+no_feed_by c v w p e = grind (arith, head_of)
 
 no_nil_by : (c : ℕ) (v : List ℕ) → Written c → [] ≡ escape c ++ v → ⊥
-no_nil_by c v (inl p) e = let f : [] ≡ 92 ∷ p.0 ∷ v = e ∙ ap (λ x. x ++ v) p.2 in cc
-no_nil_by c v (inr p) e = let f : [] ≡ c ∷ v = e ∙ ap (λ x. x ++ v) p.3 in cc
+no_nil_by c v p e = grind arith
 
 -- behind a backslash comes one of three bytes
 no_such : (d c : ℕ) → IsNoEscape d → Escapes d c → ⊥
-no_such d c n (inl p) = n.0 p.0
-no_such d c n (inr (inl p)) = n.1 p.0
-no_such d c n (inr (inr p)) = n.2 p.0
+no_such d c n p = grind arith
 
 no_escape_by : (c : ℕ) (w v : List ℕ) → First IsNoEscape w → Written c → 92 ∷ w ≡ escape c ++ v → ⊥
-no_escape_by c [] v n (inl p) e = let f : 92 ∷ [] ≡ 92 ∷ p.0 ∷ v = e ∙ ap (λ x. x ++ v) p.2 in cc
-no_escape_by c (d ∷ w) v n (inl p) e =
-    let f : 92 ∷ d ∷ w ≡ 92 ∷ p.0 ∷ v = e ∙ ap (λ x. x ++ v) p.2 in
-    let g : d ≡ p.0 = head_of (tail_of f) in no_such d c n (subst (λ m. Escapes m c) (sym g) p.1)
-no_escape_by c w v n (inr p) e = let f : 92 ∷ w ≡ c ∷ v = e ∙ ap (λ x. x ++ v) p.3 in p.1 (sym (head_of f))
+no_escape_by c p v n q e = grind (arith, head_of, tail_of, no_such)
 
 unescape : (a t x y : List ℕ) → escaped a ++ x ≡ escaped t ++ 34 ∷ y
     → (s : List ℕ) × (t ≡ a ++ s) × (x ≡ escaped s ++ 34 ∷ y)
 unescape [] t x y e = (t, refl, e)
 unescape (b ∷ a) [] x y e =
     absurd (no_quote_by b (escaped a ++ x) y (written b) (sym e ∙ append_assoc (escape b) (escaped a) x))
-unescape (b ∷ a) (c ∷ t) x y e =
-    let r = one_escape b c (escaped a ++ x) (escaped t ++ 34 ∷ y)
-    (sym (append_assoc (escape b) (escaped a) x) ∙ e ∙ append_assoc (escape c) (escaped t) (34 ∷ y)) in
-    let s = unescape a t x y r.1 in
-    (s.0, ap (λ d. d ∷ t) (sym r.0) ∙ ap (λ z. b ∷ z) s.1, s.2)
+unescape (b ∷ a) (c ∷ t) x y e = grind (arith, one_escape, append_assoc, unescape a t x y)
 
 -- the same of a whole form
 unescape_form : (a t x r : List ℕ) → escaped a ++ x ≡ (escaped t ++ 34 ∷ []) ++ r
@@ -143,8 +95,7 @@ IsFeed c = c ≡ 10
 
 no_feed_next : (s r : List ℕ) (c : ℕ) (more : List ℕ) → c ≡ 10 → c ∷ more ≡ escaped s ++ 34 ∷ r → ⊥
 no_feed_next [] r c more f e = omega (arith, head_of e)
-no_feed_next (d ∷ s) r c more f e =
-    no_feed_by d (escaped s ++ 34 ∷ r) more (written d)
+no_feed_next (d ∷ s) r c more f e = no_feed_by d (escaped s ++ 34 ∷ r) more (written d)
     (ap (λ m. m ∷ more) (sym f) ∙ e ∙ append_assoc (escape d) (escaped s) (34 ∷ r))
 
 no_end_next : (s r : List ℕ) → [] ≡ escaped s ++ 34 ∷ r → ⊥
@@ -215,42 +166,27 @@ plain_step bs i h p q =
 -- a plain piece was read
 pub read_plain : (done all text rest plain others : List ℕ) → text ≡ escaped done ++ rest → rest ≡ plain ++ others
     → escaped plain ≡ plain → all ≡ done ++ plain → text ≡ escaped all ++ others
-read_plain done all text rest plain others e w p a =
-    e ∙ ap (λ x. escaped done ++ x) (w ∙ ap (λ x. x ++ others) (sym p))
-    ∙ sym (append_assoc (escaped done) (escaped plain) others)
-    ∙ ap (λ x. x ++ others) (sym (ap escaped a ∙ escaped-append done plain))
+read_plain done all text rest plain others e w p a = grind (arith, append_assoc, escaped-append)
 
 -- an escape was read
 pub read_escape : (done all text others behind piece rest : List ℕ) → text ≡ escaped done ++ others
     → others ≡ 92 ∷ behind → 92 ∷ behind ≡ escaped piece ++ rest → all ≡ done ++ piece → text ≡ escaped all ++ rest
-read_escape done all text others behind piece rest e o b a =
-    e ∙ ap (λ x. escaped done ++ x) (o ∙ b) ∙ sym (append_assoc (escaped done) (escaped piece) rest)
-    ∙ ap (λ x. x ++ rest) (sym (ap escaped a ∙ escaped-append done piece))
+read_escape done all text others behind piece rest e o b a = grind (arith, append_assoc, escaped-append)
 
 -- the closing quote comes
 pub quoted_reads : (read text others rest : List ℕ) → IsUtf8 read → text ≡ escaped read ++ others → others ≡ 34 ∷ rest
     → Reads Quoted text read rest
-quoted_reads read text others rest u e o =
-    record {
-      good = u;
-      ends = tt;
-      is = e ∙ ap (λ x. escaped read ++ x) o ∙ sym (append_assoc (escaped read) (34 ∷ []) rest);
-    }
+quoted_reads read text others rest u e o = grind (arith, append_assoc)
 
 -- what isn't ASCII isn't special
 not_special : (c : ℕ) → 128 ≤ c → IsSpecial c → ⊥
-not_special c h (inl s) = omega arith
-not_special c h (inr (inl s)) = omega arith
-not_special c h (inr (inr s)) = omega arith
+not_special c h p = grind arith
 
 pub ends_here : (x : List ℕ) → First (λ c. 128 ≤ c) x → First IsSpecial x → First IsFeed x
-ends_here [] h s = tt
-ends_here (c ∷ x) h s = absurd (not_special c h s)
+ends_here p h s = grind (arith, not_special)
 
 feed_only : (c : ℕ) → c ≢ 34 → c ≢ 92 → IsSpecial c → c ≡ 10
-feed_only c p q (inl s) = absurd (p s)
-feed_only c p q (inr (inl s)) = absurd (q s)
-feed_only c p q (inr (inr s)) = s
+feed_only c p q r = grind arith
 
 pub feed_here : (x : List ℕ) (c : ℕ) (behind : List ℕ) → x ≡ c ∷ behind → c ≢ 34 → c ≢ 92 → First IsSpecial x
     → First IsFeed x

@@ -3,8 +3,8 @@ use Rattle.std.proofs.Common.{◌≡◌, ◌≢◌, ℕ, true, List, [], ◌∷�
 use Rattle.std.proofs.{Common.{ap, ◌∙◌, subst, append_assoc, codes, arith}, lemmas.Bool.and_parts}
 use Rattle.std.specs.List.{list_all}
 use Rattle.argus_contents.specs.{declared.limits.TheConstants.MAX_NAME_BYTES, Name.{is_name, is_name_byte}, Ty.more}
-use Rattle.argus_contents.specs.Shape.{PlainShape, rec, arr, var}
 use Rattle.argus_contents.specs.Ty.{PlainTy, PlainFields, null, bool, int, text, atomic, sequence, fields, choice, none}
+use Rattle.argus_contents.specs.Shape.{PlainShape, rec, arr, var}
 use Rattle.argus_texts.specs.ShapeSpelling.{ty_spelling, names_inside, names_behind, shape_spelling, IsNamed, AreNamed}
 use Rattle.argus_texts.specs.ShapeSpelling.{HasNames}
 use Rattle.argus_texts.proofs.Lists.{tail_of, head_of}
@@ -70,14 +70,7 @@ Leads (fields fs) c d = (c ≡ 115) × (d ≡ 116)
 Leads (choice fs) c d = c ≡ 111
 
 pub leads : (t : PlainTy) (c d : ℕ) (x y : List ℕ) → c ∷ d ∷ x ≡ ty_spelling t ++ y → Leads t c d
-leads null c d x y e = head_of e
-leads bool c d x y e = head_of e
-leads int c d x y e = head_of e
-leads text c d x y e = head_of e
-leads atomic c d x y e = head_of e
-leads (sequence t) c d x y e = (head_of e, head_of (tail_of e))
-leads (fields fs) c d x y e = (head_of e, head_of (tail_of e))
-leads (choice fs) c d x y e = head_of e
+leads p c d x y e = grind (arith, head_of, tail_of)
 
 front_of : (t : PlainTy) → (c : ℕ) × (d : ℕ) × (rest : List ℕ) × (ty_spelling t ≡ c ∷ d ∷ rest)
 front_of null = (110, 117, codes "ll", refl)
@@ -101,13 +94,11 @@ one_field : (a b : List ℕ) (s t : PlainTy) (fs gs : PlainFields) (x y : List �
     → ((u v : List ℕ) → ty_spelling s ++ u ≡ ty_spelling t ++ v → (s ≡ t) × (u ≡ v))
     → ((u v : List ℕ) → names_behind fs ++ u ≡ names_behind gs ++ v → (fs ≡ gs) × (u ≡ v))
     → names_inside (more a s fs) ++ x ≡ names_inside (more b t gs) ++ y → (more a s fs ≡ more b t gs) × (x ≡ y)
-one_field a b s t fs gs x y g h ty rest e =
-    let i = sym (append_assoc a (58 ∷ (ty_spelling s ++ names_behind fs)) x) ∙ e
+one_field a b s t fs gs x y g h ty rest e = let i = sym (append_assoc a (58 ∷ (ty_spelling s ++ names_behind fs)) x) ∙ e
     ∙ append_assoc b (58 ∷ (ty_spelling t ++ names_behind gs)) y in
     let r = name_told a b ((ty_spelling s ++ names_behind fs) ++ x) ((ty_spelling t ++ names_behind gs) ++ y) g h i in
     let q = ty (names_behind fs ++ x) (names_behind gs ++ y)
-    (sym (append_assoc (ty_spelling s) (names_behind fs) x) ∙ r.1
-    ∙ append_assoc (ty_spelling t) (names_behind gs) y) in
+    (sym (append_assoc (ty_spelling s) (names_behind fs) x) ∙ r.1 ∙ append_assoc (ty_spelling t) (names_behind gs) y) in
     let p = rest x y q.1 in
     (ap (λ n. more n s fs) r.0 ∙ ap (λ z. more b z fs) q.0 ∙ ap (λ z. more b t z) p.0, p.1)
 
@@ -164,9 +155,7 @@ Kind (arr x) = 97
 Kind (var fs) = 118
 
 kind_at : (s : PlainShape) (x : List ℕ) → get_or (shape_spelling s ++ x) 7 0 ≡ Kind s
-kind_at (rec fs) x = refl
-kind_at (arr t) x = refl
-kind_at (var fs) x = refl
+kind_at p x = grind arith
 
 same_kind : (s t : PlainShape) (x y : List ℕ) → shape_spelling s ++ x ≡ shape_spelling t ++ y → Kind s ≡ Kind t
 same_kind s t x y e = sym (kind_at s x) ∙ ap (λ z. get_or z 7 0) e ∙ kind_at t y
@@ -179,17 +168,4 @@ kind_told s x rest k h e = sym (kind_at s rest) ∙ sym (ap (λ z. get_or z 7 0)
 -- a text begins with the form of one shape at most
 pub one_shape : (s t : PlainShape) (x y : List ℕ) → HasNames s → HasNames t
     → shape_spelling s ++ x ≡ shape_spelling t ++ y → (s ≡ t) × (x ≡ y)
-one_shape (rec fs) (rec gs) x y g h e =
-    let i : names_inside fs ++ x ≡ names_inside gs ++ y = cc in
-    let r = one_inside fs gs x y g h i in
-    (ap rec r.0, r.1)
-one_shape (arr s) (arr t) x y g h e =
-    let i : (ty_spelling s ++ 93 ∷ []) ++ x ≡ (ty_spelling t ++ 93 ∷ []) ++ y = cc in
-    let r = one_ty s t (93 ∷ x) (93 ∷ y) g h
-    (sym (append_assoc (ty_spelling s) (93 ∷ []) x) ∙ i ∙ append_assoc (ty_spelling t) (93 ∷ []) y) in
-    (ap arr r.0, tail_of r.1)
-one_shape (var fs) (var gs) x y g h e =
-    let i : names_inside fs ++ x ≡ names_inside gs ++ y = cc in
-    let r = one_inside fs gs x y g h i in
-    (ap var r.0, r.1)
-one_shape s t x y g h e = let k = same_kind s t x y e in absurd (omega arith)
+one_shape p q x y g h e = grind (arith, one_inside, one_ty, append_assoc, tail_of, same_kind)

@@ -1,15 +1,15 @@
 -- Where a part of a shape comes, and where none does.
 use Rattle.std.proofs.Common.{◌≡◌, ◌≢◌, ℕ, suc, ◌<◌, ◌-◌, true, false, List, [], ◌∷◌, ◌++◌, length, get_or, codes, None}
 use Rattle.std.proofs.Common.{refl, sym, ap, ◌∙◌, subst, append_assoc, append-nil, arith}
-use Rattle.argus_contents.specs.{Name.is_name, Shape.{PlainShape, rec, arr, var, fault_of}}
-use Rattle.argus_contents.specs.Ty.{PlainTy, PlainFields, none, more, named}
+use Rattle.argus_contents.specs.{Name.is_name, Shape.{PlainShape, rec, arr, var, fault_of}, Ty.{PlainTy, PlainFields}}
+use Rattle.argus_contents.specs.Ty.{none, more, named}
 use Rattle.argus_texts.specs.{Language.{First, IsNot, Reads, Starts}, Languages.Word, ShapeLanguages.{Shapes, Types}}
 use Rattle.argus_texts.specs.ShapeLanguages.{BeginsNo, Closed, Fields, IsList, IsShallow, AreShallow, Lists, Names}
 use Rattle.argus_texts.specs.ShapeSpelling.{ty_spelling, names_inside, names_behind, shape_spelling, IsNamed, AreNamed}
 use Rattle.argus_texts.specs.ShapeSpelling.{HasNames, IsMakeable, IsShapeText}
-use Rattle.argus_texts.proofs.{Items.NoEnd, Lists.{tail_of, head_of}}
-use Rattle.argus_texts.proofs.Makeable.{fields_makeable, tags_makeable, item_makeable, shallow_named}
-use Rattle.argus_texts.proofs.ShapeForms.{NoColon, colon_told, name_no_colon, name_told, one_ty, one_shape, kind_told}
+use Rattle.argus_texts.proofs.{Items.NoEnd, Lists.{tail_of, head_of}, Stops.starts_with, Makeable.fields_makeable}
+use Rattle.argus_texts.proofs.{Makeable.{tags_makeable, item_makeable, shallow_named}, ShapeForms.{NoColon, colon_told}}
+use Rattle.argus_texts.proofs.ShapeForms.{name_no_colon, name_told, one_ty, one_shape, kind_told}
 
 -- NAMES
 
@@ -23,8 +23,7 @@ colon_within (b ∷ name) x = omega (arith, colon_within name x)
 
 -- without a colon there is no name
 pub no_name : (text : List ℕ) → ((i : ℕ) → i < length text → get_or text i 0 ≢ 58) → BeginsNo Names text
-no_name text h = λ s.
-    let e : text ≡ s.thing ++ 58 ∷ s.rest = s.reads.is ∙ append_assoc s.thing (58 ∷ []) s.rest in
+no_name text h = λ s. let e : text ≡ s.thing ++ 58 ∷ s.rest = s.reads.is ∙ append_assoc s.thing (58 ∷ []) s.rest in
     h (length s.thing) (subst (λ x. length s.thing < length x) (sym e) (colon_within s.thing s.rest))
     (ap (λ x. get_or x (length s.thing) 0) e ∙ colon_at s.thing s.rest)
 
@@ -45,35 +44,20 @@ bad_name text front rest e h b = λ s.
 -- a type without its closing bracket
 pub not_closed : (k : ℕ) (text others : List ℕ) (t : PlainTy) → Reads (Types IsNamed) text t others → IsNot 93 others
     → BeginsNo (Closed (IsShallow k)) text
-not_closed k text others t r n = λ s.
-    let e = one_ty t s.thing others (93 ∷ s.rest) r.good (shallow_named k s.thing s.reads.good)
-    (sym r.is ∙ s.reads.is ∙ append_assoc (ty_spelling s.thing) (93 ∷ []) s.rest) in
-    let f : IsNot 93 (93 ∷ s.rest) = subst (IsNot 93) e.1 n in f refl
+not_closed k text others t r n = grind (arith, one_ty, shallow_named, append_assoc)
 
 -- FIELDS
 
 -- without a name there is no field
 pub no_name_no_field : (k : ℕ) (text : List ℕ) → BeginsNo Names text → BeginsNo (Fields (IsShallow k)) text
-no_name_no_field k text h = λ s.
-    h (record {
-      thing = s.thing.0;
-      rest = ty_spelling s.thing.1 ++ s.rest;
-      reads = record {
-        good = s.reads.good.0;
-        ends = tt;
-        is = s.reads.is ∙ append_assoc s.thing.0 (58 ∷ ty_spelling s.thing.1) s.rest
-            ∙ sym (append_assoc s.thing.0 (58 ∷ []) (ty_spelling s.thing.1 ++ s.rest));
-      };
-    })
+no_name_no_field k text h = λ s. h (starts_with Names s.thing.0 text (ty_spelling s.thing.1 ++ s.rest) s.reads.good.0 tt
+    (s.reads.is ∙ append_assoc s.thing.0 (58 ∷ ty_spelling s.thing.1) s.rest
+    ∙ sym (append_assoc s.thing.0 (58 ∷ []) (ty_spelling s.thing.1 ++ s.rest))))
 
 -- a name without a type is no field
 pub no_ty_no_field : (k : ℕ) (text name others : List ℕ) → Reads Names text name others
     → BeginsNo (Types (IsShallow k)) others → BeginsNo (Fields (IsShallow k)) text
-no_ty_no_field k text name others r h = λ s.
-    let e = name_told name s.thing.0 others (ty_spelling s.thing.1 ++ s.rest) r.good s.reads.good.0
-    (sym (append_assoc name (58 ∷ []) others) ∙ sym r.is ∙ s.reads.is
-    ∙ append_assoc s.thing.0 (58 ∷ ty_spelling s.thing.1) s.rest) in
-    h (record { thing = s.thing.1; rest = s.rest; reads = record { good = s.reads.good.1; ends = tt; is = e.1 } })
+no_ty_no_field k text name others r h = grind (arith, name_told, append_assoc, starts_with)
 
 -- LISTS
 
@@ -120,13 +104,7 @@ no_more n k text h = λ s. let f = front n k text s in omega (arith, f.some)
 -- the first field of a list is the one that was read
 field_told : (n k : ℕ) (text behind : List ℕ) (f : List ℕ × PlainTy) → Reads (Fields IsNamed) text f behind
     → (s : Front n k text) → behind ≡ names_behind s.others ++ s.end
-field_told n k text behind f r s =
-    let p = s.field.reads in
-    let e = name_told f.0 s.field.thing.0 (ty_spelling f.1 ++ behind) (ty_spelling s.field.thing.1 ++ s.field.rest)
-    r.good.0 p.good.0
-    (sym (append_assoc f.0 (58 ∷ ty_spelling f.1) behind) ∙ sym r.is ∙ p.is
-    ∙ append_assoc s.field.thing.0 (58 ∷ ty_spelling s.field.thing.1) s.field.rest) in
-    (one_ty f.1 s.field.thing.1 behind s.field.rest r.good.1 (shallow_named k s.field.thing.1 p.good.1) e.1).1 ∙ s.is
+field_told n k text behind f r s = grind (arith, name_told, append_assoc, one_ty, shallow_named)
 
 no_end_behind : (fs : PlainFields) (end : List ℕ) → First (NoEnd 93) (names_behind fs ++ end) → ⊥
 no_end_behind none end n = n.1 refl
@@ -135,15 +113,12 @@ no_end_behind (more name t fs) end n = n.0 refl
 -- a field, and neither a comma nor the closing bracket
 pub no_end_no_list : (n k : ℕ) (text behind : List ℕ) (f : List ℕ × PlainTy) → Reads (Fields IsNamed) text f behind
     → First (NoEnd 93) behind → BeginsNo (Lists (IsList n k)) text
-no_end_no_list n k text behind f r h = λ s.
-    let t = front n k text s in
+no_end_no_list n k text behind f r h = λ s. let t = front n k text s in
     no_end_behind t.others t.end (subst (First (NoEnd 93)) (field_told n k text behind f r t) h)
 
 comma_behind : (n k : ℕ) (others end : List ℕ) (fs : PlainFields) → AreShallow n k fs
     → 44 ∷ others ≡ names_behind fs ++ end → Starts (Lists (IsList n k)) others
-comma_behind n k others end none a e = absurd (omega (arith, head_of e))
-comma_behind n k others end (more name t fs) a e =
-    record { thing = more name t fs; rest = end; reads = record { good = (tt, a); ends = tt; is = tail_of e } }
+comma_behind n k others end p a e = grind (arith, head_of, starts_with, tail_of)
 
 -- a field and a comma: the list goes on
 pub comma_goes_on : (n m k : ℕ) (text behind others : List ℕ) (f : List ℕ × PlainTy)
@@ -172,19 +147,13 @@ step name ty x y = simp append_assoc
 more_commas : (done : List (List ℕ × PlainTy)) (f : List ℕ × PlainTy) (rest : List ℕ)
     → with_commas done ++ ((f.0 ++ 58 ∷ ty_spelling f.1) ++ 44 ∷ rest) ≡ with_commas (done ++ f ∷ []) ++ rest
 more_commas [] f rest = simp append_assoc
-more_commas (d ∷ done) f rest =
-    step d.0 (ty_spelling d.1) (with_commas done) ((f.0 ++ 58 ∷ ty_spelling f.1) ++ 44 ∷ rest)
-    ∙ ap (λ x. d.0 ++ 58 ∷ (ty_spelling d.1 ++ 44 ∷ x)) (more_commas done f rest)
-    ∙ sym (step d.0 (ty_spelling d.1) (with_commas (done ++ f ∷ [])) rest)
+more_commas (d ∷ done) f rest = grind (arith, step, more_commas done f rest)
 
 last_closed : (done : List (List ℕ × PlainTy)) (f : List ℕ × PlainTy) (rest : List ℕ)
     → with_commas done ++ ((f.0 ++ 58 ∷ ty_spelling f.1) ++ 93 ∷ rest) ≡ names_inside (named (done ++ f ∷ [])) ++ rest
 last_closed [] f rest = simp append_assoc
 last_closed (d ∷ []) f rest = simp append_assoc
-last_closed (d ∷ e ∷ done) f rest =
-    step d.0 (ty_spelling d.1) (with_commas (e ∷ done)) ((f.0 ++ 58 ∷ ty_spelling f.1) ++ 93 ∷ rest)
-    ∙ ap (λ x. d.0 ++ 58 ∷ (ty_spelling d.1 ++ 44 ∷ x)) (last_closed (e ∷ done) f rest)
-    ∙ sym (step d.0 (ty_spelling d.1) (names_inside (named ((e ∷ done) ++ f ∷ []))) rest)
+last_closed (d ∷ e ∷ done) f rest = grind (arith, step, last_closed (e ∷ done) f rest)
 
 one_more_named : (done : List (List ℕ × PlainTy)) (f : List ℕ × PlainTy) → AreNamed (named done) → is_name f.0 ≡ true
     → IsNamed f.1 → AreNamed (named (done ++ f ∷ []))
@@ -195,57 +164,33 @@ one_more_named (d ∷ done) f a n t = (a.0, a.1, one_more_named done f a.2 n t)
 pub goes_on : (whole rest behind others : List ℕ) (done all : List (List ℕ × PlainTy)) (f : List ℕ × PlainTy)
     → Going whole rest done → Reads (Fields IsNamed) rest f behind → behind ≡ 44 ∷ others → all ≡ done ++ f ∷ []
     → Going whole others all
-goes_on whole rest behind others done all f g r e a =
-    subst (Going whole others) (sym a)
-    (record {
-      is =
-          g.is ∙ ap (λ x. with_commas done ++ x) (r.is ∙ ap (λ x. (f.0 ++ 58 ∷ ty_spelling f.1) ++ x) e)
-          ∙ more_commas done f others;
-      are_named = one_more_named done f g.are_named r.good.0 r.good.1;
-    })
+goes_on whole rest behind others done all f g r e a = grind (arith, more_commas, one_more_named)
 
 -- a field and the closing bracket come
 pub closes : (whole rest behind others : List ℕ) (done all : List (List ℕ × PlainTy)) (f : List ℕ × PlainTy)
     → Going whole rest done → Reads (Fields IsNamed) rest f behind → behind ≡ 93 ∷ others → all ≡ done ++ f ∷ []
     → Reads (Lists AreNamed) whole (named all) others
-closes whole rest behind others done all f g r e a =
-    subst (λ fs. Reads (Lists AreNamed) whole (named fs) others) (sym a)
-    (record {
-      good = one_more_named done f g.are_named r.good.0 r.good.1;
-      ends = tt;
-      is =
-          g.is ∙ ap (λ x. with_commas done ++ x) (r.is ∙ ap (λ x. (f.0 ++ 58 ∷ ty_spelling f.1) ++ x) e)
-          ∙ last_closed done f others;
-    })
+closes whole rest behind others done all f g r e a = grind (arith, one_more_named, last_closed)
 
 -- SHAPES
 
 record_at : (others rest : List ℕ) (s : PlainShape) → IsMakeable s
     → codes "atomic_record[" ++ others ≡ shape_spelling s ++ rest → Starts (Lists (IsList 64 16)) others
-record_at others rest (rec fs) m e =
-    record { thing = fs; rest = rest; reads = record { good = fields_makeable fs m; ends = tt; is = cc } }
-record_at others rest (arr t) m e = let k =
-    kind_told (arr t) (codes "atomic_record[" ++ others) rest 114 refl e in absurd (omega arith)
-record_at others rest (var fs) m e = let k =
-    kind_told (var fs) (codes "atomic_record[" ++ others) rest 114 refl e in absurd (omega arith)
+record_at others rest (rec fs) m e = starts_with _ fs _ rest (fields_makeable fs m) tt cc
+record_at others rest s m e = let k = kind_told s (codes "atomic_record[" ++ others) rest 114 refl e in
+    absurd (omega arith)
 
 array_at : (others rest : List ℕ) (s : PlainShape) → IsMakeable s
     → codes "atomic_array[" ++ others ≡ shape_spelling s ++ rest → Starts (Closed (IsShallow 16)) others
-array_at others rest (rec fs) m e = let k =
-    kind_told (rec fs) (codes "atomic_array[" ++ others) rest 97 refl e in absurd (omega arith)
-array_at others rest (arr t) m e =
-    record { thing = t; rest = rest; reads = record { good = item_makeable t m; ends = tt; is = cc } }
-array_at others rest (var fs) m e = let k =
-    kind_told (var fs) (codes "atomic_array[" ++ others) rest 97 refl e in absurd (omega arith)
+array_at others rest (arr t) m e = starts_with _ t _ rest (item_makeable t m) tt cc
+array_at others rest s m e = let k = kind_told s (codes "atomic_array[" ++ others) rest 97 refl e in
+    absurd (omega arith)
 
 variant_at : (others rest : List ℕ) (s : PlainShape) → IsMakeable s
     → codes "atomic_variant[" ++ others ≡ shape_spelling s ++ rest → Starts (Lists (IsList 64 16)) others
-variant_at others rest (rec fs) m e = let k =
-    kind_told (rec fs) (codes "atomic_variant[" ++ others) rest 118 refl e in absurd (omega arith)
-variant_at others rest (arr t) m e = let k =
-    kind_told (arr t) (codes "atomic_variant[" ++ others) rest 118 refl e in absurd (omega arith)
-variant_at others rest (var fs) m e =
-    record { thing = fs; rest = rest; reads = record { good = tags_makeable fs m; ends = tt; is = cc } }
+variant_at others rest (var fs) m e = starts_with _ fs _ rest (tags_makeable fs m) tt cc
+variant_at others rest s m e = let k = kind_told s (codes "atomic_variant[" ++ others) rest 118 refl e in
+    absurd (omega arith)
 
 -- no list behind a record's word
 pub no_record : (text others : List ℕ)
@@ -262,24 +207,15 @@ pub no_variant : (text others : List ℕ)
     → text ≡ codes "atomic_variant[" ++ others → BeginsNo (Lists (IsList 64 16)) others → BeginsNo Shapes text
 no_variant text others e h = λ s. h (variant_at others s.rest s.thing s.reads.good (sym e ∙ s.reads.is))
 
-no_word_at : (text rest : List ℕ) (s : PlainShape)
-    → BeginsNo (Word (codes "atomic_record[")) text
+no_word_at : (text rest : List ℕ) (s : PlainShape) → BeginsNo (Word (codes "atomic_record[")) text
     → BeginsNo (Word (codes "atomic_array[")) text
     → BeginsNo (Word (codes "atomic_variant[")) text → text ≡ shape_spelling s ++ rest → ⊥
-no_word_at text rest (rec fs) r a v e =
-    r (record { thing = tt; rest = names_inside fs ++ rest; reads = record { good = tt; ends = tt; is = e } })
-no_word_at text rest (arr t) r a v e =
-    a (record {
-      thing = tt;
-      rest = (ty_spelling t ++ 93 ∷ []) ++ rest;
-      reads = record { good = tt; ends = tt; is = e };
-    })
-no_word_at text rest (var fs) r a v e =
-    v (record { thing = tt; rest = names_inside fs ++ rest; reads = record { good = tt; ends = tt; is = e } })
+no_word_at text rest (rec fs) r a v e = r (starts_with _ tt text (names_inside fs ++ rest) tt tt e)
+no_word_at text rest (arr t) r a v e = a (starts_with _ tt text ((ty_spelling t ++ 93 ∷ []) ++ rest) tt tt e)
+no_word_at text rest (var fs) r a v e = v (starts_with _ tt text (names_inside fs ++ rest) tt tt e)
 
 -- none of the three words
-pub no_word : (text : List ℕ)
-    → BeginsNo (Word (codes "atomic_record[")) text
+pub no_word : (text : List ℕ) → BeginsNo (Word (codes "atomic_record[")) text
     → BeginsNo (Word (codes "atomic_array[")) text
     → BeginsNo (Word (codes "atomic_variant[")) text → BeginsNo Shapes text
 no_word text r a v = λ s. no_word_at text s.rest s.thing r a v s.reads.is
@@ -287,23 +223,17 @@ no_word text r a v = λ s. no_word_at text s.rest s.thing r a v s.reads.is
 -- a shape that can't be made
 pub at_fault : (text rest : List ℕ) (s : PlainShape) → HasNames s → text ≡ shape_spelling s ++ rest
     → (fault_of s ≡ None → ⊥) → BeginsNo Shapes text
-at_fault text rest s n e f = λ t.
-    let o = one_shape s t.thing rest t.rest n t.reads.good.named (sym e ∙ t.reads.is) in
+at_fault text rest s n e f = λ t. let o = one_shape s t.thing rest t.rest n t.reads.good.named (sym e ∙ t.reads.is) in
     f (subst (λ x. fault_of x ≡ None) (sym o.0) t.reads.good.no_fault)
 
 -- a text that begins with no shape is no shape's
 pub no_shape_text : (text : List ℕ) → BeginsNo Shapes text → IsShapeText text → ⊥
 no_shape_text text h t =
-    h (record {
-      thing = t.shape;
-      rest = [];
-      reads = record { good = t.makeable; ends = tt; is = t.is ∙ sym (append-nil (shape_spelling t.shape)) };
-    })
+    h (starts_with Shapes t.shape text [] t.makeable tt (t.is ∙ sym (append-nil (shape_spelling t.shape))))
 
 -- something comes behind a shape
 pub more_than_shape : (text rest : List ℕ) (s : PlainShape) → Reads Shapes text s rest → 0 < length rest
     → IsShapeText text → ⊥
-more_than_shape text rest s r h t =
-    let o = one_shape s t.shape rest [] r.good.named t.makeable.named
+more_than_shape text rest s r h t = let o = one_shape s t.shape rest [] r.good.named t.makeable.named
     (sym r.is ∙ t.is ∙ sym (append-nil (shape_spelling t.shape))) in
     omega (arith, ap length o.1)

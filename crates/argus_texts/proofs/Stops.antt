@@ -1,8 +1,8 @@
 -- Where reading stops: what was read so far can be gone on with, but not as the text goes on.
-use Rattle.std.proofs.Common.{◌≡◌, ℕ, suc, ◌<◌, List, [], ◌∷◌, ◌++◌, length, take, drop, get_or, refl, sym, ap, ◌∙◌}
-use Rattle.std.proofs.{Common.{subst, append_assoc, append-nil}, lemmas.List.take-append-drop}
-use Rattle.argus_texts.specs.Language.{Language, FormOf, Reads, Starts, NoWay, Stops, First, IsNot}
-use Rattle.argus_texts.specs.Languages.{Pairs, Word}
+use Rattle.std.proofs.Common.{arith, ◌≡◌, ℕ, suc, ◌<◌, List, [], ◌∷◌, ◌++◌, length, take, drop, get_or, refl, sym, ap}
+use Rattle.std.proofs.{Common.{◌∙◌, subst, append_assoc, append-nil}, lemmas.List.take-append-drop}
+use Rattle.argus_texts.specs.{Language.{Language, FormOf, Reads, Starts, NoWay, Stops, First, IsNot}, Languages.Pairs}
+use Rattle.argus_texts.specs.Languages.{Word}
 use Rattle.argus_texts.proofs.Lists.{tail_of, head_of, cancel, split_at}
 
 -- a text is read as one thing at most, and what may follow depends on the first byte alone
@@ -12,16 +12,25 @@ pub record Clear (L : Language) : Type 0 where
   pub nil : (a : L.Thing) → L.Ends a []
   pub first : (a : L.Thing) (c : ℕ) (x y : List ℕ) → L.Ends a (c ∷ x) → L.Ends a (c ∷ y)
 
+-- a text begins with the form of this thing
+pub starts_with : (L : Language) (thing : L.Thing) (u rest : List ℕ) → L.Good thing → L.Ends thing rest
+    → u ≡ L.form thing ++ rest → Starts L u
+starts_with L thing u rest g n e = record { thing = thing; rest = rest; reads = record { good = g; ends = n; is = e } }
+
 -- L behind a is a part of M
 pub record Behind (a : List ℕ) (L M : Language) : Type 0 where
   pub forms : (u t : List ℕ) → FormOf L (u ++ t) → (v : List ℕ) × FormOf M (a ++ (u ++ v))
   pub starts : (u : List ℕ) → Starts M (a ++ u) → Starts L u
 
+-- behind a byte, where M has a thing for each of L that is written with the byte in front
+pub behind_byte : (c : ℕ) (L M : Language)
+    → ((t : L.Thing) → L.Good t → (m : M.Thing) × M.Good m × (M.form m ≡ c ∷ L.form t))
+    → ((m : M.Thing) (u y : List ℕ) → M.Good m → M.Ends m y → c ∷ u ≡ M.form m ++ y → Starts L u) → Behind (c ∷ []) L M
+behind_byte c L M into starts = grind arith
+
 no_way_behind : (a : List ℕ) (L M : Language) → Behind a L M → (front back : List ℕ) → NoWay L front back
     → NoWay M (a ++ front) back
-no_way_behind a L M b front [] h = λ s. h (b.starts front s)
-no_way_behind a L M b front (c ∷ back) h =
-    λ more s. h more (b.starts (front ++ c ∷ more) (subst (Starts M) (append_assoc a front (c ∷ more)) s))
+no_way_behind a p q b front r h = grind (arith, append_assoc)
 
 pub stops_behind : (a : List ℕ) (L M : Language) → Behind a L M → (text : List ℕ) (left : ℕ) → Stops L text left
     → Stops M (a ++ text) left
@@ -87,30 +96,18 @@ pair_first L M c p m g = record {
       is = sym (append_assoc u t (c ∷ M.form m)) ∙ ap (λ x. x ++ c ∷ M.form m) f.is;
     },
   );
-  starts = λ u s. record {
-    thing = s.thing.0;
-    rest = c ∷ (M.form s.thing.1 ++ s.rest);
-    reads = record {
-      good = s.reads.good.0;
-      ends = p s.thing.0 (M.form s.thing.1 ++ s.rest);
-      is = s.reads.is ∙ append_assoc (L.form s.thing.0) (c ∷ M.form s.thing.1) s.rest;
-    };
-  };
+  starts = λ u s. starts_with L s.thing.0 u _ s.reads.good.0 (p s.thing.0 (M.form s.thing.1 ++ s.rest))
+      (s.reads.is ∙ append_assoc (L.form s.thing.0) (c ∷ M.form s.thing.1) s.rest);
 }
 
 second_starts : (L M : Language) (c : ℕ) → Clear L → Precedes L c → (a : L.Thing) → L.Good a → (u : List ℕ)
     → Starts (Pairs L c M) ((L.form a ++ c ∷ []) ++ u) → Starts M u
 second_starts L M c k p a g u s =
     let y : List ℕ = M.form s.thing.1 ++ s.rest in
-    let e : L.form a ++ c ∷ u ≡ L.form s.thing.0 ++ c ∷ y =
-    sym (append_assoc (L.form a) (c ∷ []) u) ∙ s.reads.is
+    let e : L.form a ++ c ∷ u ≡ L.form s.thing.0 ++ c ∷ y = sym (append_assoc (L.form a) (c ∷ []) u) ∙ s.reads.is
     ∙ append_assoc (L.form s.thing.0) (c ∷ M.form s.thing.1) s.rest in
     let r = k.one a s.thing.0 (c ∷ u) (c ∷ y) g s.reads.good.0 (p a u) (p s.thing.0 y) e in
-    record {
-      thing = s.thing.1;
-      rest = s.rest;
-      reads = record { good = s.reads.good.1; ends = s.reads.ends; is = tail_of r.1 };
-    }
+    starts_with M s.thing.1 u s.rest s.reads.good.1 s.reads.ends (tail_of r.1)
 
 pub pair_second : (L M : Language) (c : ℕ) → Clear L → Precedes L c → (a : L.Thing) → L.Good a
     → Behind (L.form a ++ c ∷ []) M (Pairs L c M)
@@ -128,13 +125,11 @@ pair_second L M c k p a g = record {
 
 between_way : (L M : Language) (c : ℕ) → Clear L → Precedes L c → (a : L.Thing) (rest : List ℕ) → L.Good a
     → L.Ends a rest → IsNot c rest → NoWay (Pairs L c M) (L.form a) rest
-between_way L M c k p a [] g e n = λ s.
-    let y : List ℕ = M.form s.thing.1 ++ s.rest in
+between_way L M c k p a [] g e n = λ s. let y : List ℕ = M.form s.thing.1 ++ s.rest in
     let r = k.one a s.thing.0 [] (c ∷ y) g s.reads.good.0 (k.nil a) (p s.thing.0 y)
     (append-nil (L.form a) ∙ s.reads.is ∙ append_assoc (L.form s.thing.0) (c ∷ M.form s.thing.1) s.rest) in
     let x : [] ≡ c ∷ y = r.1 in cc
-between_way L M c k p a (d ∷ rest) g e n = λ more s.
-    let y : List ℕ = M.form s.thing.1 ++ s.rest in
+between_way L M c k p a (d ∷ rest) g e n = λ more s. let y : List ℕ = M.form s.thing.1 ++ s.rest in
     let r = k.one a s.thing.0 (d ∷ more) (c ∷ y) g s.reads.good.0 (k.first a d rest more e) (p s.thing.0 y)
     (s.reads.is ∙ append_assoc (L.form s.thing.0) (c ∷ M.form s.thing.1) s.rest) in
     n (head_of r.1)
@@ -151,15 +146,6 @@ pair_between L M c k p m g text a rest r n = record {
   more = c ∷ M.form m;
   way = record { thing = (a, m); good = (r.good, g); is = refl };
   no_way = between_way L M c k p a rest r.good r.ends n;
-}
-
--- both were read
-pub pair_reads : (L M : Language) (c : ℕ) (text : List ℕ) (a : L.Thing) (b : M.Thing) (next mid rest : List ℕ)
-    → Reads L text a next → next ≡ c ∷ mid → Reads M mid b rest → Reads (Pairs L c M) text (a, b) rest
-pair_reads L M c text a b next mid rest r e s = record {
-  good = (r.good, s.good);
-  ends = s.ends;
-  is = r.is ∙ ap (λ x. L.form a ++ x) (e ∙ ap (λ x. c ∷ x) s.is) ∙ sym (append_assoc (L.form a) (c ∷ M.form b) rest);
 }
 
 -- the text goes on behind a form of L and c

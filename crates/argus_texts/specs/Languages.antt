@@ -18,14 +18,12 @@ NotDigit text = First IsNoDigit text
 
 -- natural numbers from least to most
 abbrev pub Numbers : ℕ → ℕ → Language
-Numbers least most =
-    record {
-      Thing = ℕ;
-      Good = λ n. (least ≤ n) × (n ≤ most);
-      form = decimal;
-      Ends =
-          λ n rest. NotDigit rest;
-    }
+Numbers least most = record {
+  Thing = ℕ;
+  Good = λ n. (least ≤ n) × (n ≤ most);
+  form = decimal;
+  Ends = λ n rest. NotDigit rest;
+}
 
 -- integers of 64 bits
 abbrev pub Ints : Language
@@ -42,30 +40,23 @@ Quoted = record {
   Thing = List ℕ;
   Good = IsUtf8;
   form = λ t. escaped t ++ quote ∷ [];
-  Ends =
-      λ t rest. Unit {0};
+  Ends = λ t rest. Unit {0};
 }
 
 -- a thing of the one language, a byte, and a thing of the other
 abbrev pub Pairs : Language → ℕ → Language → Language
-Pairs L c M =
-    record {
-      Thing = L.Thing × M.Thing;
-      Good = λ p. L.Good p.0 × M.Good p.1;
-      form = λ p. L.form p.0 ++ c ∷ M.form p.1;
-      Ends = λ p rest. M.Ends p.1 rest;
-    }
+Pairs L c M = record {
+  Thing = L.Thing × M.Thing;
+  Good = λ p. L.Good p.0 × M.Good p.1;
+  form = λ p. L.form p.0 ++ c ∷ M.form p.1;
+  Ends = λ p rest. M.Ends p.1 rest;
+}
 
 -- what may come after a value
 abbrev pub ValueEnds : PlainValue → List ℕ → Type 0
 ValueEnds (value.int n) rest = NotDigit rest
 ValueEnds (value.atomic o) rest = NotDigit rest
-ValueEnds value.null rest = Unit {0}
-ValueEnds (value.bool b) rest = Unit {0}
-ValueEnds (value.text t) rest = Unit {0}
-ValueEnds (value.sequence vs) rest = Unit {0}
-ValueEnds (value.fields vs) rest = Unit {0}
-ValueEnds (value.choice t v) rest = Unit {0}
+ValueEnds v rest = Unit {0}
 
 -- values of depth at most k
 abbrev pub Values : ℕ → Language
@@ -77,8 +68,7 @@ Insides close k = record {
   Thing = PlainValues;
   Good = AllWithin k;
   form = inside close;
-  Ends =
-      λ vs rest. Unit {0};
+  Ends = λ vs rest. Unit {0};
 }
 
 -- the same, with at least one value
@@ -100,8 +90,7 @@ Contents k = record {
   Thing = PlainContent;
   Good = PartsWithin k;
   form = content_spelling;
-  Ends =
-      λ c rest. Unit {0};
+  Ends = λ c rest. Unit {0};
 }
 
 -- the bytes that close a list of values

@@ -19,35 +19,29 @@ ValueTextsAreUnambiguous =
 
 -- the written form of the content has no fault, and is that of no other content
 abbrev pub IsReadBack : PlainContent → Type 0
-IsReadBack c =
-    ((at : ℕ) → IsFault IsContentText (content_spelling c) at → ⊥)
+IsReadBack c = ((at : ℕ) → IsFault IsContentText (content_spelling c) at → ⊥)
     × ((d : PlainContent) → PartsWithin MAX_VALUE_DEPTH d → content_spelling c ≡ content_spelling d
     → d ≡ c)
 
 -- each content whose values have depth at most 16 is read back
 abbrev pub ContentsAreReadBack : Type 0
-ContentsAreReadBack =
-    (c : PlainContent) → PartsWithin MAX_VALUE_DEPTH c
-    → IsReadBack c
+ContentsAreReadBack = (c : PlainContent) → PartsWithin MAX_VALUE_DEPTH c → IsReadBack c
 
 -- a content that a program can hold that fits a shape that can be made has values of depth at most
 -- 16, whatever depth was known of them, and is read back
 abbrev pub FittingContentsAreReadBack : Type 0
-FittingContentsAreReadBack =
-    (s : PlainShape) (declared k : ℕ) (c : PlainContent) → IsMakeable s
+FittingContentsAreReadBack = (s : PlainShape) (declared k : ℕ) (c : PlainContent) → IsMakeable s
     → is_fitting s declared c ≡ true → PartsWithin k c
     → PartsWithin MAX_VALUE_DEPTH c × IsReadBack c
 
 -- contents of any depth with the same written form are the same
 abbrev pub ContentTextsAreUnambiguous : Type 0
-ContentTextsAreUnambiguous =
-    (k : ℕ) (c d : PlainContent) → PartsWithin k c → PartsWithin k d
+ContentTextsAreUnambiguous = (k : ℕ) (c d : PlainContent) → PartsWithin k c → PartsWithin k d
     → content_spelling c ≡ content_spelling d → c ≡ d
 
 -- the written form of a shape that can be made is accepted, and is that of no other such shape
 abbrev pub ShapesAreReadBack : Type 0
-ShapesAreReadBack =
-    (s : PlainShape) → IsMakeable s
+ShapesAreReadBack = (s : PlainShape) → IsMakeable s
     → IsShapeText (shape_spelling s) × ((t : PlainShape) → IsMakeable t
     → shape_spelling s ≡ shape_spelling t → t ≡ s)
 

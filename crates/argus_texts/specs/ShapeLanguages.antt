@@ -22,8 +22,7 @@ Names = record {
   Thing = List ℕ;
   Good = λ n. is_name n ≡ true;
   form = λ n. n ++ colon ∷ [];
-  Ends =
-      λ n rest. Unit {0};
+  Ends = λ n rest. Unit {0};
 }
 
 -- such types
@@ -41,13 +40,12 @@ Closed Good = record {
 
 -- names with such types
 abbrev pub Fields : (PlainTy → Type 0) → Language
-Fields Good =
-    record {
-      Thing = List ℕ × PlainTy;
-      Good = λ f. (is_name f.0 ≡ true) × Good f.1;
-      form = λ f. f.0 ++ colon ∷ ty_spelling f.1;
-      Ends = λ f rest. Unit {0};
-    }
+Fields Good = record {
+  Thing = List ℕ × PlainTy;
+  Good = λ f. (is_name f.0 ≡ true) × Good f.1;
+  form = λ f. f.0 ++ colon ∷ ty_spelling f.1;
+  Ends = λ f rest. Unit {0};
+}
 
 -- such lists of names with their types, up to the closing bracket
 abbrev pub Lists : (PlainFields → Type 0) → Language
@@ -60,8 +58,7 @@ Shapes = record {
   Thing = PlainShape;
   Good = IsMakeable;
   form = shape_spelling;
-  Ends =
-      λ s rest. Unit {0};
+  Ends = λ s rest. Unit {0};
 }
 
 -- a type without parts
@@ -69,11 +66,7 @@ abbrev pub IsScalar : PlainTy → Type 0
 IsScalar (ty.sequence x) = ⊥
 IsScalar (ty.fields fs) = ⊥
 IsScalar (ty.choice fs) = ⊥
-IsScalar ty.null = Unit {0}
-IsScalar ty.bool = Unit {0}
-IsScalar ty.int = Unit {0}
-IsScalar ty.text = Unit {0}
-IsScalar ty.atomic = Unit {0}
+IsScalar t = Unit {0}
 
 -- there is a name in the list
 abbrev pub IsFilled : PlainFields → Type 0

@@ -9,8 +9,7 @@ use Rattle.argus_texts.specs.Bytes.{less_than, letter_n, line_feed, open_brace, 
 -- a byte of a text: the quote, the backslash and the line feed are escaped by a backslash, the line
 -- feed as `n`
 abbrev pub escape : ℕ → List ℕ
-escape b =
-    if b == quote then backslash ∷ quote ∷ [] else
+escape b = if b == quote then backslash ∷ quote ∷ [] else
     (if b == backslash then backslash ∷ backslash ∷ [] else
     (if b == line_feed then backslash ∷ letter_n ∷ [] else b ∷ []))
 

@@ -14,8 +14,7 @@ returns-clause-written c =
     let o = c.in-Some.others.now in
     let s = items_step old (string_bytes c.append_value.new.out) (string_bytes c.append_more.new.out)
     (string_bytes c.append_more-2.new.out) (plain_value f) (plain_list o) (plain_list back)
-    c.in_ok-append_value.ensures.written c.in_ok-append_more.ensures.written
-    c.in_ok-append_more-2.ensures.written in
+    c.in_ok-append_value.ensures.written c.in_ok-append_more.ensures.written c.in_ok-append_more-2.ensures.written in
     let all = sym c.as_slices.ensures.items ∙ ap (λ x. x ++ back) c.in-Some.ensures.cases.0 in
     let same = ap plain_list all ∙ ap (λ x. plain_value f ∷ x) (map-append plain_value o back) in
     IfOk-equal c.append.result _ _ _ c.append.ensures.written (s ∙ ap (λ x. old ++ inside 93 (listed x)) (sym same))

@@ -12,8 +12,7 @@ returns-in_default-clause-stops c =
     (IsUtf8-string_bytes c.push_str.new.self)
     (read_plain (string_bytes c.loop-read.read) (string_bytes c.push_str.new.self)
     c.args.text.now c.loop-read.rest.now c.split_plain.result.0.now c.split_plain.result.1.now
-    c.loop-read.invariant.read c.split_plain.ensures.whole c.split_plain.ensures.plain
-    c.in_ok-push_str.ensures.bytes)
+    c.loop-read.invariant.read c.split_plain.ensures.whole c.split_plain.ensures.plain c.in_ok-push_str.ensures.bytes)
     (ends_here c.split_plain.result.1.now c.in_default.ensures.none c.split_plain.ensures.special)
 
 pub returns-then-first-eq34-clause-read : goal.returns-then-first-eq34-clause-read
@@ -22,8 +21,7 @@ returns-then-first-eq34-clause-read c =
     (IsUtf8-string_bytes c.push_str.new.self)
     (read_plain (string_bytes c.loop-read.read) (string_bytes c.push_str.new.self)
     c.args.text.now c.loop-read.rest.now c.split_plain.result.0.now c.split_plain.result.1.now
-    c.loop-read.invariant.read c.split_plain.ensures.whole c.split_plain.ensures.plain
-    c.in_ok-push_str.ensures.bytes)
+    c.loop-read.invariant.read c.split_plain.ensures.whole c.split_plain.ensures.plain c.in_ok-push_str.ensures.bytes)
     (c.in-Some.ensures.some.0 ∙ ap (λ m. m ∷ c.in-Some.behind.now) c.if-first-eq34.true)
 
 pub returns-then-first-ne92-clause-stops : goal.returns-then-first-ne92-clause-stops
@@ -32,8 +30,7 @@ returns-then-first-ne92-clause-stops c =
     (IsUtf8-string_bytes c.push_str.new.self)
     (read_plain (string_bytes c.loop-read.read) (string_bytes c.push_str.new.self)
     c.args.text.now c.loop-read.rest.now c.split_plain.result.0.now c.split_plain.result.1.now
-    c.loop-read.invariant.read c.split_plain.ensures.whole c.split_plain.ensures.plain
-    c.in_ok-push_str.ensures.bytes)
+    c.loop-read.invariant.read c.split_plain.ensures.whole c.split_plain.ensures.plain c.in_ok-push_str.ensures.bytes)
     (feed_here c.split_plain.result.1.now c.in-Some.first c.in-Some.behind.now c.in-Some.ensures.some.0
     c.if-first-eq34.false c.if-first-ne92.true c.split_plain.ensures.special)
 
@@ -42,22 +39,17 @@ returns-in_err-character-clause-stops c =
     let p = err_from_is_err_and c.from_residual-in_err-character.result c.from_residual-in_err-character.ensures.1 in
     let r = read_plain (string_bytes c.loop-read.read) (string_bytes c.push_str.new.self)
     c.args.text.now c.loop-read.rest.now c.split_plain.result.0.now c.split_plain.result.1.now
-    c.loop-read.invariant.read c.split_plain.ensures.whole c.split_plain.ensures.plain
-    c.in_ok-push_str.ensures.bytes in
+    c.loop-read.invariant.read c.split_plain.ensures.whole c.split_plain.ensures.plain c.in_ok-push_str.ensures.bytes in
     let e = c.in-Some.ensures.some.0 ∙ ap (λ m. m ∷ c.in-Some.behind.now) c.if-first-ne92.false in
-    rw (p.1, p.2)
-    (passed c.in_err-character.field-0.0 _ _
-    (λ left s. subst (Stops Quoted c.args.text.now) (sym s.0)
+    rw (p.1, p.2) (passed c.in_err-character.field-0.0 _ _ (λ left s. subst (Stops Quoted c.args.text.now) (sym s.0)
     (escape_stops (string_bytes c.push_str.new.self) c.args.text.now c.in-Some.behind.now
     (IsUtf8-string_bytes c.push_str.new.self) (r ∙ ap (λ x. escaped (string_bytes c.push_str.new.self) ++ x) e)
     s.1)) c.in_err-character.ensures.stops)
 
 pub loop-read-preserved : goal.loop-read-preserved
-loop-read-preserved c =
-    let r = read_plain (string_bytes c.loop-read.read) (string_bytes c.push_str.new.self)
+loop-read-preserved c = let r = read_plain (string_bytes c.loop-read.read) (string_bytes c.push_str.new.self)
     c.args.text.now c.loop-read.rest.now c.split_plain.result.0.now c.split_plain.result.1.now
-    c.loop-read.invariant.read c.split_plain.ensures.whole c.split_plain.ensures.plain
-    c.in_ok-push_str.ensures.bytes in
+    c.loop-read.invariant.read c.split_plain.ensures.whole c.split_plain.ensures.plain c.in_ok-push_str.ensures.bytes in
     let e = c.in-Some.ensures.some.0 ∙ ap (λ m. m ∷ c.in-Some.behind.now) c.if-first-ne92.false in
     record {
       read = read_escape (string_bytes c.push_str.new.self) (string_bytes c.push_str-in-loop-read.new.self)

@@ -1,17 +1,14 @@
 -- The fault of the whole text.
-use Rattle.std.proofs.lemmas.Result.{err_from_is_err_and}
 use Rattle.argus_contents.specs.Value.{plain_value}
 use Rattle.argus_texts.specs.{Fault.IsValueText, Languages.Values}
-use Rattle.argus_texts.proofs.{Accepted.value_texts, Exits.passed, Faults.{stopped, left_behind}, Forms.values_clear}
+use Rattle.argus_texts.proofs.{Accepted.value_texts, Faults.{stopped, left_behind}, Forms.values_clear, Exits.passed_on}
 use Rattle.argus_texts.proofs.reading.whole_value.Goals as goal
 
 pub returns-in_err-value-clause-stops : goal.returns-in_err-value-clause-stops
 returns-in_err-value-clause-stops c =
-    let p = err_from_is_err_and c.from_residual.result c.from_residual.ensures.1 in
-    rw (p.1, p.2)
-    (passed c.in_err-value.field-0.0 _ _
+    passed_on c.from_residual.result c.in_err-value.field-0.0 _ _ c.from_residual.ensures.1
     (λ left s. stopped (Values 16) IsValueText (values_clear 16) value_texts c.args.text.now left s)
-    c.in_err-value.ensures.stops)
+    c.in_err-value.ensures.stops
 
 pub returns-then-rest-gt0-clause-stops : goal.returns-then-rest-gt0-clause-stops
 returns-then-rest-gt0-clause-stops c =

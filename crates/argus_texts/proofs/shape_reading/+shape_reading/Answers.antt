@@ -1,11 +1,10 @@
 -- Where no type, no field and no list comes, and what is read of a list.
 use Rattle.std.proofs.{Common.{◌-◌, ◌∷◌, map, inl, refl, ap, ◌∙◌, subst, sym, arith, rules}, lemmas.List.map-append}
-use Rattle.std.proofs.lemmas.Result.{err_from_is_err_and}
 use Rattle.argus_contents.specs.Ty.{plain_field, plain_ty}
 use Rattle.argus_texts.specs.Language.{First}
-use Rattle.argus_texts.proofs.{Exits.refused, Items.{NoEnd, no_ascii_end}}
-use Rattle.argus_texts.proofs.ShapeParts.{not_closed, no_name_no_field, no_ty_no_field, no_field_no_list}
-use Rattle.argus_texts.proofs.ShapeParts.{no_end_no_list, no_more, comma_goes_on, goes_on, closes}
+use Rattle.argus_texts.proofs.{Items.{NoEnd, no_ascii_end}, ShapeParts.{not_closed, no_name_no_field, no_ty_no_field}}
+use Rattle.argus_texts.proofs.ShapeParts.{no_field_no_list, no_end_no_list, no_more, comma_goes_on, goes_on, closes}
+use Rattle.argus_texts.proofs.Exits.{refused_on}
 use Rattle.argus_texts.proofs.shape_reading.+shape_reading.Goals as goal
 
 pub closed_ty-returns-in_default-clause-refused : goal.closed_ty-returns-in_default-clause-refused
@@ -15,26 +14,19 @@ closed_ty-returns-in_default-clause-refused t c =
 
 pub field-returns-in_err-name-clause-refused : goal.field-returns-in_err-name-clause-refused
 field-returns-in_err-name-clause-refused t c =
-    let p = err_from_is_err_and c.from_residual.result c.from_residual.ensures.1 in
-    rw (p.1, p.2)
-    (refused c.in_err-name.field-0.0 _ _ (no_name_no_field c.args.levels c.args.text.now)
-    c.in_err-name.ensures.refused)
+    refused_on c.from_residual.result c.in_err-name.field-0.0 _ _ c.from_residual.ensures.1
+    (no_name_no_field c.args.levels c.args.text.now) c.in_err-name.ensures.refused
 
 pub field-returns-in_err-ty-clause-refused : goal.field-returns-in_err-ty-clause-refused
 field-returns-in_err-ty-clause-refused t c =
-    let p = err_from_is_err_and c.from_residual-in_err-ty.result c.from_residual-in_err-ty.ensures.1 in
-    rw (p.1, p.2)
-    (refused c.in_err-ty.field-0.0 _ _
-    (no_ty_no_field c.args.levels c.args.text.now c.in_ok-name.name c.in_ok-name.others.now
-    c.in_ok-name.ensures.read) c.in_err-ty.ensures.refused)
+    refused_on c.from_residual-in_err-ty.result c.in_err-ty.field-0.0 _ _ c.from_residual-in_err-ty.ensures.1
+    (no_ty_no_field c.args.levels c.args.text.now c.in_ok-name.name c.in_ok-name.others.now c.in_ok-name.ensures.read)
+    c.in_err-ty.ensures.refused
 
 pub names-returns-in_err-name-clause-refused : goal.names-returns-in_err-name-clause-refused
 names-returns-in_err-name-clause-refused t c =
-    let p = err_from_is_err_and c.from_residual.result c.from_residual.ensures.1 in
-    rw (p.1, p.2)
-    (refused c.in_err-name.field-0.0 _ _
-    (λ h s. no_field_no_list _ c.args.levels c.loop.rest.now h (c.loop.invariant.left s))
-    c.in_err-name.ensures.refused)
+    refused_on c.from_residual.result c.in_err-name.field-0.0 _ _ c.from_residual.ensures.1
+    (λ h s. no_field_no_list _ c.args.levels c.loop.rest.now h (c.loop.invariant.left s)) c.in_err-name.ensures.refused
 
 pub names-returns-in_default-clause-refused : goal.names-returns-in_default-clause-refused
 names-returns-in_default-clause-refused t c =

@@ -1,31 +1,25 @@
 -- Where no shape comes.
-use Rattle.std.proofs.{Common.{◌++◌, codes, ap, ◌∙◌, rules}, lemmas.Result.err_from_is_err_and}
+use Rattle.std.proofs.Common.{◌++◌, codes, ap, ◌∙◌, rules}
 use Rattle.argus_contents.specs.{Shape.{rec, arr, var}, Ty.{plain_fields, plain_ty}}
-use Rattle.argus_texts.proofs.{Exits.refused, ShapeParts.{no_record, no_array, no_variant, no_word, at_fault}}
+use Rattle.argus_texts.proofs.{ShapeParts.{no_record, no_array, no_variant, no_word, at_fault}, Exits.refused_on}
 use Rattle.argus_texts.proofs.shape_reading.one_shape.Goals as goal
 
 pub returns-in_err-fields-clause-refused : goal.returns-in_err-fields-clause-refused
 returns-in_err-fields-clause-refused c =
-    let p = err_from_is_err_and c.from_residual.result c.from_residual.ensures.1 in
-    rw (p.1, p.2)
-    (refused c.in_err-fields.field-0.0 _ _ (no_record c.args.text.now c.in-Some.others.now c.in-Some.ensures.some)
-    c.in_err-fields.ensures.refused)
+    refused_on c.from_residual.result c.in_err-fields.field-0.0 _ _ c.from_residual.ensures.1
+    (no_record c.args.text.now c.in-Some.others.now c.in-Some.ensures.some) c.in_err-fields.ensures.refused
 
 pub returns-in_err-item-clause-refused : goal.returns-in_err-item-clause-refused
 returns-in_err-item-clause-refused c =
-    let p = err_from_is_err_and c.from_residual-in_err-item.result c.from_residual-in_err-item.ensures.1 in
-    rw (p.1, p.2)
-    (refused c.in_err-item.field-0.0 _ _
+    refused_on c.from_residual-in_err-item.result c.in_err-item.field-0.0 _ _ c.from_residual-in_err-item.ensures.1
     (no_array c.args.text.now c.in-Some-strip_word.others.now c.in-Some-strip_word.ensures.some)
-    c.in_err-item.ensures.refused)
+    c.in_err-item.ensures.refused
 
 pub returns-in_err-tags-clause-refused : goal.returns-in_err-tags-clause-refused
 returns-in_err-tags-clause-refused c =
-    let p = err_from_is_err_and c.from_residual-in_err-tags.result c.from_residual-in_err-tags.ensures.1 in
-    rw (p.1, p.2)
-    (refused c.in_err-tags.field-0.0 _ _
+    refused_on c.from_residual-in_err-tags.result c.in_err-tags.field-0.0 _ _ c.from_residual-in_err-tags.ensures.1
     (no_variant c.args.text.now c.in-Some-strip_word-2.others.now c.in-Some-strip_word-2.ensures.some)
-    c.in_err-tags.ensures.refused)
+    c.in_err-tags.ensures.refused
 
 pub returns-in_default-rec-clause-refused : goal.returns-in_default-rec-clause-refused
 returns-in_default-rec-clause-refused c =
@@ -49,8 +43,7 @@ returns-in_default-var-clause-refused c =
     (λ n. let x = c.in_default-var.ensures.fault ∙ n in cc)
 
 pub returns-clause-refused : goal.returns-clause-refused
-returns-clause-refused c =
-    no_word c.args.text.now c.in_default.ensures.none c.in_default-strip_word.ensures.none
+returns-clause-refused c = no_word c.args.text.now c.in_default.ensures.none c.in_default-strip_word.ensures.none
     c.in_default-strip_word-2.ensures.none
 
 pub names-requires-text-text : goal.names-requires-text-text

@@ -13,8 +13,7 @@ append_value-returns-in_ok-append_value-in-Choice-clause-written t c =
     let v = c.deref-in-Choice.result.now in
     let s = choice_step old (string_bytes c.append_tag.new.out) (string_bytes c.append_value.new.out) c.in-Choice.tag
     (plain_value v) c.in_ok-append_tag-in-Choice.ensures.written c.in_ok-append_value-in-Choice.ensures.written in
-    IfOk-equal c.append-in-Choice.result _ _ _ c.append-in-Choice.ensures.written
-    (s ∙ ap (λ w. old ++ spelling w)
+    IfOk-equal c.append-in-Choice.result _ _ _ c.append-in-Choice.ensures.written (s ∙ ap (λ w. old ++ spelling w)
     (ap (λ w. choice c.in-Choice.tag (plain_value w)) c.deref-in-Choice.ensures
     ∙ sym (plain_value-Choice c.in-Choice.tag c.in-Choice.part))
     ∙ ap (λ w. old ++ spelling (plain_value w)) (sym c.in-Choice.is))

@@ -9,8 +9,7 @@ loop-first-preserved c =
     let o = string_bytes c.loop-first.out in
     let p = c.split_plain.result.0.now in
     let s = quoted_step o p c.loop-first.rest.now c.split_plain.result.1.now c.in-Some.behind.now _ c.in-Some.first
-    c.split_plain.ensures.whole c.in-Some.ensures.some.0 c.split_plain.ensures.plain
-    c.loop-first.invariant.completes in
+    c.split_plain.ensures.whole c.in-Some.ensures.some.0 c.split_plain.ensures.plain c.loop-first.invariant.completes in
     let e = c.in_ok-append-3.ensures.written ∙ ap (λ x. x ++ c.escape_of.result.now) c.in_ok-append-2.ensures.written
     ∙ ap (λ x. (o ++ p) ++ x) c.escape_of.ensures in
     record {
