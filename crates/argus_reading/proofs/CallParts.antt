@@ -20,9 +20,6 @@ nulls = shape.arr ty.null
 nulls_makeable : IsMakeable nulls
 nulls_makeable = record { no_fault = refl; named = tt }
 
-pub nulls_form : FormOf Shapes (shape_spelling nulls)
-nulls_form = record { thing = nulls; good = nulls_makeable; is = refl }
-
 -- a call without its rest
 whole : (c : PlainCall) (x : List ℕ) → IsReadableCall c → x ≡ call_spelling c → (v : List ℕ) × FormOf Calls (x ++ v)
 whole c x g e = ([], record { thing = c; good = g; is = append-nil x ∙ e })
@@ -64,41 +61,33 @@ call_start (call.abort a) rest g e =
     same CallParts (inr (inl (inr (inr (inr (inr (inl a))))))) _ rest (omega arith, omega (arith, g.0)) e refl
 call_start (call.abort_others a) rest g e =
     same CallParts (inr (inl (inr (inr (inr (inr (inr a))))))) _ rest (omega arith, omega (arith, g.0)) e refl
-call_start (call.ask a o q) rest g e =
-    same CallParts (inr (inr (inl ((a, o), q)))) _ rest
+call_start (call.ask a o q) rest g e = same CallParts (inr (inr (inl ((a, o), q)))) _ rest
     (((omega arith, omega (arith, g.0.0)), (omega arith, omega (arith, g.0.1))), g.0.2) e
     (ap (λ (z : List ℕ). z ++ rest) (access_form (codes "ask a") a o (query_spelling q)))
-call_start (call.alter a o q) rest g e =
-    same CallParts (inr (inr (inr (inl ((a, o), q))))) _ rest
+call_start (call.alter a o q) rest g e = same CallParts (inr (inr (inr (inl ((a, o), q))))) _ rest
     (((omega arith, omega (arith, g.0.0)), (omega arith, omega (arith, g.0.1))), g.0.2) e
     (ap (λ (z : List ℕ). z ++ rest) (access_form (codes "alter a") a o (change_spelling q)))
-call_start (call.test_read a o) rest g e =
-    same CallParts (inr (inr (inr (inr (inl (a, o)))))) _ rest (
-      (omega arith, omega (arith, g.0.0)),
-      (omega arith, omega (arith, g.0.1)),
-    ) e
-    (ap (λ (z : List ℕ). z ++ rest) (place_form (codes "test_read a") a o))
-call_start (call.test_write a o) rest g e =
-    same CallParts (inr (inr (inr (inr (inr (a, o)))))) _ rest (
-      (omega arith, omega (arith, g.0.0)),
-      (omega arith, omega (arith, g.0.1)),
-    ) e
-    (ap (λ (z : List ℕ). z ++ rest) (place_form (codes "test_write a") a o))
+call_start (call.test_read a o) rest g e = same CallParts (inr (inr (inr (inr (inl (a, o)))))) _ rest (
+  (omega arith, omega (arith, g.0.0)),
+  (omega arith, omega (arith, g.0.1)),
+) e (ap (λ (z : List ℕ). z ++ rest) (place_form (codes "test_read a") a o))
+call_start (call.test_write a o) rest g e = same CallParts (inr (inr (inr (inr (inr (a, o)))))) _ rest (
+  (omega arith, omega (arith, g.0.0)),
+  (omega arith, omega (arith, g.0.1)),
+) e (ap (λ (z : List ℕ). z ++ rest) (place_form (codes "test_write a") a o))
 
 -- reading a part of a call is reading a call
 pub call_parts : Behind [] CallParts Calls
 call_parts = record {
-  forms = λ u t f.
-      let r = call_form f.thing f.good in (
-        t ++ r.0,
-        record {
-          thing = r.1.thing;
-          good = r.1.good;
-          is = sym (append_assoc u t r.0) ∙ ap (λ (z : List ℕ). z ++ r.0) f.is ∙ r.1.is;
-        },
-      );
-  starts = λ u s.
-      let t = call_start s.thing s.rest s.reads.good s.reads.ends in
+  forms = λ u t f. let r = call_form f.thing f.good in (
+    t ++ r.0,
+    record {
+      thing = r.1.thing;
+      good = r.1.good;
+      is = sym (append_assoc u t r.0) ∙ ap (λ (z : List ℕ). z ++ r.0) f.is ∙ r.1.is;
+    },
+  );
+  starts = λ u s. let t = call_start s.thing s.rest s.reads.good s.reads.ends in
       same CallParts t.thing u t.rest t.reads.good t.reads.ends (s.reads.is ∙ t.reads.is);
 }
 

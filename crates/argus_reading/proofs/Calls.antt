@@ -1,37 +1,28 @@
 -- A text begins with one call at most.
-use Rattle.std.proofs.Common.{◌≡◌, ℕ, true, List, [], ◌∷◌, ◌++◌, arith, refl, sym, ap, inl, ◌∙◌, append_assoc}
-use Rattle.std.proofs.lemmas.Bool.{false≢true}
+use Rattle.std.proofs.{lemmas.Bool.false≢true, Common.{◌≡◌, ℕ, true, List, [], ◌∷◌, ◌++◌, arith, refl, sym, ap, inl}}
+use Rattle.std.proofs.Common.{◌∙◌, append_assoc}
 use Rattle.std.specs.{Fmt.decimal, Prelude.{codes, ◌==◌}}
-use Rattle.argus_contents.specs.Change as change
-use Rattle.argus_contents.specs.declared.query.Query.TheVariants as query
 use Rattle.argus_texts.proofs.{Lists.cancel, ShapeForms.one_shape, Stops.{Clear, Precedes}}
 use Rattle.argus_entries.specs.{Call.PlainCall, EntrySpelling.{call_spelling, place_spelling}}
 use Rattle.argus_entries.specs.OperationSpelling.{change_spelling, query_spelling}
-use Rattle.argus_entries.specs.Call as call
 use Rattle.argus_entries.proofs.FirstWords.{call_key, call_key_is, call_kind, one_call_kind}
 use Rattle.argus_reading.specs.{Calls.{CallEnds, Calls, IsReadableCall, Places}, Operations.{Changes, Queries}}
 use Rattle.argus_reading.proofs.Operations.{change_first, change_nil, changes_clear, queries_clear, query_first}
 use Rattle.argus_reading.proofs.{Operations.{query_nil, change_precedes, query_precedes}, Words.{Joint, joint_clear}}
 use Rattle.argus_reading.proofs.Joints.{ids_clear, place_joint}
+use Rattle.argus_contents.specs.Change as change
+use Rattle.argus_contents.specs.declared.query.Query.TheVariants as query
+use Rattle.argus_entries.specs.Call as call
 
 pub places_clear : (w : List ℕ) → Clear (Places w)
 places_clear w = joint_clear (place_joint w) (ids_clear (codes "o"))
 
 pub ask_joint : (w : List ℕ) → Joint (Places w) 32 Queries
-ask_joint w = record {
-  clear = places_clear w;
-  precedes = λ a y. inl (omega arith);
-  example = query.Whole;
-  good = tt;
-}
+ask_joint w = record { clear = places_clear w; precedes = λ a y. inl (omega arith); example = query.Whole; good = tt }
 
 pub alter_joint : (w : List ℕ) → Joint (Places w) 32 Changes
-alter_joint w = record {
-  clear = places_clear w;
-  precedes = λ a y. inl (omega arith);
-  example = change.touch;
-  good = tt;
-}
+alter_joint w =
+    record { clear = places_clear w; precedes = λ a y. inl (omega arith); example = change.touch; good = tt }
 
 -- an action and an object, written as parts
 pub place_form : (w : List ℕ) (a o : ℕ) → place_spelling w a o ≡ (Places w).form (a, o)
@@ -68,8 +59,7 @@ call_told (call.begin_sub m) (call.begin_sub n) x y a b p q k e =
       omega arith,
       omega
           (arith, b.0),
-    )
-    p q e in (ap call.begin_sub r.0, r.1)
+    ) p q e in (ap call.begin_sub r.0, r.1)
 call_told (call.begin_nested m) (call.begin_nested n) x y a b p q k e =
     let r = (ids_clear (codes "begin_nested a")).one m n x y (omega arith, omega (arith, a.0))
     (omega arith, omega (arith, b.0)) p q e in (ap call.begin_nested r.0, r.1)
@@ -78,15 +68,13 @@ call_told (call.commit m) (call.commit n) x y a b p q k e =
       omega arith,
       omega
           (arith, b.0),
-    )
-    p q e in (ap call.commit r.0, r.1)
+    ) p q e in (ap call.commit r.0, r.1)
 call_told (call.abort m) (call.abort n) x y a b p q k e =
     let r = (ids_clear (codes "abort a")).one m n x y (omega arith, omega (arith, a.0)) (
       omega arith,
       omega
           (arith, b.0),
-    )
-    p q e in (ap call.abort r.0, r.1)
+    ) p q e in (ap call.abort r.0, r.1)
 call_told (call.abort_others m) (call.abort_others n) x y a b p q k e =
     let r = (ids_clear (codes "abort_others a")).one m n x y (omega arith, omega (arith, a.0))
     (omega arith, omega (arith, b.0)) p q e in (ap call.abort_others r.0, r.1)
@@ -119,34 +107,14 @@ call_told (call.test_write m o) (call.test_write n j) x y a b p q k e =
 call_told _ _ x y a b p q k e = absurd (false≢true k)
 
 call_nil : (c : PlainCall) → CallEnds c []
-call_nil (call.ask a o q) = query_nil q
-call_nil (call.alter a o c) = change_nil c
-call_nil _ = tt
+call_nil p = grind (arith, query_nil, change_nil)
 
 call_first : (d : PlainCall) (c : ℕ) (x y : List ℕ) → CallEnds d (c ∷ x) → CallEnds d (c ∷ y)
-call_first (call.ask a o q) c x y e = query_first q c x y e
-call_first (call.alter a o d) c x y e = change_first d c x y e
-call_first _ c x y e = e
+call_first p c x y e = grind (arith, query_first, change_first)
 
 pub calls_clear : Clear Calls
-calls_clear = record {
-  one = λ c d x y a b p q e.
-      call_told c d x y a b p q
-      (one_call_kind c d x y e) e;
-  nil = call_nil;
-  first = call_first;
-}
+calls_clear = grind (arith, call_told, one_call_kind, call_nil, call_first)
 
 -- a blank may come behind a call
 pub call_precedes : Precedes Calls 32
-call_precedes (call.declare s) y = tt
-call_precedes call.begin_top y = tt
-call_precedes (call.begin_sub a) y = inl (omega arith)
-call_precedes (call.begin_nested a) y = inl (omega arith)
-call_precedes (call.commit a) y = inl (omega arith)
-call_precedes (call.abort a) y = inl (omega arith)
-call_precedes (call.abort_others a) y = inl (omega arith)
-call_precedes (call.ask a o q) y = query_precedes q y
-call_precedes (call.alter a o c) y = change_precedes c y
-call_precedes (call.test_read a o) y = inl (omega arith)
-call_precedes (call.test_write a o) y = inl (omega arith)
+call_precedes p y = grind (arith, query_precedes, change_precedes)

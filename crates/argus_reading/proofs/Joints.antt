@@ -18,17 +18,11 @@ worded_ints_clear w = worded_clear w Ints ints_clear
 
 -- an action and an object
 pub place_joint : (w : List ℕ) → Joint (Worded w Ids) 32 (Worded (codes "o") Ids)
-place_joint w = record {
-  clear = ids_clear w;
-  precedes = λ a y. inl (omega arith);
-  example = 0;
-  good = (omega arith, omega arith);
-}
+place_joint w = grind (arith, ids_clear)
 
 -- a number of a field or a tag, and a value
 pub byte_joint : (w : List ℕ) → Joint (Worded w Bytes) 32 (Values 16)
-byte_joint w =
-    record { clear = bytes_clear w; precedes = λ a y. inl (omega arith); example = null; good = omega arith }
+byte_joint w = record { clear = bytes_clear w; precedes = λ a y. inl (omega arith); example = null; good = omega arith }
 
 -- an integer and a value
 pub int_joint : (w : List ℕ) → Joint (Worded w Ints) 32 (Values 16)

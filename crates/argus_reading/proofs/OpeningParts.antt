@@ -1,16 +1,16 @@
 -- The parts of an opening's lines: if one is missing, the text isn't such a line.
 use Rattle.std.proofs.Common.{◌≡◌, ℕ, ◌<◌, List, ◌∷◌, length, arith, inl}
-use Rattle.std.specs.Prelude.{None, Option, Some, codes}
+use Rattle.std.specs.Prelude.{Option, codes}
 use Rattle.argus_contents.specs.{Content.PlainContent, Shape.PlainShape, declared.limits.TheConstants.MAX_ACTIONS}
 use Rattle.argus_journal.specs.declared.limits.TheConstants.{MAX_FIRST_ENTRY}
 use Rattle.argus_reading.proofs.{Joints.ids_clear, Words.{stops_starts, worded_clear}, WholeForms.second_no}
 use Rattle.argus_reading.proofs.WholeForms.{between_no, form_starts, left_no, pair_starts, pair_whole, read_whole}
-use Rattle.argus_reading.specs.{Combined.Worded, Operations.Ids}
-use Rattle.argus_reading.specs.OpeningLanguages.{FoldedLines, IsForm, ObjectLines, OptionContents}
+use Rattle.argus_reading.specs.{Combined.Worded, Operations.Ids, OpeningLanguages.{FoldedLines, IsForm, ObjectLines}}
+use Rattle.argus_reading.specs.OpeningLanguages.{OptionContents}
 use Rattle.argus_texts.specs.{Language.{FormOf, IsNot, Language, Reads, Stops}, Languages.{Contents, Numbers, Pairs}}
 use Rattle.argus_texts.specs.ShapeLanguages.{BeginsNo, Shapes}
-use Rattle.argus_texts.proofs.{Contents.contents_clear, Digits.numbers_clear, ShapeForms.one_shape}
-use Rattle.argus_texts.proofs.Stops.{Clear, Precedes}
+use Rattle.argus_texts.proofs.{Contents.contents_clear, Digits.numbers_clear, ShapeForms.one_shape, Stops.Clear}
+use Rattle.argus_texts.proofs.Stops.{Precedes}
 
 -- THE FIRST LINE
 
@@ -39,8 +39,7 @@ folded_between text a rest r n f = between_no Before After 32 before_precedes be
 
 pub folded_second : (text : List ℕ) (a : ℕ) (next mid : List ℕ) (left : ℕ) → Reads Before text a next → next ≡ 32 ∷ mid
     → Stops After mid left → FormOf FoldedLines text → ⊥
-folded_second text a next mid left r e s f =
-    second_no Before After 32 before_precedes before_clear text a next mid r e
+folded_second text a next mid left r e s f = second_no Before After 32 before_precedes before_clear text a next mid r e
     (λ g. stops_starts After mid left s (form_starts After after_clear mid g)) f
 
 pub folded_left : (text : List ℕ) (a b : ℕ) (next mid rest : List ℕ) → Reads Before text a next → next ≡ 32 ∷ mid
@@ -69,11 +68,7 @@ shape_precedes : Precedes Shapes 32
 shape_precedes = λ a y. tt
 
 shapes_clear : Clear Shapes
-shapes_clear = record {
-  one = λ a b x y g h e f i. one_shape a b x y g.named h.named i;
-  nil = λ a. tt;
-  first = λ a c x y e. tt;
-}
+shapes_clear = grind (arith, one_shape)
 
 pub object_first : (text : List ℕ) (left : ℕ) → Stops Number text left → FormOf ObjectLines text → ⊥
 object_first text left s f = stops_starts Number text left s (pair_starts Number Object 32 number_precedes text f)
@@ -96,42 +91,27 @@ module _ (text : List ℕ) (o : ℕ) (next mid : List ℕ) (r : Reads Number tex
 
     pub object_content : (last : List ℕ) → rest ≡ 32 ∷ last → (FormOf OptionContents last → ⊥)
         → FormOf ObjectLines text → ⊥
-    object_content last h n f =
-        behind_number
-        (λ g. second_no Shapes OptionContents 32 shape_precedes shapes_clear mid shape rest last
-        s h n g)
-        f
+    object_content last h n f = behind_number
+        (λ g. second_no Shapes OptionContents 32 shape_precedes shapes_clear mid shape rest last s h n g) f
 
     pub object_whole : (c : Option PlainContent) (last : List ℕ) → rest ≡ 32 ∷ last → IsForm OptionContents c last
         → IsForm ObjectLines (o, (shape, c)) text
-    object_whole c last h w =
-        pair_whole Number Object 32 number_precedes text o (shape, c) next mid r e
+    object_whole c last h w = pair_whole Number Object 32 number_precedes text o (shape, c) next mid r e
         (pair_whole Shapes OptionContents 32 shape_precedes mid shape c rest last s h w)
 
 -- CONTENTS
 
-pub absent_form : (text : List ℕ) → text ≡ codes "absent" → IsForm OptionContents None text
-absent_form text e = record { good = tt; is = e }
-
 no_content : (text : List ℕ) → (text ≡ codes "absent" → ⊥) → (FormOf (Contents 16) text → ⊥)
     → (c : Option PlainContent) → OptionContents.Good c → text ≡ OptionContents.form c → ⊥
-no_content text n m None g is = n is
-no_content text n m (Some c) g is = m (record { thing = c; good = g; is = is })
+no_content text n m p g is = grind arith
 
 pub content_stops : (text : List ℕ) (left : ℕ) → (text ≡ codes "absent" → ⊥) → Stops (Contents 16) text left
     → FormOf OptionContents text → ⊥
 content_stops text left n s f =
     no_content text n (λ g. stops_starts (Contents 16) text left s (form_starts (Contents 16)
-    (contents_clear 16) text g))
-    f.thing f.good f.is
+    (contents_clear 16) text g)) f.thing f.good f.is
 
 pub content_left : (text : List ℕ) (c : PlainContent) (rest : List ℕ) → (text ≡ codes "absent" → ⊥)
     → Reads (Contents 16) text c rest → 0 < length rest → FormOf OptionContents text → ⊥
 content_left text c rest n r h f =
     no_content text n (λ g. left_no (Contents 16) (contents_clear 16) c text rest r h g) f.thing f.good f.is
-
-pub content_whole : (text : List ℕ) (c : PlainContent) (rest : List ℕ) → Reads (Contents 16) text c rest
-    → length rest ≡ 0 → IsForm OptionContents (Some c) text
-content_whole text c rest r h =
-    let w = read_whole (Contents 16) c text rest r h in
-    record { good = w.good; is = w.is }

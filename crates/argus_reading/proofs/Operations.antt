@@ -1,10 +1,8 @@
 -- A text begins with one query and change at most.
-use Rattle.std.proofs.Common.{◌≡◌, ℕ, true, List, [], ◌∷◌, ◌++◌, arith, refl, sym, ap, ◌∙◌, append_assoc, inl}
-use Rattle.std.proofs.lemmas.Bool.{false≢true}
+use Rattle.std.proofs.{lemmas.Bool.false≢true, Common.{◌≡◌, ℕ, true, List, [], ◌∷◌, ◌++◌, arith, refl, sym, ap, ◌∙◌}}
+use Rattle.std.proofs.Common.{append_assoc, inl}
 use Rattle.std.specs.{Fmt.{decimal, signed_decimal}, Prelude.{codes, ◌==◌}}
 use Rattle.argus_contents.specs.{Change.PlainChange, declared.query.Query.Query, Value.PlainValue}
-use Rattle.argus_contents.specs.Change as change
-use Rattle.argus_contents.specs.declared.query.Query.TheVariants as query
 use Rattle.argus_texts.specs.{Languages.{Contents, ValueEnds, Values}, Spelling.spelling}
 use Rattle.argus_texts.proofs.{Contents.contents_clear, Digits.ints_clear, Forms.{ends_first, value_ends, values_clear}}
 use Rattle.argus_texts.proofs.{Lists.cancel, Stops.{Clear, Precedes}}
@@ -13,6 +11,8 @@ use Rattle.argus_entries.proofs.FirstWords.{change_kind, one_change_kind, one_qu
 use Rattle.argus_reading.specs.Operations.{ChangeEnds, Changes, Queries, QueryEnds}
 use Rattle.argus_reading.proofs.Joints.{byte_joint, bytes_clear, int_joint, ints_joint, worded_ints_clear}
 use Rattle.argus_reading.proofs.Words.{joint_clear, worded_clear}
+use Rattle.argus_contents.specs.Change as change
+use Rattle.argus_contents.specs.declared.query.Query.TheVariants as query
 
 -- QUERIES
 
@@ -39,21 +39,13 @@ query_told (query.TagValue t) (query.TagValue u) x y a b p q k e =
 query_told _ _ x y a b p q k e = absurd (false≢true k)
 
 pub query_nil : (q : Query) → QueryEnds q []
-query_nil query.Whole = tt
-query_nil _ = tt
+query_nil p = grind arith
 
 pub query_first : (q : Query) (c : ℕ) (x y : List ℕ) → QueryEnds q (c ∷ x) → QueryEnds q (c ∷ y)
-query_first query.Whole c x y e = e
-query_first _ c x y e = e
+query_first p c x y e = grind arith
 
 pub queries_clear : Clear Queries
-queries_clear = record {
-  one = λ q r x y a b p s e.
-      query_told q r x y a b p s
-      (one_query_kind q r x y e) e;
-  nil = query_nil;
-  first = query_first;
-}
+queries_clear = grind (arith, query_told, one_query_kind, query_nil, query_first)
 
 -- CHANGES
 
@@ -107,48 +99,21 @@ change_told change.touch change.touch x y a b p q k e = (refl, cancel (codes "to
 change_told _ _ x y a b p q k e = absurd (false≢true k)
 
 pub change_nil : (c : PlainChange) → ChangeEnds c []
-change_nil (change.set_field i v) = value_ends v [] tt
-change_nil (change.store i v) = value_ends v [] tt
-change_nil (change.addh v) = value_ends v [] tt
-change_nil (change.addl v) = value_ends v [] tt
-change_nil (change.change_tag t v) = value_ends v [] tt
-change_nil _ = tt
+change_nil p = grind (arith, value_ends)
 
 pub change_first : (d : PlainChange) (c : ℕ) (x y : List ℕ) → ChangeEnds d (c ∷ x) → ChangeEnds d (c ∷ y)
-change_first (change.set_field i v) c x y e = ends_first v c x y e
-change_first (change.store i v) c x y e = ends_first v c x y e
-change_first (change.addh v) c x y e = ends_first v c x y e
-change_first (change.addl v) c x y e = ends_first v c x y e
-change_first (change.change_tag t v) c x y e = ends_first v c x y e
-change_first _ c x y e = e
+change_first p c x y e = grind (arith, ends_first)
 
 pub changes_clear : Clear Changes
-changes_clear = record {
-  one = λ c d x y a b p q e.
-      change_told c d x y a b p q
-      (one_change_kind c d x y e) e;
-  nil = change_nil;
-  first = change_first;
-}
+changes_clear = grind (arith, change_told, one_change_kind, change_nil, change_first)
 
 -- A BLANK BEHIND THEM
 
 pub query_precedes : Precedes Queries 32
-query_precedes (query.Field i) y = inl (omega arith)
-query_precedes (query.Fetch i) y = inl (omega arith)
-query_precedes (query.IsTag t) y = inl (omega arith)
-query_precedes (query.TagValue t) y = inl (omega arith)
-query_precedes _ y = tt
+query_precedes p y = grind arith
 
 value_blank : (v : PlainValue) (y : List ℕ) → ValueEnds v (32 ∷ y)
 value_blank v y = value_ends v (32 ∷ y) (inl (omega arith))
 
 pub change_precedes : Precedes Changes 32
-change_precedes (change.set_field i v) y = value_blank v y
-change_precedes (change.store i v) y = value_blank v y
-change_precedes (change.addh v) y = value_blank v y
-change_precedes (change.addl v) y = value_blank v y
-change_precedes (change.set_low i) y = inl (omega arith)
-change_precedes (change.trim i n) y = inl (omega arith)
-change_precedes (change.change_tag t v) y = value_blank v y
-change_precedes _ y = tt
+change_precedes p y = grind (arith, value_blank)

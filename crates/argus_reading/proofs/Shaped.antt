@@ -15,8 +15,7 @@ begins {rest = rest} {t = t} r = record { thing = t; rest = rest; reads = r }
 
 -- the word of a declaration doesn't come
 pub parts_shaped : (text : List ℕ) (left : ℕ) → Stops CallParts text left → Shaped Declares text
-parts_shaped text left s front back is lead none =
-    stops_starts CallParts text left s
+parts_shaped text left s front back is lead none = stops_starts CallParts text left s
     (same CallParts (inl tt) text back tt tt (is ∙ ap (λ x. x ++ back) lead))
 
 -- a call was read
@@ -30,14 +29,12 @@ module _ (text front back : List ℕ) (is : text ≡ front ++ back) (lead : Decl
   behind_number = is ∙ ap (λ x. x ++ back) lead.2 ∙ append_assoc (decimal lead.0) (codes " declare ") back
 
   number_first : Starts Ordinals text
-  number_first =
-      same Ordinals lead.0 text (32 ∷ (codes "declare " ++ back)) (omega arith, omega (arith, lead.1))
+  number_first = same Ordinals lead.0 text (32 ∷ (codes "declare " ++ back)) (omega arith, omega (arith, lead.1))
       (line_joint.precedes lead.0 (codes "declare " ++ back)) behind_number
 
   -- the number that was read is this one
   after : (n : ℕ) (rest : List ℕ) → Reads Ordinals text n rest → rest ≡ 32 ∷ (codes "declare " ++ back)
-  after n rest r =
-      (line_joint.clear.one n lead.0 rest (32 ∷ (codes "declare " ++ back)) r.good
+  after n rest r = (line_joint.clear.one n lead.0 rest (32 ∷ (codes "declare " ++ back)) r.good
       (omega arith, omega (arith, lead.1)) r.ends (line_joint.precedes lead.0 (codes "declare " ++ back))
       (sym r.is ∙ behind_number)).1
 
@@ -65,14 +62,12 @@ line_shaped {text = text} {rest = rest} {t = t} r front back is lead none =
     let whole : text ≡ (decimal lead.0 ++ 32 ∷ []) ++ (codes "declare " ++ back) =
     behind_number text front back is lead ∙ sym (append_assoc (decimal lead.0) (32 ∷ []) (codes "declare " ++ back)) in
     let start : Starts Lines text = record { thing = t; rest = rest; reads = r } in
-    none (shape_part.starts back
-    (call_part.starts (codes "declare " ++ back)
+    none (shape_part.starts back (call_part.starts (codes "declare " ++ back)
     ((entry_part lead.0 (omega arith, omega (arith, lead.1))).starts (codes "declare " ++ back)
     (subst (Starts Lines) whole start))))
 
 lacks_none : (text : List ℕ) → Shaped DeclaresAt text → (before : ℕ) → LacksShape text before → ⊥
-lacks_none text shaped before l =
-    shaped (take before text) (drop before text) (sym (take-append-drop before text))
+lacks_none text shaped before l = shaped (take before text) (drop before text) (sym (take-append-drop before text))
     (l.number, l.in_range, l.front) l.shape
 
 -- the fault of a text that lacks no shape

@@ -1,19 +1,14 @@
 -- The text of an object's line determines what it says.
-use Rattle.std.proofs.Common.{List, ap, append-nil, arith, get_or, inl, refl, sym, ◌++◌, ◌∙◌, ◌∷◌, ◌≡◌, ℕ, []}
+use Rattle.std.proofs.Common.{List, ap, append-nil, arith, inl, refl, sym, ◌++◌, ◌∙◌, ◌∷◌, ◌≡◌, ℕ, []}
 use Rattle.std.specs.Prelude.{None, Option, Some, codes}
-use Rattle.argus_contents.specs.{Content.{PlainContent, arr, rec, var}, Shape.PlainShape, Value.listed}
+use Rattle.argus_contents.specs.{Content.PlainContent, Shape.PlainShape}
 use Rattle.argus_reading.proofs.Joints.{ids_clear}
 use Rattle.argus_texts.specs.{ContentSpelling.{PartsWithin, content_spelling}, ShapeSpelling.shape_spelling}
-use Rattle.argus_texts.specs.Spelling.{inside}
 use Rattle.argus_texts.proofs.{Contents.one_content, Forms.int_lead, Lists.tail_of, ShapeForms.one_shape}
 use Rattle.argus_reading.specs.OpeningLanguages.{IsForm, IsReadableContent, ObjectLines, content_text}
 
 absent_not : (c : PlainContent) → PartsWithin 16 c → codes "absent" ≡ content_spelling c → ⊥
-absent_not (rec vs) w e = let h : 97 ≡ 123 = ap (λ (l : List ℕ). get_or l 0 0) e in omega (arith, h)
-absent_not (arr low vs) w e =
-    let l = int_lead low 97 (98 ∷ 115 ∷ 101 ∷ 110 ∷ 116 ∷ []) (91 ∷ inside 93 (listed vs)) w.0 e in
-    omega arith
-absent_not (var t v) w e = let h : 97 ≡ 60 = ap (λ (l : List ℕ). get_or l 0 0) e in omega (arith, h)
+absent_not p w e = grind (arith, int_lead)
 
 pub content_told : (c d : Option PlainContent) → IsReadableContent c → IsReadableContent d
     → content_text c ≡ content_text d → c ≡ d
@@ -31,8 +26,7 @@ object_told o p a b text f g =
     let x : List ℕ = shape_spelling a.0 ++ 32 ∷ content_text a.1 in
     let y : List ℕ = shape_spelling b.0 ++ 32 ∷ content_text b.1 in
     let numbers = (ids_clear (codes "o")).one o p (32 ∷ x) (32 ∷ y) f.good.0 g.good.0 (inl (omega arith)) (inl
-    (omega arith))
-    (sym f.is ∙ g.is) in
+    (omega arith)) (sym f.is ∙ g.is) in
     let shapes = one_shape a.0 b.0 (32 ∷ content_text a.1) (32 ∷ content_text b.1) f.good.1.0.named g.good.1.0.named
     (tail_of numbers.1) in
     let contents = content_told a.1 b.1 f.good.1.1 g.good.1.1 (tail_of shapes.1) in

@@ -1,8 +1,7 @@
 -- Where reading stops that may go on in either of two ways: where the later of them stops.
-use Rattle.std.proofs.Common.{◌≡◌, ℕ, zero, suc, ◌≤◌, ◌⊎◌, inl, inr, List, [], ◌∷◌, ◌++◌, length, sym, ap, ◌∙◌, subst}
-use Rattle.std.proofs.Common.{arith, min, length-append}
+use Rattle.std.proofs.Common.{◌≡◌, ℕ, zero, suc, ◌≤◌, ◌⊎◌, inl, inr, List, [], ◌∷◌, ◌++◌, length, sym, ap, subst, arith}
+use Rattle.std.proofs.Common.{min, length-append}
 use Rattle.argus_texts.specs.{declared.stop.Stop.Stop, Language.{Language, FormOf, NoWay, OnLeft, Reads, Starts, Stops}}
-use Rattle.argus_texts.specs.declared.stop.Stop.TheVariants as stop
 use Rattle.argus_texts.proofs.Lists.{tail_of, head_of}
 use Rattle.argus_reading.specs.{Combined.Either, Farther.farther}
 
@@ -12,25 +11,21 @@ Cannot P front [] = P front → ⊥
 Cannot P front (c ∷ back) = (more : List ℕ) → P (front ++ c ∷ more) → ⊥
 
 cannot_from : (L : Language) (front back : List ℕ) → NoWay L front back → Cannot (Starts L) front back
-cannot_from L front [] n = n
-cannot_from L front (c ∷ back) n = n
+cannot_from p front q n = grind arith
 
 shift : (P : List ℕ → Type 0) (c : ℕ) (front back : List ℕ) → Cannot (λ x. P (c ∷ x)) front back
     → Cannot P (c ∷ front) back
-shift P c front [] n = n
-shift P c front (d ∷ back) n = n
+shift p c front q n = grind arith
 
 unshift : (P : List ℕ → Type 0) (c : ℕ) (front back : List ℕ) → Cannot P (c ∷ front) back
     → Cannot (λ x. P (c ∷ x)) front back
-unshift P c front [] n = n
-unshift P c front (d ∷ back) n = n
+unshift p c front q n = grind arith
 
 -- what no front begins no longer front does
 longer : (P : List ℕ → Type 0) (f b g d : List ℕ) → f ++ b ≡ g ++ d → length b ≤ length d → Cannot P g d → Cannot P f b
 longer P [] b [] d e l n = subst (Cannot P []) (sym e) n
 longer P [] b (h ∷ g) d e l n = absurd (omega (arith, ap length e, length-append g d))
-longer P (c ∷ f) [] [] d e l n =
-    let m : Cannot P [] (c ∷ (f ++ [])) = subst (Cannot P []) (sym e) n in m f
+longer P (c ∷ f) [] [] d e l n = let m : Cannot P [] (c ∷ (f ++ [])) = subst (Cannot P []) (sym e) n in m f
 longer P (c ∷ f) (x ∷ b) [] d e l n =
     let m : Cannot P [] (c ∷ (f ++ x ∷ b)) = subst (Cannot P []) (sym e) n in λ more p. m (f ++ x ∷ more) p
 longer P (c ∷ f) b (h ∷ g) d e l n =
@@ -39,14 +34,10 @@ longer P (c ∷ f) b (h ∷ g) d e l n =
 
 which : (L M : Language) (x rest : List ℕ) (t : L.Thing ⊎ M.Thing) → Reads (Either L M) x t rest
     → Starts L x ⊎ Starts M x
-which L M x rest (inl a) r =
-    inl (record { thing = a; rest = rest; reads = record { good = r.good; ends = r.ends; is = r.is } })
-which L M x rest (inr b) r =
-    inr (record { thing = b; rest = rest; reads = record { good = r.good; ends = r.ends; is = r.is } })
+which p q x rest s r = grind arith
 
 neither_starts : (L M : Language) (x : List ℕ) → (Starts L x → ⊥) → (Starts M x → ⊥) → Starts (Either L M) x → ⊥
-neither_starts L M x p q s =
-    elim (which L M x s.rest s.thing s.reads) as (λ _. ⊥) [ inl a ↦ p a | inr b ↦ q b ]
+neither_starts L M x p q s = elim (which L M x s.rest s.thing s.reads) as (λ _. ⊥) [ inl a ↦ p a | inr b ↦ q b ]
 
 neither : (L M : Language) (front back : List ℕ) → Cannot (Starts L) front back → Cannot (Starts M) front back
     → NoWay (Either L M) front back
@@ -56,9 +47,7 @@ neither L M front (c ∷ back) p q = λ more. neither_starts L M (front ++ c ∷
 -- where another way stopped earlier
 beyond : (L : Language) (text front back : List ℕ) (left : ℕ) → Stops L text left → text ≡ front ++ back
     → length back ≤ left → Cannot (Starts L) front back
-beyond L text front back left s e l =
-    longer (Starts L) front back s.front s.back (sym e ∙ s.whole) (omega (arith, s.count))
-    (cannot_from L s.front s.back s.no_way)
+beyond L text front back left s e l = grind (arith, longer, cannot_from)
 
 left_way : (L M : Language) (u : List ℕ) → FormOf L u → FormOf (Either L M) u
 left_way L M u f = record { thing = inl f.thing; good = f.good; is = f.is }
@@ -95,11 +84,7 @@ right_later L M text a b l s t = record {
 order : (a b : ℕ) → (a ≤ b) ⊎ (b ≤ a)
 order zero b = inl (omega arith)
 order (suc a) zero = inr (omega arith)
-order (suc a) (suc b) =
-    elim (order a b) as (λ _. (suc a ≤ suc b) ⊎ (suc b ≤ suc a)) [
-      | inl h ↦ inl (omega arith)
-      | inr h ↦ inr (omega arith)
-    ]
+order (suc a) (suc b) = grind (arith, order a b)
 
 pub both : (L M : Language) (text : List ℕ) (a b : ℕ) → Stops L text a → Stops M text b
     → Stops (Either L M) text (min a b)
@@ -112,9 +97,7 @@ both L M text a b s t =
 -- reading stops at the later of two stops
 pub later : (L M : Language) (text : List ℕ) (s t : Stop) → OnLeft s (Stops L text) → OnLeft t (Stops M text)
     → OnLeft (farther s t) (Stops (Either L M) text)
-later L M text (stop.Left a) (stop.Left b) p q = both L M text a b p q
-later L M text (stop.Left a) stop.Memory p q = tt
-later L M text stop.Memory t p q = tt
+later r s text t u p q = grind (arith, both)
 
 -- the same of what `farther` returned
 pub latter : (L M : Language) (text : List ℕ) (s t r : Stop) → OnLeft s (Stops L text) → OnLeft t (Stops M text)

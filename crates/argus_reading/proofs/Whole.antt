@@ -16,20 +16,14 @@ use Rattle.argus_reading.proofs.Words.{Joint, joint_clear, worded_clear}
 
 -- a call and a reply
 pub entry_joint : Joint Calls 32 (Worded (codes "-> ") Replies)
-entry_joint = record {
-  clear = calls_clear;
-  precedes = call_precedes;
-  example = reply.answered answer.done;
-  good = tt;
-}
+entry_joint = record { clear = calls_clear; precedes = call_precedes; example = reply.answered answer.done; good = tt }
 
 -- reading a call is reading an entry
 pub call_part : Behind [] Calls Entries
 call_part = pair_first Calls (Worded (codes "-> ") Replies) 32 entry_joint.precedes entry_joint.example entry_joint.good
 
 entries_clear : Clear Entries
-entries_clear = joint_clear entry_joint
-    (worded_clear (codes "-> ") Replies replies_clear)
+entries_clear = joint_clear entry_joint (worded_clear (codes "-> ") Replies replies_clear)
 
 -- a number and an entry
 pub line_joint : Joint Ordinals 32 Entries
@@ -80,29 +74,19 @@ pub line_left_behind : (d : Lines.Thing) (text rest : List ℕ) → Reads Lines 
     → (length rest ≤ length text) × IsFault IsEntryLine text (length text - length rest)
 line_left_behind d text rest r h = left_behind Lines IsEntryLine lines_clear line_texts d text rest r h
 
--- a line was read, and nothing comes behind it
-pub line_whole : (n : ℕ) (e : PlainEntry) (text rest : List ℕ) → Reads Lines text (n, (e.call, e.reply)) rest
-    → length rest ≡ 0 → text ≡ entry_spelling n e
-line_whole n e text [] r h = r.is ∙ append-nil (Lines.form (n, (e.call, e.reply))) ∙ line_form n e
-line_whole n e text (c ∷ rest) r h = absurd (omega arith)
-
 line_starts : (text : List ℕ) → IsEntryLine text → Starts Lines text
 line_starts text a =
     let f = line_texts.to text a in
     record {
       thing = f.thing;
       rest = [];
-      reads = record {
-        good = f.good;
-        ends = lines_clear.nil f.thing;
-        is = f.is ∙ sym (append-nil (Lines.form f.thing));
-      };
+      reads =
+          record { good = f.good; ends = lines_clear.nil f.thing; is = f.is ∙ sym (append-nil (Lines.form f.thing)) };
     }
 
 -- the word of a declaration behind a number
 pub numbered : (n : ℕ) (f : List ℕ) → n ≤ 18446744073709551615 → Declares f → DeclaresAt ((decimal n ++ 32 ∷ []) ++ f)
-numbered n f h e =
-    (n, omega arith, append_assoc (decimal n) (32 ∷ []) f ∙ ap (λ (z : List ℕ). decimal n ++ 32 ∷ z) e)
+numbered n f h e = (n, omega arith, append_assoc (decimal n) (32 ∷ []) f ∙ ap (λ (z : List ℕ). decimal n ++ 32 ∷ z) e)
 
 lacks_at : (front back : List ℕ) → DeclaresAt front → (Starts Lines (front ++ back) → ⊥) → BeginsNo Shapes back
     → LacksShape (front ++ back) (length front)

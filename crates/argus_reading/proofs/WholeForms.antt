@@ -1,16 +1,12 @@
 -- Texts that are whole forms of a language: without one of its parts a text isn't a pair.
-use Rattle.std.proofs.Common.{◌≡◌, ℕ, ◌<◌, List, [], ◌∷◌, ◌++◌, length, refl, sym, ap, ◌∙◌, subst, append-nil, arith}
+use Rattle.std.proofs.Common.{◌≡◌, ℕ, ◌<◌, List, [], ◌∷◌, length, refl, sym, ap, ◌∙◌, subst, append-nil, arith}
 use Rattle.argus_texts.specs.{Language.{FormOf, IsNot, Language, Reads, Starts}, Languages.Pairs}
 use Rattle.argus_texts.proofs.{Lists.tail_of, Stops.{Clear, Precedes}}
 use Rattle.argus_reading.specs.OpeningLanguages.{IsForm}
 
 -- a text that is a form begins with a form
 pub form_starts : (L : Language) → Clear L → (text : List ℕ) → FormOf L text → Starts L text
-form_starts L k text f = record {
-  thing = f.thing;
-  rest = [];
-  reads = record { good = f.good; ends = k.nil f.thing; is = f.is ∙ sym (append-nil (L.form f.thing)) };
-}
+form_starts L k text f = grind (arith, append-nil)
 
 -- nothing is left: the whole text was read
 pub read_whole : (L : Language) (b : L.Thing) (text rest : List ℕ) → Reads L text b rest → length rest ≡ 0
@@ -21,8 +17,7 @@ read_whole L b text (c ∷ rest) r h = absurd (omega arith)
 -- something is left after what was read: the text isn't a form
 pub left_no : (L : Language) → Clear L → (b : L.Thing) (text rest : List ℕ) → Reads L text b rest → 0 < length rest
     → FormOf L text → ⊥
-left_no L k b text rest r h f =
-    let same = k.one b f.thing rest [] r.good f.good r.ends (k.nil f.thing)
+left_no L k b text rest r h f = let same = k.one b f.thing rest [] r.good f.good r.ends (k.nil f.thing)
     (sym r.is ∙ f.is ∙ sym (append-nil (L.form f.thing))) in
     let none : length rest ≡ 0 = ap length same.1 in
     omega arith
@@ -30,11 +25,7 @@ left_no L k b text rest r h f =
 module _ (L M : Language) (c : ℕ) (p : Precedes L c) where
   -- a pair begins with its first part
   pub pair_starts : (text : List ℕ) → FormOf (Pairs L c M) text → Starts L text
-  pair_starts text f = record {
-    thing = f.thing.0;
-    rest = c ∷ M.form f.thing.1;
-    reads = record { good = f.good.0; ends = p f.thing.0 (M.form f.thing.1); is = f.is };
-  }
+  pair_starts text f = grind arith
 
   behind_first : Clear L → (text : List ℕ) (a : L.Thing) (rest : List ℕ) → Reads L text a rest
       → (f : FormOf (Pairs L c M) text) → rest ≡ c ∷ M.form f.thing.1
@@ -52,18 +43,13 @@ module _ (L M : Language) (c : ℕ) (p : Precedes L c) where
   -- the second part is missing
   pub second_no : Clear L → (text : List ℕ) (a : L.Thing) (next mid : List ℕ) → Reads L text a next → next ≡ c ∷ mid
       → (FormOf M mid → ⊥) → FormOf (Pairs L c M) text → ⊥
-  second_no k text a next mid r e n f =
-      n (record {
-        thing = f.thing.1;
-        good = f.good.1;
-        is = tail_of (sym e ∙ behind_first k text a next r f);
-      })
+  second_no k text a next mid r e n f = n (record {
+    thing = f.thing.1;
+    good = f.good.1;
+    is = tail_of (sym e ∙ behind_first k text a next r f);
+  })
 
   -- both parts are there
   pub pair_whole : (text : List ℕ) (a : L.Thing) (b : M.Thing) (next mid : List ℕ) → Reads L text a next
-      → next ≡ c ∷ mid
-      → IsForm M b mid → IsForm (Pairs L c M) (a, b) text
-  pair_whole text a b next mid r e f = record {
-    good = (r.good, f.good);
-    is = r.is ∙ ap (λ x. L.form a ++ x) (e ∙ ap (λ x. c ∷ x) f.is);
-  }
+      → next ≡ c ∷ mid → IsForm M b mid → IsForm (Pairs L c M) (a, b) text
+  pair_whole text a b next mid r e f = grind arith

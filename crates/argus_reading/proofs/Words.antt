@@ -1,13 +1,12 @@
 -- Languages with a word before, and two languages with a byte between: where they stop.
-use Rattle.std.proofs.Common.{◌≡◌, ℕ, List, [], ◌∷◌, ◌++◌, length, sym, ap, ◌∙◌, subst, append-nil, append_assoc}
+use Rattle.std.proofs.Common.{arith, ◌≡◌, ℕ, List, [], ◌∷◌, ◌++◌, length, sym, ap, ◌∙◌, subst, append-nil, append_assoc}
 use Rattle.argus_texts.specs.{Language.{Language, IsNot, NoWay, Reads, Starts, Stops}, Languages.{Pairs, Word}}
-use Rattle.argus_texts.proofs.{Lists.{cancel, tail_of}, Stops.{pair_second, pair_whole}}
-use Rattle.argus_texts.proofs.Stops.{Behind, Clear, Precedes, stops_behind, stops_in, pair_between, pair_first}
+use Rattle.argus_texts.proofs.{Lists.{cancel, tail_of}, Stops.{pair_second, pair_whole, Behind, Clear, Precedes}}
+use Rattle.argus_texts.proofs.Stops.{stops_behind, stops_in, pair_between, pair_first}
 use Rattle.argus_reading.specs.Combined.{Worded}
 
 no_way_starts : (L : Language) (front back : List ℕ) → NoWay L front back → Starts L (front ++ back) → ⊥
-no_way_starts L front [] h t = h (subst (Starts L) (append-nil front) t)
-no_way_starts L front (c ∷ back) h t = h back t
+no_way_starts p front q h t = grind (arith, append-nil)
 
 -- a text at which a reader stops doesn't begin with a form
 pub stops_starts : (L : Language) (text : List ℕ) (left : ℕ) → Stops L text left → Starts L text → ⊥
@@ -53,13 +52,7 @@ word_ends w L {text = text} {mid = mid} {left = left} e s =
     stops_in w L (Worded w L) (worded_second w L) text mid left e s
 
 pub worded_clear : (w : List ℕ) (L : Language) → Clear L → Clear (Worded w L)
-worded_clear w L k = record {
-  one = λ a b x y g h e f i.
-      k.one a b x y g h e f
-      (cancel w (L.form a ++ x) (L.form b ++ y) (sym (append_assoc w (L.form a) x) ∙ i ∙ append_assoc w (L.form b) y));
-  nil = k.nil;
-  first = k.first;
-}
+worded_clear w L k = grind (arith, cancel, append_assoc)
 
 -- L, the byte c and M make a pair that is told
 pub record Joint (L : Language) (c : ℕ) (M : Language) : Type 0 where
@@ -75,10 +68,10 @@ first_ends {L = L} {M = M} {c = c} j {text = text} {left = left} s =
     stops_behind [] L (Pairs L c M) (pair_first L M c j.precedes j.example j.good) text left s
 
 -- the byte between doesn't come
-pub joint_lacks : {L M : Language} {c : ℕ} → Joint L c M → {text : List ℕ} {a : L.Thing} {rest : List ℕ}
-    → Reads L text a rest → IsNot c rest → Stops (Pairs L c M) text (length rest)
-joint_lacks {L = L} {M = M} {c = c} j {text = text} {a = a} {rest = rest} r n =
-    pair_between L M c j.clear j.precedes j.example j.good text a rest r n
+pub joint_lacks : {L M : Language} {c : ℕ} → Joint L c M → {text : List ℕ} {a : L.Thing} {rest : List ℕ} {left : ℕ}
+    → Reads L text a rest → (left ≡ length rest) × IsNot c rest → Stops (Pairs L c M) text left
+joint_lacks {L = L} {M = M} {c = c} j {text = text} {a = a} {rest = rest} r n = subst (Stops (Pairs L c M) text)
+    (sym n.0) (pair_between L M c j.clear j.precedes j.example j.good text a rest r n.1)
 
 -- the second part stops
 pub second_ends : {L M : Language} {c : ℕ} → Joint L c M → {text : List ℕ} {a : L.Thing} {next mid : List ℕ} {left : ℕ}

@@ -14,16 +14,7 @@ Places word = Pairs (Worded word Ids) blank (Worded (codes "o") Ids)
 -- a shape that is declared can be made
 abbrev pub DeclaresShape : PlainCall → Type 0
 DeclaresShape (call.declare s) = IsMakeable s
-DeclaresShape call.begin_top = Unit {0}
-DeclaresShape (call.begin_sub a) = Unit {0}
-DeclaresShape (call.begin_nested a) = Unit {0}
-DeclaresShape (call.commit a) = Unit {0}
-DeclaresShape (call.abort a) = Unit {0}
-DeclaresShape (call.abort_others a) = Unit {0}
-DeclaresShape (call.ask a o q) = Unit {0}
-DeclaresShape (call.alter a o c) = Unit {0}
-DeclaresShape (call.test_read a o) = Unit {0}
-DeclaresShape (call.test_write a o) = Unit {0}
+DeclaresShape c = Unit {0}
 
 -- a call whose numbers are in range, with values of depth at most 16, and a shape that can be made
 abbrev pub IsReadableCall : PlainCall → Type 0
@@ -33,29 +24,17 @@ IsReadableCall c = CallWithin MAX_VALUE_DEPTH c × DeclaresShape c
 abbrev pub CallEnds : PlainCall → List ℕ → Type 0
 CallEnds (call.declare s) rest = Unit {0}
 CallEnds call.begin_top rest = Unit {0}
-CallEnds (call.begin_sub a) rest = NotDigit rest
-CallEnds (call.begin_nested a) rest = NotDigit rest
-CallEnds (call.commit a) rest = NotDigit rest
-CallEnds (call.abort a) rest = NotDigit rest
-CallEnds (call.abort_others a) rest = NotDigit rest
 CallEnds (call.ask a o q) rest = QueryEnds q rest
 CallEnds (call.alter a o c) rest = ChangeEnds c rest
-CallEnds (call.test_read a o) rest = NotDigit rest
-CallEnds (call.test_write a o) rest = NotDigit rest
+CallEnds c rest = NotDigit rest
 
 -- such calls
 abbrev pub Calls : Language
-Calls = record {
-  Thing = PlainCall;
-  Good = IsReadableCall;
-  form = call_spelling;
-  Ends = CallEnds;
-}
+Calls = record { Thing = PlainCall; Good = IsReadableCall; form = call_spelling; Ends = CallEnds }
 
 -- the parts of calls that begin or end actions
 abbrev pub ActionCalls : Language
-ActionCalls =
-    Either (Word (codes "begin_top")) (Either (Worded (codes "begin_sub a") Ids)
+ActionCalls = Either (Word (codes "begin_top")) (Either (Worded (codes "begin_sub a") Ids)
     (Either (Worded (codes "begin_nested a") Ids) (Either (Worded (codes "commit a") Ids)
     (Either (Worded (codes "abort a") Ids) (Worded (codes "abort_others a") Ids)))))
 
@@ -69,8 +48,7 @@ Alters = Pairs (Places (codes "alter a")) blank Changes
 
 -- the parts of calls that name an object
 abbrev pub ObjectCalls : Language
-ObjectCalls =
-    Either Asks (Either Alters (Either (Places (codes "test_read a"))
+ObjectCalls = Either Asks (Either Alters (Either (Places (codes "test_read a"))
     (Places (codes "test_write a"))))
 
 -- what calls are read from; for a declaration only its word

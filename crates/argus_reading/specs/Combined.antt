@@ -5,12 +5,8 @@ use Rattle.argus_texts.specs.Language.{Language}
 
 -- a word, and a thing after it
 abbrev pub Worded : List ℕ → Language → Language
-Worded word L = record {
-  Thing = L.Thing;
-  Good = L.Good;
-  form = λ t. word ++ L.form t;
-  Ends = L.Ends;
-}
+Worded word L =
+    record { Thing = L.Thing; Good = L.Good; form = λ t. word ++ L.form t; Ends = L.Ends }
 
 -- good in its own language
 abbrev pub either_good : (L M : Language) → L.Thing ⊎ M.Thing → Type 0

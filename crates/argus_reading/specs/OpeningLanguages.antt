@@ -8,8 +8,7 @@ use Rattle.argus_texts.specs.Languages.{Numbers, Pairs}
 
 -- how many entries and actions the opening stands for: `entries 11 actions 3`
 abbrev pub FoldedLines : Language
-FoldedLines =
-    Pairs (Worded (codes "entries ") (Numbers 1 MAX_FIRST_ENTRY)) blank
+FoldedLines = Pairs (Worded (codes "entries ") (Numbers 1 MAX_FIRST_ENTRY)) blank
     (Worded (codes "actions ") (Numbers 0 MAX_ACTIONS))
 
 -- a content as it is written; `absent` if there is none

@@ -41,21 +41,11 @@ QueryEnds (query.Field i) rest = NotDigit rest
 QueryEnds (query.Fetch i) rest = NotDigit rest
 QueryEnds (query.IsTag t) rest = NotDigit rest
 QueryEnds (query.TagValue t) rest = NotDigit rest
-QueryEnds query.Whole rest = Unit {0}
-QueryEnds query.Low rest = Unit {0}
-QueryEnds query.High rest = Unit {0}
-QueryEnds query.Size rest = Unit {0}
-QueryEnds query.Bottom rest = Unit {0}
-QueryEnds query.Top rest = Unit {0}
+QueryEnds q rest = Unit {0}
 
 -- queries whose numbers are in range
 abbrev pub Queries : Language
-Queries = record {
-  Thing = Query;
-  Good = QueryWithin;
-  form = query_spelling;
-  Ends = QueryEnds;
-}
+Queries = record { Thing = Query; Good = QueryWithin; form = query_spelling; Ends = QueryEnds }
 
 -- the words of queries that are one word
 abbrev pub WordQueries : Language
@@ -65,8 +55,7 @@ WordQueries =
 
 -- the parts of queries that have a number
 abbrev pub NumberQueries : Language
-NumberQueries =
-    Either (Worded (codes "field ") Bytes) (Either (Worded (codes "fetch ") Ints)
+NumberQueries = Either (Worded (codes "field ") Bytes) (Either (Worded (codes "fetch ") Ints)
     (Either (Worded (codes "is_tag ") Bytes) (Worded (codes "tag_value ") Bytes)))
 
 -- what queries are read from
@@ -84,10 +73,7 @@ ChangeEnds (change.addl v) rest = ValueEnds v rest
 ChangeEnds (change.set_low i) rest = NotDigit rest
 ChangeEnds (change.trim i n) rest = NotDigit rest
 ChangeEnds (change.change_tag t v) rest = ValueEnds v rest
-ChangeEnds (change.create c) rest = Unit {0}
-ChangeEnds change.remh rest = Unit {0}
-ChangeEnds change.reml rest = Unit {0}
-ChangeEnds change.touch rest = Unit {0}
+ChangeEnds c rest = Unit {0}
 
 -- changes whose numbers are in range, with values of depth at most 16
 abbrev pub Changes : Language
@@ -104,15 +90,13 @@ WordChanges = Either (Word (codes "remh")) (Either (Word (codes "reml")) (Word (
 
 -- the parts of changes with one argument
 abbrev pub SingleChanges : Language
-SingleChanges =
-    Either (Worded (codes "create ") (Contents MAX_VALUE_DEPTH))
+SingleChanges = Either (Worded (codes "create ") (Contents MAX_VALUE_DEPTH))
     (Either (Worded (codes "addh ") (Values MAX_VALUE_DEPTH))
     (Either (Worded (codes "addl ") (Values MAX_VALUE_DEPTH)) (Worded (codes "set_low ") Ints)))
 
 -- the parts of changes with two arguments
 abbrev pub DoubleChanges : Language
-DoubleChanges =
-    Either (ByteAndValue (codes "set_field ")) (Either (IntAndValue (codes "store "))
+DoubleChanges = Either (ByteAndValue (codes "set_field ")) (Either (IntAndValue (codes "store "))
     (Either (TwoInts (codes "trim ")) (ByteAndValue (codes "change_tag "))))
 
 -- what changes are read from

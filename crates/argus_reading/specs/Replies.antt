@@ -20,31 +20,24 @@ Signals = record {
 
 -- the words of signals
 abbrev pub SignalWords : Language
-SignalWords =
-    Either (Word (codes "signal absent")) (Either (Word (codes "signal exists"))
+SignalWords = Either (Word (codes "signal absent")) (Either (Word (codes "signal exists"))
     (Either (Word (codes "signal bounds")) (Either (Word (codes "signal wrong_tag"))
     (Either (Word (codes "signal negative_size")) (Word (codes "signal limits"))))))
 
 -- refusals
 abbrev pub Refusals : Language
-Refusals = record {
-  Thing = Refusal;
-  Good = λ r. Unit {0};
-  form = refusal_name;
-  Ends = λ r rest. Unit {0};
-}
+Refusals =
+    record { Thing = Refusal; Good = λ r. Unit {0}; form = refusal_name; Ends = λ r rest. Unit {0} }
 
 -- the names of refusals of an action or an object that a call names
 abbrev pub NamedRefusals : Language
-NamedRefusals =
-    Either (Word (codes "NoAction")) (Either (Word (codes "Over"))
+NamedRefusals = Either (Word (codes "NoAction")) (Either (Word (codes "Over"))
     (Either (Word (codes "Suspended")) (Either (Word (codes "NoObject"))
     (Word (codes "IllTyped")))))
 
 -- the names of the other refusals
 abbrev pub OtherRefusals : Language
-OtherRefusals =
-    Either (Word (codes "Conflict")) (Either (Word (codes "TooDeep"))
+OtherRefusals = Either (Word (codes "Conflict")) (Either (Word (codes "TooDeep"))
     (Either (Word (codes "TooMany")) (Word (codes "NoSiblings"))))
 
 -- what refusals are read from
@@ -55,10 +48,7 @@ RefusalParts = Either NamedRefusals OtherRefusals
 abbrev pub AnswerEnds : PlainAnswer → List ℕ → Type 0
 AnswerEnds (answer.val v) rest = ValueEnds v rest
 AnswerEnds (answer.num n) rest = NotDigit rest
-AnswerEnds (answer.body c) rest = Unit {0}
-AnswerEnds answer.done rest = Unit {0}
-AnswerEnds (answer.flag b) rest = Unit {0}
-AnswerEnds (answer.signal s) rest = Unit {0}
+AnswerEnds a rest = Unit {0}
 
 -- answers whose number is in range, with values of depth at most 16
 abbrev pub Answers : Language
@@ -71,14 +61,12 @@ Answers = record {
 
 -- the words of answers that are one word
 abbrev pub WordAnswers : Language
-WordAnswers =
-    Either (Word (codes "done")) (Either (Word (codes "flag true"))
+WordAnswers = Either (Word (codes "done")) (Either (Word (codes "flag true"))
     (Either (Word (codes "flag false")) Signals))
 
 -- the parts of answers that have a value, a content or a number
 abbrev pub FullAnswers : Language
-FullAnswers =
-    Either (Worded (codes "val ") (Values MAX_VALUE_DEPTH))
+FullAnswers = Either (Worded (codes "val ") (Values MAX_VALUE_DEPTH))
     (Either (Worded (codes "num ") Ints) (Worded (codes "body ") (Contents MAX_VALUE_DEPTH)))
 
 -- what answers are read from
@@ -103,6 +91,5 @@ Replies = record {
 
 -- what replies are read from
 abbrev pub ReplyParts : Language
-ReplyParts =
-    Either (Worded (codes "o") Ids) (Either (Worded (codes "a") Ids)
+ReplyParts = Either (Worded (codes "o") Ids) (Either (Worded (codes "a") Ids)
     (Either (Worded (codes "refused ") Refusals) Answers))

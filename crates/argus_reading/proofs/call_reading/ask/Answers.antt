@@ -1,31 +1,19 @@
 -- The place, the blank behind it, or the operation stops.
-use Rattle.std.proofs.{lemmas.Result.err_from_is_err_and, Common.{sym, subst}}
-use Rattle.argus_texts.proofs.Exits.{passed}
-use Rattle.argus_texts.specs.Language.{Stops}
 use Rattle.std.specs.Prelude.{codes}
-use Rattle.argus_reading.proofs.{Words.{first_ends, joint_lacks, second_ends}, Calls.ask_joint}
-use Rattle.argus_reading.specs.Calls.{Asks}
+use Rattle.argus_reading.proofs.{Words.{first_ends, joint_lacks, second_ends}, Calls.ask_joint, Lacks.passed_on}
 use Rattle.argus_reading.proofs.call_reading.ask.Goals as goal
 
 pub returns-in_err-a-clause-stops : goal.returns-in_err-a-clause-stops
-returns-in_err-a-clause-stops c =
-    let p = err_from_is_err_and c.from_residual.result c.from_residual.ensures.1 in
-    rw (p.1, p.2)
-    (passed c.in_err-a.field-0.0 _ _ (λ left s. first_ends (ask_joint (codes "ask a")) s)
-    c.in_err-a.ensures.stops)
+returns-in_err-a-clause-stops c = passed_on c.from_residual.result c.in_err-a.field-0.0 _ _ c.from_residual.ensures.1
+    (λ left s. first_ends (ask_joint (codes "ask a")) s) c.in_err-a.ensures.stops
 
 pub returns-in_err-rest-clause-stops : goal.returns-in_err-rest-clause-stops
 returns-in_err-rest-clause-stops c =
-    let p = err_from_is_err_and c.from_residual-in_err-rest.result c.from_residual-in_err-rest.ensures.1 in
-    rw (p.1, p.2)
-    (passed c.in_err-rest.field-0.0 _ _ (λ left s. subst (Stops Asks c.args.text.now) (sym s.0)
-    (joint_lacks (ask_joint (codes "ask a")) c.in_ok-a.ensures.read s.1))
-    c.in_err-rest.ensures.stops)
+    passed_on c.from_residual-in_err-rest.result c.in_err-rest.field-0.0 _ _ c.from_residual-in_err-rest.ensures.1
+    (λ left s. joint_lacks (ask_joint (codes "ask a")) c.in_ok-a.ensures.read s) c.in_err-rest.ensures.stops
 
 pub returns-in_err-query-clause-stops : goal.returns-in_err-query-clause-stops
 returns-in_err-query-clause-stops c =
-    let p = err_from_is_err_and c.from_residual-in_err-query.result c.from_residual-in_err-query.ensures.1 in
-    rw (p.1, p.2)
-    (passed c.in_err-query.field-0.0 _ _ (λ left s. second_ends (ask_joint (codes "ask a")) c.in_ok-a.ensures.read
-    c.in_ok-rest.ensures.read s)
-    c.in_err-query.ensures.stops)
+    passed_on c.from_residual-in_err-query.result c.in_err-query.field-0.0 _ _ c.from_residual-in_err-query.ensures.1
+    (λ left s. second_ends (ask_joint (codes "ask a")) c.in_ok-a.ensures.read c.in_ok-rest.ensures.read s)
+    c.in_err-query.ensures.stops

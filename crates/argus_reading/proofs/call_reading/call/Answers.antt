@@ -14,8 +14,7 @@ returns-in_err-shape-in-Ok-clause-stops c =
     let p = err_from_is_err_and c.from_residual.result c.from_residual.ensures.1 in
     let text = c.args.text.now in
     let others = c.in-Ok.others.now in
-    rw (p.1, p.2)
-    (handed_on c.in_err-shape-in-Ok.field-0.0 _ _ _ _ (λ left h. absurd h)
+    rw (p.1, p.2) (handed_on c.in_err-shape-in-Ok.field-0.0 _ _ _ _ (λ left h. absurd h)
     (λ left h. subst (Lacks Declares Calls text) (sym h.0)
     (lacks_now Calls text others shape_part.starts c.in-Ok.ensures.read h.1)) c.in_err-shape-in-Ok.ensures.stops)
 
@@ -23,8 +22,7 @@ pub returns-clause-stops : goal.returns-clause-stops
 returns-clause-stops c =
     let text = c.args.text.now in
     let others = latter ActionCalls ObjectCalls text c.in-Err-action_call.stop c.in-Err-object_call.stop
-    c.farther.result
-    c.in-Err-action_call.ensures.stops c.in-Err-object_call.ensures.stops c.farther.ensures in
+    c.farther.result c.in-Err-action_call.ensures.stops c.in-Err-object_call.ensures.stops c.farther.ensures in
     let all = latter (Word (codes "declare ")) (Either ActionCalls ObjectCalls) text c.in-Err.stop c.farther.result
     c.farther-2.result c.in-Err.ensures.stops others c.farther-2.ensures in
     from_part c.farther-2.result c.from.result _ _ _ c.from.ensures

@@ -13,5 +13,4 @@ returns-clause-stops c =
     let all = latter _ _ text c.in-Err.stop c.farther.result c.farther-2.result
     c.in-Err.ensures.stops but_one c.farther-2.ensures in
     passed c.farther-2.result _ _
-    (λ left s. stops_behind [] ChangeParts Changes (covered ChangeParts Changes changes) text left s)
-    all
+    (λ left s. stops_behind [] ChangeParts Changes (covered ChangeParts Changes changes) text left s) all

@@ -7,5 +7,4 @@ returns-clause-stops c =
     let text = c.args.text.now in
     let but_one = latter _ _ text c.in-Err-word.stop c.in-Err-word-2.stop c.farther.result
     c.in-Err-word.ensures.stops c.in-Err-word-2.ensures.stops c.farther.ensures in
-    latter _ _ text c.in-Err.stop c.farther.result c.farther-2.result
-    c.in-Err.ensures.stops but_one c.farther-2.ensures
+    latter _ _ text c.in-Err.stop c.farther.result c.farther-2.result c.in-Err.ensures.stops but_one c.farther-2.ensures

@@ -19,17 +19,14 @@ one_fault A text a b p q =
 -- the text, and where its shape is lacking
 lacks_behind : (text : List ℕ) (at : ℕ) → (l : LacksShape text at)
     → text ≡ decimal l.number ++ (codes " declare " ++ drop at text)
-lacks_behind text at l =
-    sym (take-append-drop at text) ∙ ap (λ x. x ++ drop at text) l.front
+lacks_behind text at l = sym (take-append-drop at text) ∙ ap (λ x. x ++ drop at text) l.front
     ∙ append_assoc (decimal l.number) (codes " declare ") (drop at text)
 
-lacks_length : (text : List ℕ) (at : ℕ) → (l : LacksShape text at)
-    → at ≡ length (decimal l.number ++ codes " declare ")
+lacks_length : (text : List ℕ) (at : ℕ) → (l : LacksShape text at) → at ≡ length (decimal l.number ++ codes " declare ")
 lacks_length text at l = let t = length-take at text in let h = ap length l.front in omega (arith, t, h, l.within)
 
 one_lack : (text : List ℕ) (a b : ℕ) → LacksShape text a → LacksShape text b → a ≡ b
-one_lack text a b p q =
-    let same =
+one_lack text a b p q = let same =
     one_decimal p.number q.number (codes " declare " ++ drop a text) (codes " declare " ++ drop b text) p.in_range
     q.in_range (inl (omega arith)) (inl (omega arith)) (sym (lacks_behind text a p) ∙ lacks_behind text b q) in
     lacks_length text a p ∙ ap (λ n. length (decimal n ++ codes " declare ")) same.0 ∙ sym (lacks_length text b q)

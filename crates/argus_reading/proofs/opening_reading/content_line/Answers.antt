@@ -1,18 +1,15 @@
 -- The text is neither `absent` nor a content.
-use Rattle.std.proofs.{lemmas.Result.err_from_is_err_and, lemmas.Slice.Eq.bytes_eq-Decides}
+use Rattle.std.proofs.lemmas.Slice.Eq.{bytes_eq-Decides}
 use Rattle.std.specs.Prelude.{codes}
 use Rattle.argus_contents.specs.Content.{plain_content}
-use Rattle.argus_texts.proofs.Exits.{passed}
-use Rattle.argus_reading.proofs.OpeningParts.{content_left, content_stops}
+use Rattle.argus_reading.proofs.{OpeningParts.{content_left, content_stops}, Lacks.passed_on}
 use Rattle.argus_reading.proofs.opening_reading.content_line.Goals as goal
 
 pub returns-in_err-content-clause-stops : goal.returns-in_err-content-clause-stops
 returns-in_err-content-clause-stops c =
-    let p = err_from_is_err_and c.from_residual.result c.from_residual.ensures.1 in
-    rw (p.1, p.2)
-    (passed c.in_err-content.field-0.0 _ _ (λ left s f. content_stops c.args.text.now left
-    (λ e. let t = (bytes_eq-Decides c.args.text.now (codes "absent")).1 e in cc) s f)
-    c.in_err-content.ensures.stops)
+    passed_on c.from_residual.result c.in_err-content.field-0.0 _ _ c.from_residual.ensures.1
+    (λ left s f. content_stops c.args.text.now left (λ e. let t = (bytes_eq-Decides c.args.text.now (codes "absent")).1
+    e in cc) s f) c.in_err-content.ensures.stops
 
 pub returns-then-rest-gt0-clause-stops : goal.returns-then-rest-gt0-clause-stops
 returns-then-rest-gt0-clause-stops c = λ f.

@@ -1,21 +1,16 @@
 -- The word, or what has to come behind it, stops.
-use Rattle.std.proofs.{lemmas.Result.err_from_is_err_and, Common.arith}
-use Rattle.argus_texts.proofs.Exits.{passed}
+use Rattle.std.proofs.Common.{arith}
 use Rattle.argus_texts.specs.Languages.{Ints}
 use Rattle.std.specs.Prelude.{pos}
-use Rattle.argus_reading.proofs.Words.{word_lacks, word_ends}
+use Rattle.argus_reading.proofs.{Words.{word_lacks, word_ends}, Lacks.passed_on}
 use Rattle.argus_reading.proofs.part_reading.int_behind.Goals as goal
 
 pub returns-in_err-rest-clause-stops : goal.returns-in_err-rest-clause-stops
 returns-in_err-rest-clause-stops c =
-    let p = err_from_is_err_and c.from_residual.result c.from_residual.ensures.1 in
-    rw (p.1, p.2)
-    (passed c.in_err-rest.field-0.0 _ _ (λ left s. word_lacks c.args.before.now Ints (pos 0) (omega arith) s)
-    c.in_err-rest.ensures.stops)
+    passed_on c.from_residual.result c.in_err-rest.field-0.0 _ _ c.from_residual.ensures.1
+    (λ left s. word_lacks c.args.before.now Ints (pos 0) (omega arith) s) c.in_err-rest.ensures.stops
 
 pub returns-in_err-number-clause-stops : goal.returns-in_err-number-clause-stops
 returns-in_err-number-clause-stops c =
-    let p = err_from_is_err_and c.from_residual-in_err-number.result c.from_residual-in_err-number.ensures.1 in
-    rw (p.1, p.2)
-    (passed c.in_err-number.field-0.0 _ _ (λ left s. word_ends c.args.before.now Ints c.in_ok-rest.ensures.read s)
-    c.in_err-number.ensures.stops)
+    passed_on c.from_residual-in_err-number.result c.in_err-number.field-0.0 _ _ c.from_residual-in_err-number.ensures.1
+    (λ left s. word_ends c.args.before.now Ints c.in_ok-rest.ensures.read s) c.in_err-number.ensures.stops

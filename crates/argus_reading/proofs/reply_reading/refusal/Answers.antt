@@ -11,5 +11,4 @@ returns-clause-stops c =
     let all = latter _ _ text c.in-Err.stop c.in-Err-other_refusal.stop c.farther.result
     c.in-Err.ensures.stops c.in-Err-other_refusal.ensures.stops c.farther.ensures in
     passed c.farther.result _ _
-    (λ left s. stops_behind [] RefusalParts Refusals (covered RefusalParts Refusals refusals) text left s)
-    all
+    (λ left s. stops_behind [] RefusalParts Refusals (covered RefusalParts Refusals refusals) text left s) all

@@ -15,5 +15,4 @@ returns-clause-stops c =
     let all = latter _ _ text c.in-Err.stop c.farther-2.result c.farther-3.result
     c.in-Err.ensures.stops but_one c.farther-3.ensures in
     passed c.farther-3.result _ _
-    (λ left s. stops_behind [] ReplyParts Replies (covered ReplyParts Replies replies) text left s)
-    all
+    (λ left s. stops_behind [] ReplyParts Replies (covered ReplyParts Replies replies) text left s) all

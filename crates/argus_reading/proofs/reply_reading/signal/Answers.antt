@@ -19,5 +19,4 @@ returns-clause-stops c =
     let all = latter _ _ text c.in-Err.stop c.farther-4.result c.farther-5.result
     c.in-Err.ensures.stops but_one c.farther-5.ensures in
     passed c.farther-5.result _ _
-    (λ left s. stops_behind [] SignalWords Signals (covered SignalWords Signals signals) text left s)
-    all
+    (λ left s. stops_behind [] SignalWords Signals (covered SignalWords Signals signals) text left s) all
