@@ -1,14 +1,14 @@
 -- Where the lines of an opening end, in bytes.
-use Rattle.std.proofs.Common.{◌≡◌, ℕ, suc, zero, ◌+◌, ◌-◌, ◌<◌, ◌≤◌, List, [], ◌∷◌, ◌++◌, length, take, drop, get_or}
-use Rattle.std.proofs.Common.{sym, ap, ◌∙◌, subst, arith, append-nil, append_assoc, length-append}
-use Rattle.std.proofs.lemmas.Option.{get_or_from_slice_get, slice_get_within}
-use Rattle.std.proofs.{Math.Seq.{take-append_seam, take-length}, lemmas.List.{length-map, take-append-drop, take-take}}
+use Rattle.std.proofs.lemmas.{Option.{get_or_from_slice_get, slice_get_within}, List.{length-map, take-append-drop}}
+use Rattle.std.proofs.{lemmas.List.take-take, Common.{◌≡◌, ℕ, suc, zero, ◌+◌, ◌-◌, ◌<◌, ◌≤◌, List, [], ◌∷◌, ◌++◌}}
+use Rattle.std.proofs.Common.{length, take, drop, get_or, sym, ap, ◌∙◌, subst, arith, append-nil, append_assoc}
+use Rattle.std.proofs.{Common.length-append, Math.Seq.{take-append_seam, take-length}}
 use Rattle.std.specs.Prelude.{Option, Some, slice_get}
 use Rattle.argus_contents.specs.{Content.PlainContent, Shape.PlainShape}
 use Rattle.argus_listings.specs.Listing.{each_from, folded_line, opened_line}
 use Rattle.argus_journal.specs.{Opening.{Opening, opening_at}, JournalView.JournalView}
-use Rattle.argus_resume.specs.{SoundFront.opening_front, JournalText.journal_text, Stage.opening_read}
-use Rattle.argus_resume.specs.Stage.{AreEnds, IsCounted, lines_of, object_read, objects_read, opened_alone}
+use Rattle.argus_resume.specs.{SoundFront.opening_front, JournalText.journal_text, Stage.{opening_read, AreEnds}}
+use Rattle.argus_resume.specs.Stage.{IsCounted, lines_of, object_read, objects_read, opened_alone}
 use Rattle.argus_resume.specs.declared.opening_lines.OpeningLines.{OpeningLines}
 use Rattle.argus_resume.specs.declared.opened_object.OpenedObject.{OpenedObject}
 use Rattle.argus_resume.proofs.Texts.{each_from-append, opened_text}
@@ -29,17 +29,8 @@ bytes_more o x objects =
 pub ends_push : (before o : ℕ) (objects : List OpenedObject) (object : OpenedObject) → AreEnds before o objects
     → object.end ≡ (before + bytes_of o objects) + bytes_at (o + length objects) object
     → AreEnds before o (objects ++ object ∷ [])
-ends_push before o [] object r e =
-    let same : o + 0 ≡ o = omega arith in
-    let here : object.end ≡ before + bytes_at (o + 0) object = omega (arith, e) in
-    (here ∙ ap (λ k. before + bytes_at k object) same, tt)
-ends_push before o (x ∷ objects) object r e =
-    let place : o + length (x ∷ objects) ≡ (o + 1) + length objects = omega arith in
-    let there : object.end ≡ (before + bytes_of o (x ∷ objects)) + bytes_at ((o + 1) + length objects) object =
-    e ∙ ap (λ k. (before + bytes_of o (x ∷ objects)) + bytes_at k object) place in
-    let next : object.end ≡ (x.end + bytes_of (o + 1) objects) + bytes_at ((o + 1) + length objects) object =
-    omega (arith, there, bytes_more o x objects, r.0) in
-    (r.0, ends_push x.end (o + 1) objects object r.1 next)
+ends_push before o [] object r e = grind arith
+ends_push before o (x ∷ objects) object r e = grind (arith, bytes_more, ends_push x.end (o + 1) objects object r.1)
 
 -- the object at this place tells where its line ends
 pub end_at : (before o : ℕ) (objects : List OpenedObject) (k : ℕ) (d : OpenedObject) → AreEnds before o objects
@@ -49,11 +40,7 @@ end_at before o [] k d r h = absurd (omega arith)
 end_at before o (x ∷ objects) zero d r h =
     r.0 ∙ ap (λ t. before + length t) (sym (append-nil (opened_line o (object_read x))))
 end_at before o (x ∷ objects) (suc k) d r h =
-    let more = each_from opened_line (o + 1) (take (suc k) (objects_read objects)) in
-    let next = end_at x.end (o + 1) objects k d r.1 (omega arith) in
-    let whole : length (opened_line o (object_read x) ++ more) ≡ bytes_at o x + length more =
-    length-append (opened_line o (object_read x)) more in
-    omega (arith, next, r.0, whole)
+    grind (arith, end_at x.end (o + 1) objects k d r.1 (omega arith), length-append)
 
 -- all lines of an opening's front
 pub lines_bytes : (s : Opening) → length (lines_of s)
@@ -64,8 +51,7 @@ module _ (lines : OpeningLines) (counted : IsCounted lines) where
   -- the object at this place tells where the front with it ends
   pub front_end : (k : ℕ) (d : OpenedObject) → k < length lines.objects.items
       → (get_or lines.objects.items k d).end ≡ length (lines_of (opening_front (opening_read lines) (suc k)))
-  front_end k d h =
-      end_at lines.head 0 lines.objects.items k d counted.ends h
+  front_end k d h = end_at lines.head 0 lines.objects.items k d counted.ends h
       ∙ ap (λ n. n + length (each_from opened_line 0 (take (suc k) (objects_read lines.objects.items)))) counted.head
       ∙ sym (lines_bytes (opening_front (opening_read lines) (suc k)))
 
@@ -90,8 +76,7 @@ module _ (lines : OpeningLines) (counted : IsCounted lines) where
       let found : slice_get items (length items - 1) ≡ Some object =
       subst (λ (l : List OpenedObject). slice_get l (length l - 1) ≡ Some object) e (sym is) in
       let low = slice_get_within items (length items - 1) object found in
-      last_end object (omega (arith, low))
-      (sym (get_or_from_slice_get items (length items - 1) object object found))
+      last_end object (omega (arith, low)) (sym (get_or_from_slice_get items (length items - 1) object object found))
 
 -- FRONTS
 
@@ -107,19 +92,17 @@ front_lines s n =
 
 -- a front has no more lines
 pub front_shorter : (s : Opening) (n : ℕ) → length (lines_of (opening_front s n)) ≤ length (lines_of s)
-front_shorter s n =
-    omega (
-      arith,
-      ap length (front_lines s n),
-      length-append (lines_of (opening_front s n))
-          (each_from opened_line (0 + length (take n s.objects)) (drop n s.objects)),
-    )
+front_shorter s n = omega (
+  arith,
+  ap length (front_lines s n),
+  length-append (lines_of (opening_front s n))
+      (each_from opened_line (0 + length (take n s.objects)) (drop n s.objects)),
+)
 
 -- a front has no more lines than a longer one
 pub fronts_shorter : (s : Opening) (m n : ℕ) → m ≤ n
     → length (lines_of (opening_front s m)) ≤ length (lines_of (opening_front s n))
-fronts_shorter s m n h =
-    let same : opening_front (opening_front s n) m ≡ opening_front s m =
+fronts_shorter s m n h = let same : opening_front (opening_front s n) m ≡ opening_front s m =
     ap (λ (l : List (PlainShape × Option PlainContent)). opening_at l s.first_action s.first_entry)
     (take-take m n s.objects h) in
     omega (arith, front_shorter (opening_front s n) m, ap (λ (k : Opening). length (lines_of k)) same)
@@ -130,8 +113,7 @@ front_opened s n h = opened_text (opening_front s n) h
 
 -- what is let go of an opening's lines
 pub front_taken : (s : Opening) (n : ℕ) (j g : JournalView) (dropped : ℕ) → 0 < s.first_entry → opened_alone s ≡ j
-    → g ≡ opened_alone (opening_front s n)
-    → dropped ≡ length (lines_of s) - length (lines_of (opening_front s n))
+    → g ≡ opened_alone (opening_front s n) → dropped ≡ length (lines_of s) - length (lines_of (opening_front s n))
     → (journal_text g ≡ take (length (journal_text j) - dropped) (journal_text j))
     × (dropped + length (journal_text g) ≡ length (journal_text j))
 front_taken s n j g dropped h is of d =

@@ -1,22 +1,21 @@
 -- A checkpoint of a journal whose lines can be read is an opening whose lines can be read.
-use Rattle.std.proofs.Common.{List, Option, Some, [], arith, inl, inr, refl, suc, sym, true, zero, ℕ, ◌<◌, ◌∷◌, subst}
-use Rattle.std.proofs.Common.{◌≡◌, ◌≤◌}
+use Rattle.std.proofs.Common.{List, Option, Some, [], arith, inl, inr, refl, suc, sym, true, ℕ, ◌<◌, ◌∷◌, subst, ◌≡◌}
+use Rattle.std.proofs.Common.{◌≤◌}
 use Rattle.std.specs.Prelude.{slice_get}
-use Rattle.argus_contents.specs.{Content.PlainContent, Shape.PlainShape}
-use Rattle.argus_contents.specs.declared.limits.TheConstants.{MAX_OBJECTS, MAX_VALUE_DEPTH}
+use Rattle.argus_contents.specs.{Content.PlainContent, Shape.PlainShape, declared.limits.TheConstants.MAX_OBJECTS}
+use Rattle.argus_contents.specs.declared.limits.TheConstants.{MAX_VALUE_DEPTH}
 use Rattle.argus_entries.specs.Entry.{PlainEntry}
 use Rattle.argus_model.specs.Owner.{is_base, owner}
 use Rattle.argus_journal.specs.{Events.history, Folding.{fold, next_entry_number, with_contents}, JournalFacts.base_of}
-use Rattle.argus_journal.specs.{Legal.Legal, Objects.{declared, shape_of, shapes}}
-use Rattle.argus_journal.specs.Opening.{Opening, content_in, empty, fits_shape, is_sound}
-use Rattle.argus_journal.specs.declared.limits.TheConstants.{MAX_FIRST_ENTRY}
+use Rattle.argus_journal.specs.{Legal.Legal, Objects.{declared, shape_of, shapes}, Opening.{Opening, content_in, empty}}
+use Rattle.argus_journal.specs.{Opening.{fits_shape, is_sound}, declared.limits.TheConstants.MAX_FIRST_ENTRY}
 use Rattle.argus_journal.proofs.{Contents.content_fits, Fitting.{fits_keeps, fits_more}, Folded.fold_numbers}
 use Rattle.argus_journal.proofs.Within.{objects_within}
-use Rattle.argus_resume.specs.ReadableCalls.{HaveReadableCalls}
-use Rattle.argus_resume.specs.JournalText.{AreReadableObjects, IsEmptyOrReadable, IsReadableOpening}
+use Rattle.argus_resume.specs.{ReadableCalls.HaveReadableCalls, JournalText.{AreReadableObjects, IsEmptyOrReadable}}
+use Rattle.argus_resume.specs.JournalText.{IsReadableOpening}
 use Rattle.argus_resume.proofs.{Depths.{ValuesWithin, content_readable}, Granted.{AreMakeable, shapes_makeable}}
-use Rattle.argus_resume.proofs.{Readable.calls_within, Replies.{begins_numbers, begins_objects}}
-use Rattle.argus_resume.proofs.Seen.{opened_within, seen_within}
+use Rattle.argus_resume.proofs.{Readable.calls_within, Replies.{begins_numbers, begins_objects}, Seen.opened_within}
+use Rattle.argus_resume.proofs.Seen.{seen_within}
 
 objects_readable : (content : ℕ → Option PlainContent) (xs : List PlainShape) (n : ℕ) → n ≤ MAX_OBJECTS
     → AreMakeable xs → ((o : ℕ) → ValuesWithin MAX_VALUE_DEPTH (content o))
@@ -31,8 +30,7 @@ objects_readable content (x ∷ xs) n le m w fit =
 module _ (s : Opening) (j : List PlainEntry) (begins : IsEmptyOrReadable s) (sound : is_sound s ≡ true)
     (legal : Legal s j) (calls : HaveReadableCalls j) where
   base_within : (o : ℕ) → ValuesWithin MAX_VALUE_DEPTH (base_of s j o)
-  base_within o =
-      seen_within MAX_VALUE_DEPTH (λ b. is_base (owner (history s j) b)) o (content_in s.objects o) s j
+  base_within o = seen_within MAX_VALUE_DEPTH (λ b. is_base (owner (history s j) b)) o (content_in s.objects o) s j
       (calls_within s begins sound j legal calls) (opened_within s.objects o (begins_objects s begins))
 
   base_fits : (o : ℕ) → fits_shape (shape_of s j o) (declared s j) (base_of s j o) ≡ true
@@ -57,8 +55,4 @@ unbegun s (e ∷ older) begins n = absurd (omega (arith, n))
 -- the opening that the journal is folded into
 pub fold_begins : (s : Opening) (j : List PlainEntry) → IsEmptyOrReadable s → is_sound s ≡ true → Legal s j
     → HaveReadableCalls j → next_entry_number s j ≤ MAX_FIRST_ENTRY → IsEmptyOrReadable (fold s j)
-fold_begins s j begins sound legal calls within = begun (next_entry_number s j) refl
-  where
-    begun : (n : ℕ) → next_entry_number s j ≡ n → IsEmptyOrReadable (fold s j)
-    begun zero is = inl (unbegun s j begins is)
-    begun (suc n) is = inr (folded_readable s j begins sound legal calls (omega (arith, is)) within)
+fold_begins s j begins sound legal calls within = grind (arith, unbegun, folded_readable)

@@ -6,7 +6,6 @@ use Rattle.argus_journal.specs.JournalView.{JournalView, next_entry}
 use Rattle.argus_resume.specs.{FrontLine.{HasFrontLine, IsFrontError, end_of_error}, Lines.IsLineError, Stage.SaysOf}
 use Rattle.argus_resume.specs.Taking.{EndsTaking, HasNoFeed, IsFirstLine, line_count}
 use Rattle.argus_resume.specs.declared.line_error.LineError.{LineError}
-use Rattle.argus_resume.specs.declared.line_error.LineError.TheVariants as error
 use Rattle.argus_resume.proofs.{Clean.entry_clean, Feeds.{count-append, count_none}}
 
 -- the line is what is in front of the rest
@@ -14,8 +13,7 @@ pub line_taken : (number : ℕ) (entry : PlainEntry) (text rest : List ℕ) → 
     → take (length text - length rest) text ≡ entry_line number entry
 line_taken number entry text rest h =
     let line = entry_line number entry in
-    let size : length text - length rest ≡ length line =
-    omega (arith, ap length h.is ∙ length-append line rest) in
+    let size : length text - length rest ≡ length line = omega (arith, ap length h.is ∙ length-append line rest) in
     ap (λ n. take n text) size ∙ ap (λ t. take (length line) t) h.is ∙ take-append_seam line rest
 
 no_feed : (number : ℕ) (entry : PlainEntry) (text rest : List ℕ) → number < 2 ^ 64
@@ -39,9 +37,7 @@ line_first number entry text rest n h =
 -- what an error says of the first line of a text, it says of the text
 pub text_error : (journal : JournalView) (text line more : List ℕ) (e : LineError) → text ≡ line ++ 10 ∷ more
     → HasNoFeed line → IsLineError e journal line → IsFrontError e journal text
-text_error journal text line more error.OutOfMemory is whole says = tt
-text_error journal text line more (error.Fault fault) is whole says =
-    record { line = line; more = more; is = is; whole = whole; says = says }
+text_error journal text line more p is whole says = grind arith
 
 -- and what it says of the line of an entry
 pub line_error : (journal : JournalView) (entry : PlainEntry) (text rest : List ℕ) (e : LineError)
@@ -55,5 +51,4 @@ line_error journal entry text rest e n h says =
 -- an error of the first line ends the taking
 pub error_ends : (journal : JournalView) (text : List ℕ) (e : LineError) → IsFrontError e journal text
     → EndsTaking (end_of_error e) journal text
-error_ends journal text (error.Fault fault) h = h
-error_ends journal text error.OutOfMemory h = tt
+error_ends journal text p h = grind arith

@@ -1,10 +1,9 @@
 -- A journal whose listing begins with that of another: what it has more.
-use Rattle.std.proofs.Common.{◌≡◌, ℕ, ◌+◌, ◌<◌, ◌≤◌, ◌^◌, ◌⊎◌, List, [], ◌∷◌, ◌++◌, length, refl, sym, ap, ◌∙◌, inl}
-use Rattle.std.proofs.{Common.{inr, arith, append_assoc, length-append}, lemmas.List.append_cancel_left}
-use Rattle.std.specs.{Fmt.decimal, Prelude.{Option, codes}}
+use Rattle.std.proofs.{lemmas.List.append_cancel_left, Common.{◌≡◌, ℕ, ◌+◌, ◌<◌, ◌≤◌, ◌^◌, ◌⊎◌, List, [], ◌∷◌, ◌++◌}}
+use Rattle.std.proofs.Common.{length, refl, sym, ap, ◌∙◌, inl, inr, arith, append_assoc, length-append}
+use Rattle.std.specs.Prelude.{Option, codes}
 use Rattle.argus_contents.specs.{Content.PlainContent, Shape.PlainShape, declared.limits.TheConstants.MAX_OBJECTS}
-use Rattle.argus_entries.specs.Entry.{PlainEntry}
-use Rattle.argus_entries.specs.EntrySpelling.{call_spelling, entry_line, entry_spelling, reply_spelling}
+use Rattle.argus_entries.specs.{Entry.PlainEntry, EntrySpelling.{entry_line, entry_spelling}}
 use Rattle.argus_entries.proofs.Lines.{one_line}
 use Rattle.argus_journal.specs.Opening.{Opening}
 use Rattle.argus_listings.specs.Listing.{each_from, opened_line}
@@ -22,31 +21,20 @@ pub feed_told : (a b x y : List ℕ) → HasNoFeed a → HasNoFeed b → a ++ 10
 feed_told [] [] x y g h e = (refl, tail_of e)
 feed_told [] (c ∷ b) x y g h e = absurd (h.0 (sym (head_of e)))
 feed_told (c ∷ a) [] x y g h e = absurd (g.0 (head_of e))
-feed_told (c ∷ a) (d ∷ b) x y g h e =
-    let r = feed_told a b x y g.1 h.1 (tail_of e) in
-    (ap (λ z. c ∷ z) r.0 ∙ ap (λ z. z ∷ b) (head_of e), r.1)
+feed_told (c ∷ a) (d ∷ b) x y g h e = grind (arith, feed_told a b x y g.1 h.1 (tail_of e), tail_of, head_of)
 
 -- the same of lines with what is behind them
 pub lines_told : (a b x y : List ℕ) → HasNoFeed a → HasNoFeed b → (a ++ 10 ∷ []) ++ x ≡ (b ++ 10 ∷ []) ++ y
     → (a ≡ b) × (x ≡ y)
-lines_told a b x y g h e =
-    feed_told a b x y g h (sym (append_assoc a (10 ∷ []) x) ∙ e ∙ append_assoc b (10 ∷ []) y)
+lines_told a b x y g h e = feed_told a b x y g h (sym (append_assoc a (10 ∷ []) x) ∙ e ∙ append_assoc b (10 ∷ []) y)
 
 -- a line isn't nothing
 pub no_line : (a x : List ℕ) → (a ++ 10 ∷ []) ++ x ≡ [] → ⊥
-no_line a x e =
-    omega (arith, ap length e, length-append (a ++ 10 ∷ []) x, length-append a (10 ∷ []))
+no_line a x e = omega (arith, ap length e, length-append (a ++ 10 ∷ []) x, length-append a (10 ∷ []))
 
 -- the line of an entry is none of an opening
 pub no_opening_line : (n : ℕ) (e : PlainEntry) (x y : List ℕ) → n < 2 ^ 64 → 111 ∷ y ≡ entry_spelling n e ++ x → ⊥
-no_opening_line n e x y h q =
-    let f = first_digit n 111 y (codes " " ++ call_spelling e.call ++ codes " -> " ++ reply_spelling e.reply ++ x) h
-    (q ∙ parted (decimal n) (call_spelling e.call) (reply_spelling e.reply) x) in
-    omega (arith, f.1)
-  where
-    parted : (n c r x : List ℕ) → (n ++ codes " " ++ c ++ codes " -> " ++ r) ++ x
-        ≡ n ++ (codes " " ++ c ++ codes " -> " ++ r ++ x)
-    parted n c r x = simp append_assoc
+no_opening_line n e x y h q = grind (arith, first_digit, append_assoc)
 
 -- ENTRIES
 
@@ -54,11 +42,8 @@ no_opening_line n e x y h q =
 pub entries_front : (n : ℕ) (xs ys : List PlainEntry) (t : List ℕ) → AreReadable xs → AreReadable ys
     → n + length ys ≤ 2 ^ 64 → each_from entry_line n xs ++ t ≡ each_from entry_line n ys
     → (zs : List PlainEntry) × (ys ≡ xs ++ zs) × (t ≡ each_from entry_line (n + length xs) zs)
-entries_front n [] ys t r s h e =
-    let same : n ≡ n + 0 = omega arith in
-    (ys, refl, e ∙ ap (λ k. each_from entry_line k ys) same)
-entries_front n (x ∷ xs) [] t r s h e =
-    absurd (no_line (entry_spelling n x) (each_from entry_line (n + 1) xs ++ t)
+entries_front n [] ys t r s h e = grind arith
+entries_front n (x ∷ xs) [] t r s h e = absurd (no_line (entry_spelling n x) (each_from entry_line (n + 1) xs ++ t)
     (sym (append_assoc (entry_line n x) (each_from entry_line (n + 1) xs) t) ∙ e))
 entries_front n (x ∷ xs) (y ∷ ys) t r s h e =
     let low : n < 2 ^ 64 = omega (arith, h) in
@@ -80,10 +65,7 @@ Object = PlainShape × Option PlainContent
 
 pub object_form : (o : ℕ) (x : Object) → o < MAX_OBJECTS → IsReadableObject x → IsForm ObjectLines (o, x)
     (ObjectLines.form (o, x))
-object_form o x h r = record {
-  good = ((omega arith, omega (arith, h)), (r.makeable, r.within));
-  is = refl;
-}
+object_form o x h r = grind arith
 
 -- what is behind an object's line
 pub object_line_told : (o : ℕ) (x y : Object) (u v : List ℕ) → o < MAX_OBJECTS → IsReadableObject x → IsReadableObject y
@@ -92,8 +74,7 @@ object_line_told o x y u v h r s e =
     let f = object_form o x h r in
     let g = object_form o y h s in
     let told = lines_told (codes "opening " ++ ObjectLines.form (o, x)) (codes "opening " ++ ObjectLines.form
-    (o, y)) u v
-    (object_clean (o, x) f.good).0 (object_clean (o, y) g.good).0
+    (o, y)) u v (object_clean (o, x) f.good).0 (object_clean (o, y) g.good).0
     (ap (λ t. t ++ u) (sym (object_line_form o x)) ∙ e ∙ ap (λ t. t ++ v) (object_line_form o y)) in
     let forms = append_cancel_left (codes "opening ") (ObjectLines.form (o, x)) (ObjectLines.form (o, y)) told.0 in
     ((object_told o o x y (ObjectLines.form (o, x)) f (record { good = g.good; is = forms })).1, told.1)
@@ -104,16 +85,13 @@ pub objects_front : (o : ℕ) (xs ys : List Object) (u v : List ℕ) → AreRead
     → each_from opened_line o xs ++ u ≡ each_from opened_line o ys ++ v
     → ((zs : List Object) × (ys ≡ xs ++ zs) × (u ≡ each_from opened_line (o + length xs) zs ++ v))
     ⊎ ((z : Object) × (zs : List Object) × (each_from opened_line (o + length ys) (z ∷ zs) ++ u ≡ v))
-objects_front o [] ys u v r s h k e =
-    let same : o ≡ o + 0 = omega arith in
-    inl (ys, refl, e ∙ ap (λ n. each_from opened_line n ys ++ v) same)
+objects_front o [] ys u v r s h k e = grind arith
 objects_front o (x ∷ xs) [] u v r s h k e =
     let same : o + 0 ≡ o = omega arith in
     inr (x, xs, ap (λ n. each_from opened_line n (x ∷ xs) ++ u) same ∙ e)
 objects_front o (x ∷ xs) (y ∷ ys) u v r s h k e =
     let told = object_line_told o x y (each_from opened_line (o + 1) xs ++ u) (each_from opened_line (o + 1) ys ++ v)
-    (omega (arith, h)) r.0 s.0
-    (sym (append_assoc (opened_line o x) (each_from opened_line (o + 1) xs) u) ∙ e
+    (omega (arith, h)) r.0 s.0 (sym (append_assoc (opened_line o x) (each_from opened_line (o + 1) xs) u) ∙ e
     ∙ append_assoc (opened_line o y) (each_from opened_line (o + 1) ys) v) in
     elim (objects_front (o + 1) xs ys u v r.1 s.1 (omega (arith, h)) (omega (arith, k)) told.1) [
       | inl front ↦
@@ -131,11 +109,4 @@ objects_front o (x ∷ xs) (y ∷ ys) u v r s h k e =
 -- FIRST LINES
 
 pub folded_form : (s : Opening) → IsReadableOpening s → FoldedLines.Good (s.first_entry, s.first_action)
-folded_form s r = (
-  (omega (arith, r.some), omega (arith, r.limits.entries)),
-  (
-    omega arith,
-    omega
-        (arith, r.limits.actions),
-  ),
-)
+folded_form s r = grind arith

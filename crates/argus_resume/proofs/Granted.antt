@@ -1,19 +1,14 @@
 -- A call that was not refused has values of depth at most 16, if a program can hold it.
-use Rattle.std.proofs.Common.{Bool, List, None, Option, Some, [], false, length, refl, suc, true, zero, ℕ, ◌++◌, ◌+◌}
-use Rattle.std.proofs.{Common.{◌∙◌, ◌∷◌, ◌≡◌}, lemmas.Bool.false≢true}
+use Rattle.std.proofs.{lemmas.Bool.false≢true, Common.{arith, Bool, List, None, Option, Some, [], refl, suc, true}}
+use Rattle.std.proofs.Common.{zero, ℕ, ◌++◌, ◌∷◌, ◌≡◌}
 use Rattle.std.specs.Prelude.{if◌then◌else◌, map, slice_get}
-use Rattle.argus_contents.specs.{Change.PlainChange, Content.PlainContent, Fitting.change_suits}
-use Rattle.argus_contents.specs.{Shape.{IsMakeable, PlainShape}, declared.limits.TheConstants.MAX_VALUE_DEPTH}
-use Rattle.argus_entries.specs.Call.{PlainCall, abort, abort_others, alter, ask, begin_nested, begin_sub, begin_top}
-use Rattle.argus_entries.specs.{Call.{commit, declare, test_read, test_write}, Entry.PlainEntry}
-use Rattle.argus_entries.specs.{Laws.{CallWithin, ChangeWithin}, Reply.{PlainReply, refused}}
-use Rattle.argus_entries.specs.declared.refusal.Refusal.{Refusal}
-use Rattle.argus_entries.specs.declared.refusal.Refusal.TheVariants.{Conflict, IllTyped}
+use Rattle.argus_contents.specs.{Change.PlainChange, Content.PlainContent, Shape.{IsMakeable, PlainShape}}
+use Rattle.argus_contents.specs.declared.limits.TheConstants.{MAX_VALUE_DEPTH}
+use Rattle.argus_entries.specs.{Call.{PlainCall, alter}, Entry.PlainEntry, Laws.{CallWithin, ChangeWithin}}
+use Rattle.argus_entries.specs.{Reply.{PlainReply, refused}, declared.refusal.Refusal.Refusal}
 use Rattle.argus_entries.proofs.Suiting.{suiting_depth}
-use Rattle.argus_model.specs.Holders.{may_write}
-use Rattle.argus_journal.specs.Answers.{answer, granted, if_declared, or_refused, refusal, suits, suits_change, unless}
-use Rattle.argus_journal.specs.{Entries.entries, Events.history, Objects.{declared_by, names_object, shapes}}
-use Rattle.argus_journal.specs.Opening.{Opening}
+use Rattle.argus_journal.specs.{Answers.{answer, granted, or_refused, refusal, suits}, Events.history}
+use Rattle.argus_journal.specs.{Objects.{declared_by, shapes}, Opening.Opening}
 use Rattle.argus_journal.proofs.Legal.{access_none, free_none}
 use Rattle.argus_reading.specs.Calls.{DeclaresShape}
 use Rattle.argus_resume.specs.{ReadableCalls.{HasReadableCall, HaveReadableCalls}, JournalText.AreReadableObjects}
@@ -34,14 +29,11 @@ opened_makeable : (objects : List (PlainShape × Option PlainContent)) → AreRe
 opened_makeable [] r = tt
 opened_makeable (object ∷ objects) r = (r.0.makeable, opened_makeable objects r.1)
 
-if_named : (b : Bool) (shape : PlainShape) → IsMakeable shape
-    → AreMakeable (if b then shape ∷ [] else [])
-if_named true shape m = (m, tt)
-if_named false shape m = tt
+if_named : (b : Bool) (shape : PlainShape) → IsMakeable shape → AreMakeable (if b then shape ∷ [] else [])
+if_named p shape m = grind arith
 
 declared_makeable : (call : PlainCall) (r : PlainReply) → DeclaresShape call → AreMakeable (declared_by call r)
-declared_makeable (declare shape) r m = if_named (names_object r) shape m
-declared_makeable _ r m = tt
+declared_makeable p r m = grind (arith, if_named)
 
 -- each shape of the journal
 pub shapes_makeable : (s : Opening) (j : List PlainEntry) → AreReadableObjects s.objects → HaveReadableCalls j
@@ -68,41 +60,21 @@ suited test (x ∷ xs) (suc o) m e = suited test xs o m.1 e
 module _ (s : Opening) (older : List PlainEntry) (m : AreMakeable (shapes s older)) where
   change_shallow : (a o k : ℕ) (x : PlainChange) → refusal (history s older) (shapes s older) (alter a o x) ≡ None
       → ChangeWithin k x → ChangeWithin MAX_VALUE_DEPTH x
-  change_shallow a o k x e w =
-      let objects = shapes s older in
-      let h = history s older in
-      let test = suits_change objects o x in
-      let lock = may_write entries h (a + 1) o in
-      let free = free_none h a (if_declared objects o (unless test IllTyped (unless lock Conflict None))) e in
-      let fit = (access_none objects o test lock free.none).suits in
-      let found = suited (λ shape. change_suits shape (length objects) x) objects o m fit in
-      suiting_depth found.shape (length objects) k x found.makeable found.passes w
+  change_shallow a o k x e w = grind (arith, free_none, access_none, suited, suiting_depth)
 
   granted_shallow : (k : ℕ) (call : PlainCall) → refusal (history s older) (shapes s older) call ≡ None
       → CallWithin k call → CallWithin MAX_VALUE_DEPTH call
-  granted_shallow k (declare shape) e w = w
-  granted_shallow k begin_top e w = w
-  granted_shallow k (begin_sub p) e w = w
-  granted_shallow k (begin_nested p) e w = w
-  granted_shallow k (commit a) e w = w
-  granted_shallow k (abort a) e w = w
-  granted_shallow k (abort_others a) e w = w
-  granted_shallow k (ask a o q) e w = w
   granted_shallow k (alter a o x) e w = (w.0, w.1, change_shallow a o k x e w.2)
-  granted_shallow k (test_read a o) e w = w
-  granted_shallow k (test_write a o) e w = w
+  granted_shallow k call e w = w
 
   either_shallow : (k : ℕ) (call : PlainCall) (why : Option Refusal)
       → refusal (history s older) (shapes s older) call ≡ why → CallWithin k call
       → ((x : Refusal) → or_refused why (granted s (history s older) (shapes s older) call) ≡ refused x
-      → CallWithin MAX_VALUE_DEPTH call)
-      → CallWithin MAX_VALUE_DEPTH call
+      → CallWithin MAX_VALUE_DEPTH call) → CallWithin MAX_VALUE_DEPTH call
   either_shallow k call None e w d = granted_shallow k call e w
   either_shallow k call (Some why) e w d = d why refl
 
   -- the call of an entry of a legal journal
   pub call_shallow : (e : PlainEntry) → e.reply ≡ answer s older e.call → HasReadableCall e
       → CallWithin MAX_VALUE_DEPTH e.call
-  call_shallow e l h =
-      either_shallow h.well_formed.0.0 e.call (refusal (history s older) (shapes s older) e.call) refl h.well_formed.0.1
-      (λ why is. h.depth why (l ∙ is))
+  call_shallow e l h = grind (arith, either_shallow)

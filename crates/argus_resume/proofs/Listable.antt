@@ -1,19 +1,17 @@
 -- The guardian of what was taken, and one of objects that a program holds, have listings that can be taken.
-use Rattle.std.proofs.Common.{List, None, Option, Some, [], ap, arith, get_or, inl, inr, length, length-take, map, refl}
-use Rattle.std.proofs.Common.{subst, suc, sym, take, true, zero, ℕ, ◌+◌, ◌<◌, ◌∙◌, ◌∷◌, ◌≡◌, ◌≤◌}
-use Rattle.std.proofs.{lemmas.Bool.and_parts, lemmas.List.take_all}
+use Rattle.std.proofs.{lemmas.{Bool.and_parts, List.take_all}, Common.{List, None, Option, Some, [], arith, get_or}}
+use Rattle.std.proofs.Common.{length, length-take, map, subst, suc, sym, take, true, zero, ℕ, ◌+◌, ◌<◌, ◌∷◌, ◌≡◌, ◌≤◌}
 use Rattle.std.specs.List.{list_all}
 use Rattle.argus_contents.specs.{Change.create, Content.PlainContent, Shape.{IsMakeable, PlainShape}}
-use Rattle.argus_contents.specs.{declared.content.Content.Content, declared.limits.TheConstants.MAX_OBJECTS}
-use Rattle.argus_contents.specs.declared.shape.Shape.{Shape}
+use Rattle.argus_contents.specs.declared.{content.Content.Content, limits.TheConstants.MAX_OBJECTS, shape.Shape.Shape}
 use Rattle.argus_entries.proofs.Suiting.{suiting_depth}
 use Rattle.argus_journal.proofs.Fitting.{fits_more}
 use Rattle.argus_journal.specs.{JournalView.JournalView, Opening.{Opening, empty, fits_shape, plain_object}}
 use Rattle.argus_reading.specs.OpeningLanguages.{IsReadableContent}
 use Rattle.argus_resume.specs.JournalText.{AreReadableObjects, IsEmptyOrReadable, IsReadableJournal}
-use Rattle.argus_resume.specs.{Laws.OpeningsAreReadable, ReadableCalls.HaveReadableCalls}
-use Rattle.argus_resume.specs.SoundFront.{opening_front, sound_count, sound_front}
-use Rattle.argus_resume.specs.WellFormed.{AreWellFormedObjects, IsWellFormedObject, IsWellFormedOption}
+use Rattle.argus_resume.specs.{Laws.OpeningsAreReadable, ReadableCalls.HaveReadableCalls, SoundFront.opening_front}
+use Rattle.argus_resume.specs.{SoundFront.{sound_count, sound_front}, WellFormed.AreWellFormedObjects}
+use Rattle.argus_resume.specs.WellFormed.{IsWellFormedObject, IsWellFormedOption}
 use Rattle.argus_resume.proofs.Readable.{calls_of_readable}
 
 -- WHAT WAS TAKEN
@@ -26,28 +24,15 @@ front_objects (suc n) [] r = tt
 front_objects (suc n) (object ∷ objects) r = (r.0, front_objects n objects r.1)
 
 front_empty : (n : ℕ) → opening_front empty n ≡ empty
-front_empty zero = refl
-front_empty (suc n) = refl
+front_empty p = grind arith
 
 front_opening : (s : Opening) (n : ℕ) → IsEmptyOrReadable s → IsEmptyOrReadable (opening_front s n)
-front_opening s n (inl e) = inl (ap (λ (x : Opening). opening_front x n) e ∙ front_empty n)
-front_opening s n (inr r) =
-    let few = r.limits.objects in
-    inr (record {
-      some = r.some;
-      limits = record {
-        objects = omega (arith, few, length-take n s.objects);
-        actions = r.limits.actions;
-        entries = r.limits.entries;
-      };
-      objects = front_objects n s.objects r.objects;
-    })
+front_opening s n p = grind (arith, front_empty, length-take, front_objects)
 
 -- the opening of the guardian of what was taken
 pub taken_opening : (taken guardian : JournalView) → IsReadableJournal taken → guardian ≡ sound_front taken
     → IsEmptyOrReadable guardian.opening
-taken_opening taken guardian r is =
-    subst (λ (j : JournalView). IsEmptyOrReadable j.opening) (sym is)
+taken_opening taken guardian r is = subst (λ (j : JournalView). IsEmptyOrReadable j.opening) (sym is)
     (front_opening taken.opening (sound_count taken.opening (length taken.opening.objects)) r.opening)
 
 -- and its calls
@@ -82,8 +67,7 @@ objects_readable : (n : ℕ) (objects : List (PlainShape × Option PlainContent)
     → AreWellFormedObjects objects → list_all (λ object. fits_shape (Some object.0) n object.1) objects ≡ true
     → AreReadableObjects objects
 objects_readable n [] le w e = tt
-objects_readable n (object ∷ objects) le w e =
-    let fits = and_parts (fits_shape (Some object.0) n object.1)
+objects_readable n (object ∷ objects) le w e = let fits = and_parts (fits_shape (Some object.0) n object.1)
     (list_all (λ object. fits_shape (Some object.0) n object.1) objects) e in (
       record {
         makeable = w.0.0;

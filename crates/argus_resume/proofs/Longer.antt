@@ -1,19 +1,19 @@
 -- A journal whose listing begins with that of another: what comes after that.
-use Rattle.std.proofs.Common.{◌≡◌, ℕ, ◌+◌, ◌<◌, ◌≤◌, ◌^◌, ◌==◌, List, [], ◌∷◌, ◌++◌, length, refl, sym, ap, ◌∙◌, subst}
-use Rattle.std.proofs.Common.{inl, inr, arith, append_assoc, append-nil, length-append, cond, false, reverse}
-use Rattle.std.proofs.lemmas.List.{append_cancel_left, length-reverse, reverse-append}
+use Rattle.std.proofs.{lemmas.List.{append_cancel_left, length-reverse, reverse-append}, Common.{◌≡◌, ℕ, ◌+◌, ◌<◌, ◌≤◌}}
+use Rattle.std.proofs.Common.{◌^◌, List, [], ◌∷◌, ◌++◌, length, refl, sym, ap, ◌∙◌, subst, inl, inr, arith}
+use Rattle.std.proofs.Common.{append_assoc, append-nil, length-append, reverse}
 use Rattle.std.specs.{Fmt.decimal, Prelude.{Option, codes}}
 use Rattle.argus_contents.specs.{Content.PlainContent, Shape.PlainShape, declared.limits.TheConstants.MAX_OBJECTS}
 use Rattle.argus_entries.specs.{Entry.PlainEntry, EntrySpelling.{entry_line, entry_spelling}}
-use Rattle.argus_journal.specs.{JournalView.{JournalView, next_entry}, Legal.Legal}
-use Rattle.argus_journal.specs.Opening.{Opening, empty, opening_at}
+use Rattle.argus_journal.specs.{JournalView.{JournalView, next_entry}, Legal.Legal, Opening.{Opening, empty}}
+use Rattle.argus_journal.specs.Opening.{opening_at}
 use Rattle.argus_listings.specs.Listing.{each_from, entries_text, folded_line, opened_line, opening_text}
 use Rattle.argus_reading.specs.OpeningLanguages.{FoldedLines, ObjectLines}
 use Rattle.argus_reading.proofs.OpeningParts.{after_clear, before_clear}
 use Rattle.argus_resume.specs.JournalText.{AreReadable, AreReadableObjects, IsReadableJournal, IsReadableObject}
 use Rattle.argus_resume.specs.{JournalText.{IsReadableOpening, journal_text}, Stage.lines_of}
-use Rattle.argus_resume.proofs.{Clean.folded_clean, Openings.{folded_line_form, object_line_form}}
-use Rattle.argus_resume.proofs.Fronts.{entries_front, folded_form, lines_told, no_opening_line, objects_front}
+use Rattle.argus_resume.proofs.{Clean.folded_clean, Openings.{folded_line_form, object_line_form}, Fronts.entries_front}
+use Rattle.argus_resume.proofs.Fronts.{folded_form, lines_told, no_opening_line, objects_front}
 use Rattle.argus_texts.proofs.Lists.{tail_of}
 
 -- LISTS FROM THE NEWEST ON
@@ -24,8 +24,7 @@ readable-append (x ∷ xs) ys r s = (r.0, readable-append xs ys r.1 s)
 
 readable-reverse : (xs : List PlainEntry) → AreReadable xs → AreReadable (reverse xs)
 readable-reverse [] r = tt
-readable-reverse (x ∷ xs) r =
-    subst AreReadable (sym (reverse-append (x ∷ []) xs))
+readable-reverse (x ∷ xs) r = subst AreReadable (sym (reverse-append (x ∷ []) xs))
     (readable-append (reverse xs) (x ∷ []) (readable-reverse xs r.1) (r.0, tt))
 
 pub older_readable : (newer older : List PlainEntry) → AreReadable (newer ++ older) → AreReadable older
@@ -38,14 +37,12 @@ older_legal s (x ∷ newer) older l = older_legal s newer older l.1
 
 twice_reversed : {A : Type 0} (xs : List A) → reverse (reverse xs) ≡ xs
 twice_reversed [] = refl
-twice_reversed (x ∷ xs) =
-    ap reverse (reverse-append (x ∷ []) xs) ∙ reverse-append (reverse xs) (x ∷ [])
+twice_reversed (x ∷ xs) = ap reverse (reverse-append (x ∷ []) xs) ∙ reverse-append (reverse xs) (x ∷ [])
     ∙ ap (λ t. x ∷ t) (twice_reversed xs)
 
 -- the entries of a journal, from those of another and what came behind them
 entries_behind : (j k zs : List PlainEntry) → reverse j ≡ reverse k ++ zs → j ≡ reverse zs ++ k
-entries_behind j k zs e =
-    sym (twice_reversed j) ∙ ap reverse e ∙ reverse-append (reverse k) zs
+entries_behind j k zs e = sym (twice_reversed j) ∙ ap reverse e ∙ reverse-append (reverse k) zs
     ∙ ap (λ t. reverse zs ++ t) (twice_reversed k)
 
 -- HOW TWO LISTINGS STAND TO EACH OTHER
@@ -65,9 +62,7 @@ opening_none : (s : Opening) → s ≡ empty → opening_text s ≡ []
 opening_none s e = ap opening_text e
 
 opening_lines : (s : Opening) → 0 < s.first_entry → opening_text s ≡ lines_of s
-opening_lines s h =
-    let some : (s.first_entry == 0) ≡ false = grind arith in
-    ap (λ b. cond b [] (lines_of s)) some
+opening_lines s h = grind arith
 
 entries_from : (s : Opening) (n : ℕ) (j : List PlainEntry) → s.first_entry ≡ n
     → entries_text s j ≡ each_from entry_line n (reverse j)
@@ -91,44 +86,39 @@ entries_part taken other t o r s h e =
 no_opening_text : (n : ℕ) (xs : List PlainEntry) (t y : List ℕ) → n < 2 ^ 64
     → each_from entry_line n xs ++ t ≡ codes "opening " ++ y → (xs ≡ []) × (t ≡ codes "opening " ++ y)
 no_opening_text n [] t y h e = (refl, e)
-no_opening_text n (x ∷ xs) t y h e =
-    absurd (no_opening_line n x (10 ∷ (each_from entry_line (n + 1) xs ++ t))
+no_opening_text n (x ∷ xs) t y h e = absurd (no_opening_line n x (10 ∷ (each_from entry_line (n + 1) xs ++ t))
     (112 ∷ 101 ∷ 110 ∷ 105 ∷ 110 ∷ 103 ∷ 32 ∷ y) h
     (sym e ∙ parted (entry_spelling n x) (each_from entry_line (n + 1) xs) t))
   where
     parted : (a b c : List ℕ) → ((a ++ 10 ∷ []) ++ b) ++ c ≡ a ++ 10 ∷ (b ++ c)
     parted a b c = simp append_assoc
 
-pub folded_begins : (s : Opening) (rest : List ℕ) → (y : List ℕ)
-    × (folded_line s.first_entry s.first_action ++ rest ≡ codes "opening " ++ y)
-folded_begins s rest =
-    let form = FoldedLines.form (s.first_entry, s.first_action) in (
-      (form ++ 10 ∷ []) ++ rest,
-      ap (λ t. t ++ rest) (folded_line_form s.first_entry s.first_action)
-          ∙ parted (codes "opening ") form rest,
-    )
+-- a line of an opening, and what is behind it, begin so
+line_begins : (form line rest : List ℕ) → line ≡ (codes "opening " ++ form) ++ 10 ∷ []
+    → (y : List ℕ) × (line ++ rest ≡ codes "opening " ++ y)
+line_begins form line rest e = ((form ++ 10 ∷ []) ++ rest, ap (λ t. t ++ rest) e ∙ parted (codes "opening ") form rest)
   where
     parted : (a b c : List ℕ) → ((a ++ b) ++ 10 ∷ []) ++ c ≡ a ++ ((b ++ 10 ∷ []) ++ c)
     parted a b c = simp append_assoc
 
+pub folded_begins : (s : Opening) (rest : List ℕ) → (y : List ℕ)
+    × (folded_line s.first_entry s.first_action ++ rest ≡ codes "opening " ++ y)
+folded_begins s rest = line_begins (FoldedLines.form (s.first_entry, s.first_action))
+    (folded_line s.first_entry s.first_action) rest (folded_line_form s.first_entry s.first_action)
+
 pub object_begins : (o : ℕ) (z : PlainShape × Option PlainContent) (rest : List ℕ) → (y : List ℕ)
     × (opened_line o z ++ rest ≡ codes "opening " ++ y)
-object_begins o z rest =
-    let form = ObjectLines.form (o, z) in (
-      (form ++ 10 ∷ []) ++ rest,
-      ap (λ t. t ++ rest) (object_line_form o z) ∙ parted (codes "opening ") form rest,
-    )
-  where
-    parted : (a b c : List ℕ) → ((a ++ b) ++ 10 ∷ []) ++ c ≡ a ++ ((b ++ 10 ∷ []) ++ c)
-    parted a b c = simp append_assoc
+object_begins o z rest = line_begins (ObjectLines.form (o, z)) (opened_line o z) rest (object_line_form o z)
+
+pub no_opening_left : (y : List ℕ) → [] ≡ codes "opening " ++ y → ⊥
+no_opening_left y e = let h = ap length e in omega (arith, h, length-append (codes "opening ") y)
 
 -- NEITHER HAS AN OPENING, OR ONE HAS
 
 both_empty : (taken other : JournalView) (t : List ℕ) → taken.opening ≡ empty → other.opening ≡ empty
     → AreReadable taken.entries → AreReadable other.entries → next_entry other ≤ 2 ^ 64
     → journal_text taken ++ t ≡ journal_text other → Behind taken other t
-both_empty taken other t a b r s h e =
-    entries_part taken other t (a ∙ sym b) r s h
+both_empty taken other t a b r s h e = entries_part taken other t (a ∙ sym b) r s h
     (ap (λ x. (x ++ entries_text taken.opening taken.entries) ++ t) (sym (opening_none taken.opening a)) ∙ e
     ∙ ap (λ x. x ++ entries_text other.opening other.entries) (opening_none other.opening b))
 
@@ -150,34 +140,26 @@ other_opened taken other t a r e =
     let none = no_opening_text 0 (reverse taken.entries) t begins.0 (omega arith) both in
     with_opening (omega (arith, first, ap length none.0, length-reverse taken.entries)) r rest (none.1 ∙ sym begins.1)
 
+four_parts : (a b c d : List ℕ) → ((a ++ b) ++ c) ++ d ≡ a ++ (b ++ (c ++ d))
+four_parts a b c d = simp append_assoc
+
 taken_opened : (taken other : JournalView) (t : List ℕ) → IsReadableOpening taken.opening → other.opening ≡ empty
     → journal_text taken ++ t ≡ journal_text other → ⊥
 taken_opened taken other t r b e =
     let s = taken.opening in
     let first : other.opening.first_entry ≡ 0 = ap (λ (k : Opening). k.first_entry) b in
-    let rest = (each_from opened_line 0 s.objects ++ entries_text s taken.entries) ++ t in
+    let rest = each_from opened_line 0 s.objects ++ (entries_text s taken.entries ++ t) in
     let text : journal_text taken ++ t ≡ folded_line s.first_entry s.first_action ++ rest =
     ap (λ x. (x ++ entries_text s taken.entries) ++ t) (opening_lines s r.some)
-    ∙ parted (folded_line s.first_entry s.first_action) (each_from opened_line 0 s.objects)
+    ∙ four_parts (folded_line s.first_entry s.first_action) (each_from opened_line 0 s.objects)
     (entries_text s taken.entries) t in
     let begins = folded_begins s rest in
     let both : each_from entry_line 0 (reverse other.entries) ++ [] ≡ codes "opening " ++ begins.0 =
-    append-nil (each_from entry_line 0 (reverse other.entries))
-    ∙ sym (entries_from other.opening 0 other.entries first)
+    append-nil (each_from entry_line 0 (reverse other.entries)) ∙ sym (entries_from other.opening 0 other.entries first)
     ∙ ap (λ x. x ++ entries_text other.opening other.entries) (sym (opening_none other.opening b)) ∙ sym e ∙ text
     ∙ begins.1 in
-    let none = no_opening_text 0 (reverse other.entries) [] begins.0
-    (omega arith) both in
-    nothing (begins.0) none.1
-  where
-    parted : (a b c d : List ℕ) → ((a ++ b) ++ c) ++ d ≡ a ++ ((b ++ c) ++ d)
-    parted a b c d = simp append_assoc
-
-    nothing : (y : List ℕ) → [] ≡ codes "opening " ++ y → ⊥
-    nothing y e = let h = ap length e in omega (arith, h, length-append (codes "opening ") y)
-
-pub no_opening_left : (y : List ℕ) → [] ≡ codes "opening " ++ y → ⊥
-no_opening_left y e = let h = ap length e in omega (arith, h, length-append (codes "opening ") y)
+    let none = no_opening_text 0 (reverse other.entries) [] begins.0 (omega arith) both in
+    no_opening_left begins.0 none.1
 
 -- BOTH HAVE AN OPENING
 
@@ -202,8 +184,7 @@ folded_same s k r q e =
 
 pub same_parts : (s k : Opening) → s.objects ≡ k.objects → s.first_action ≡ k.first_action
     → s.first_entry ≡ k.first_entry → s ≡ k
-same_parts s k o a e =
-    ap (λ (x : List (PlainShape × Option PlainContent)). opening_at x s.first_action s.first_entry) o
+same_parts s k o a e = ap (λ (x : List (PlainShape × Option PlainContent)). opening_at x s.first_action s.first_entry) o
     ∙ ap (λ n. opening_at k.objects n s.first_entry) a ∙ ap (λ n. opening_at k.objects k.first_action n) e
 
 object_there : (xs zs : List (PlainShape × Option PlainContent)) (z : PlainShape × Option PlainContent)
@@ -223,14 +204,12 @@ module _ (taken other : JournalView) (t : List ℕ) (r : IsReadableOpening taken
       let k = other.opening in
       let one = codes "opening " ++ FoldedLines.form (s.first_entry, s.first_action) in
       let two = codes "opening " ++ FoldedLines.form (k.first_entry, k.first_action) in
-      let front : journal_text taken ++ t
-      ≡ folded_line s.first_entry s.first_action
+      let front : journal_text taken ++ t ≡ folded_line s.first_entry s.first_action
       ++ (each_from opened_line 0 s.objects ++ (entries_text s taken.entries ++ t)) =
       ap (λ x. (x ++ entries_text s taken.entries) ++ t) (opening_lines s r.some)
-      ∙ parted (folded_line s.first_entry s.first_action) (each_from opened_line 0 s.objects)
+      ∙ four_parts (folded_line s.first_entry s.first_action) (each_from opened_line 0 s.objects)
       (entries_text s taken.entries) t in
-      let whole : journal_text other
-      ≡ folded_line k.first_entry k.first_action
+      let whole : journal_text other ≡ folded_line k.first_entry k.first_action
       ++ (each_from opened_line 0 k.objects ++ entries_text k other.entries) =
       ap (λ x. x ++ entries_text k other.entries) (opening_lines k q.some)
       ∙ append_assoc (folded_line k.first_entry k.first_action) (each_from opened_line 0 k.objects)
@@ -247,9 +226,6 @@ module _ (taken other : JournalView) (t : List ℕ) (r : IsReadableOpening taken
             (FoldedLines.form (k.first_entry, k.first_action)) lines.0,
         lines.1,
       )
-    where
-      parted : (a b c d : List ℕ) → ((a ++ b) ++ c) ++ d ≡ a ++ (b ++ (c ++ d))
-      parted a b c d = simp append_assoc
 
   pub numbers : (taken.opening.first_entry ≡ other.opening.first_entry)
       × (taken.opening.first_action ≡ other.opening.first_action)
@@ -303,8 +279,7 @@ module _ (taken other : JournalView) (t : List ℕ) (r : IsReadableOpening taken
       entries_none : (j : List PlainEntry) → reverse j ≡ [] → j ≡ []
       entries_none j none = sym (twice_reversed j) ∙ ap reverse none
 
-  both_opened : AreReadable taken.entries → AreReadable other.entries → next_entry other ≤ 2 ^ 64
-      → Behind taken other t
+  both_opened : AreReadable taken.entries → AreReadable other.entries → next_entry other ≤ 2 ^ 64 → Behind taken other t
   both_opened a b h = by_more beyond.0 beyond.1
     where
       by_more : (zs : List (PlainShape × Option PlainContent)) → Beyond taken other t zs → Behind taken other t
@@ -321,14 +296,13 @@ module _ (taken other : JournalView) (t : List ℕ) (r : IsReadableOpening taken
 -- what the other journal has behind this one
 pub compared : (taken other : JournalView) (t : List ℕ) → IsReadableJournal taken → IsReadableJournal other
     → next_entry other ≤ 2 ^ 64 → journal_text taken ++ t ≡ journal_text other → Behind taken other t
-compared taken other t r q h e =
-    elim r.opening [
-      | inl a ↦ elim q.opening [
-        | inl b ↦ both_empty taken other t a b r.entries q.entries h e
-        | inr b ↦ other_opened taken other t a b e
-      ]
-      | inr a ↦ elim q.opening [
-        | inl b ↦ absurd (taken_opened taken other t a b e)
-        | inr b ↦ both_opened taken other t a b e r.entries q.entries h
-      ]
-    ]
+compared taken other t r q h e = elim r.opening [
+  | inl a ↦ elim q.opening [
+    | inl b ↦ both_empty taken other t a b r.entries q.entries h e
+    | inr b ↦ other_opened taken other t a b e
+  ]
+  | inr a ↦ elim q.opening [
+    | inl b ↦ absurd (taken_opened taken other t a b e)
+    | inr b ↦ both_opened taken other t a b e r.entries q.entries h
+  ]
+]

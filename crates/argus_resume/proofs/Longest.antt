@@ -1,7 +1,7 @@
 -- No listing with which a reader's text begins is longer than that of the guardian that was made from it.
-use Rattle.std.proofs.Common.{◌≡◌, ◌≢◌, ℕ, ◌+◌, ◌<◌, ◌≤◌, ◌⊎◌, Bool, List, [], ◌∷◌, ◌++◌, length, refl, sym, ap, ◌∙◌}
-use Rattle.std.proofs.Common.{subst, inl, inr, arith, append_assoc, append-nil, length-append, true, drop, take}
-use Rattle.std.proofs.{Math.Seq.take-append_seam, lemmas.List.take-append-drop}
+use Rattle.std.proofs.{lemmas.List.take-append-drop, Common.{◌≡◌, ◌≢◌, ℕ, ◌+◌, ◌<◌, ◌≤◌, ◌⊎◌, Bool, List, [], ◌∷◌}}
+use Rattle.std.proofs.Common.{◌++◌, length, refl, sym, ap, ◌∙◌, subst, inl, inr, arith, append_assoc, append-nil}
+use Rattle.std.proofs.{Common.{length-append, true, drop, take}, Math.Seq.take-append_seam}
 use Rattle.std.specs.{Io.KnownBytes.IsAtEnd, Prelude.{Option, Some, codes}}
 use Rattle.argus_contents.specs.{Content.PlainContent, Shape.PlainShape}
 use Rattle.argus_entries.specs.{Entry.PlainEntry, EntrySpelling.{entry_line, entry_spelling}}
@@ -10,15 +10,14 @@ use Rattle.argus_listings.specs.Listing.{each_from, entries_text, opening_text}
 use Rattle.argus_reading.specs.OpeningLanguages.{FoldedLines, ObjectLines}
 use Rattle.argus_resume.specs.{JournalText.{IsReadableJournal, IsReadableOpening, journal_text}, Laws.IsListable}
 use Rattle.argus_resume.specs.{Resumed.IsResumed, SoundFront.{opening_front, sound_count, sound_front}, Stage.lines_of}
-use Rattle.argus_resume.specs.{Taking.{EndsReading, HasNoFeed}, declared.read_end.ReadEnd.ReadEnd}
-use Rattle.argus_resume.specs.declared.resumed.Resumed.{Resumed}
-use Rattle.argus_resume.specs.declared.read_end.ReadEnd.TheVariants as read
+use Rattle.argus_resume.specs.{Taking.EndsReading, declared.{read_end.ReadEnd.ReadEnd, resumed.Resumed.Resumed}}
 use Rattle.argus_resume.proofs.{Ends.fronts_shorter, Longer.{same_parts, with_entries, with_objects, with_opening}}
 use Rattle.argus_resume.proofs.Longer.{Behind, Beyond, beyond, more_objects, numbers, other_opened, same_opening}
 use Rattle.argus_resume.proofs.NextLines.{behind_none, consumed_front, feed_in, front_line, left_behind, no_fault}
 use Rattle.argus_resume.proofs.{Openings.{folded_line_form, object_line_form}, Sound.count_most, Texts.opened_text}
 use Rattle.argus_resume.proofs.Stages.{front_same, nothing_text}
 use Rattle.argus_texts.proofs.Lists.{head_of, tail_of}
+use Rattle.argus_resume.specs.declared.read_end.ReadEnd.TheVariants as read
 
 -- TWO FRONTS OF A TEXT
 
@@ -27,11 +26,7 @@ fronts : (a b x y : List ℕ) → a ++ x ≡ b ++ y
     → ((t : List ℕ) × (b ≡ a ++ t) × (x ≡ t ++ y)) ⊎ ((t : List ℕ) × (a ≡ b ++ t))
 fronts [] b x y e = inl (b, refl, e)
 fronts (c ∷ a) [] x y e = inr (c ∷ a, refl)
-fronts (c ∷ a) (d ∷ b) x y e =
-    elim (fronts a b x y (tail_of e)) [
-      | inl p ↦ inl (p.0, ap (λ z. d ∷ z) p.1 ∙ ap (λ z. z ∷ (a ++ p.0)) (sym (head_of e)), p.2)
-      | inr q ↦ inr (q.0, ap (λ z. c ∷ z) q.1 ∙ ap (λ z. z ∷ (b ++ q.0)) (head_of e))
-    ]
+fronts (c ∷ a) (d ∷ b) x y e = grind (arith, fronts a b x y (tail_of e), tail_of, head_of)
 
 -- BEHIND WHAT WAS TAKEN
 
@@ -53,11 +48,7 @@ behind_line taken other t (with_opening first r rest is) =
     )
 behind_line taken other t (with_objects r gone z readable room rest is) =
     let n = length taken.opening.objects in
-    inr (
-      codes "opening " ++ ObjectLines.form (n, z),
-      rest,
-      is ∙ ap (λ x. x ++ rest) (object_line_form n z),
-    )
+    inr (codes "opening " ++ ObjectLines.form (n, z), rest, is ∙ ap (λ x. x ++ rest) (object_line_form n z))
 
 module _ (journal other : JournalView) (listable : IsListable other) (left behind t rest : List ℕ)
     (b : Behind journal other t) (e : left ++ behind ≡ t ++ rest) where
@@ -77,12 +68,7 @@ module _ (journal other : JournalView) (listable : IsListable other) (left behin
         length-append (l.0 ++ 10 ∷ []) l.1,
         length-append l.0 (10 ∷ []),
       )
-  no_line_left l read.Torn has failed is h n m =
-      let none : behind ≡ [] = subst IsAtEnd is h.1 in
-      let parts : left ≡ (l.0 ++ 10 ∷ []) ++ (l.1 ++ rest) =
-      sym (append-nil left) ∙ ap (λ (x : List ℕ). left ++ x) (sym none) ∙ e ∙ ap (λ x. x ++ rest) l.2
-      ∙ append_assoc (l.0 ++ 10 ∷ []) l.1 rest in
-      feed_in l.0 (l.1 ++ rest) (subst HasNoFeed parts h.0.1)
+  no_line_left l read.Torn has failed is h n m = grind (arith, append-nil, append_assoc, feed_in)
   no_line_left l (read.Fault f) has failed is h n m =
       let faulty = h.0 in
       let parts : (l.0 ++ 10 ∷ []) ++ (l.1 ++ rest) ≡ faulty.line ++ 10 ∷ (faulty.more ++ behind) =
@@ -104,38 +90,24 @@ empty_sound s e = ap is_sound e
 -- a journal without an opening whose listing begins that of one with an opening has no line
 none_before : (other journal : JournalView) (t : List ℕ) → other.opening ≡ empty → IsReadableOpening journal.opening
     → Behind other journal t → length (journal_text other) ≡ 0
-none_before other journal t none r (with_opening first s rest is) = ap length (nothing_text other first)
-none_before other journal t none r (with_entries o zs b is) =
-    let same : empty ≡ journal.opening = sym none ∙ o in
-    absurd (omega (arith, r.some, ap (λ (s : Opening). s.first_entry) same))
-none_before other journal t none r (with_objects s gone z readable room rest is) =
-    absurd (omega (arith, s.some, ap (λ (k : Opening). k.first_entry) none))
+none_before other journal t none r p = grind (arith, nothing_text)
 
 -- the lines of the longest sound front are in the listing of the journal with it
 front_text : (journal : JournalView) → 0 < journal.opening.first_entry
     → length (lines_of (opening_front journal.opening (sound_count journal.opening (length journal.opening.objects))))
     ≤ length (journal_text (sound_front journal))
-front_text journal h =
-    let s = opening_front journal.opening (sound_count journal.opening (length journal.opening.objects)) in
-    let alone = opened_text s h in
-    omega (
-      arith,
-      ap length alone,
-      length-append (opening_text s) [],
-      length-append (opening_text s) (entries_text s journal.entries),
-    )
+front_text journal h = grind (arith, opened_text, length-append)
 
 module _ (journal other : JournalView) (readable : IsReadableJournal journal) (listable : IsListable other)
     (t : List ℕ) (e : journal_text other ++ t ≡ journal_text journal) where
   -- a sound opening is kept whole
   by_sound : is_sound journal.opening ≡ true → length (journal_text other) ≤ length (journal_text (sound_front journal))
-  by_sound h =
-      omega (
-        arith,
-        ap length e,
-        length-append (journal_text other) t,
-        ap (λ (j : JournalView). length (journal_text j)) (front_same journal h),
-      )
+  by_sound h = omega (
+    arith,
+    ap length e,
+    length-append (journal_text other) t,
+    ap (λ (j : JournalView). length (journal_text j)) (front_same journal h),
+  )
 
   -- the other's opening begins that of the journal
   by_objects : (q : IsReadableOpening other.opening) (r : IsReadableOpening journal.opening)
@@ -165,15 +137,14 @@ module _ (journal other : JournalView) (readable : IsReadableJournal journal) (l
 
   -- no listing with which that of the journal begins is longer than that of its sound front
   front_longest : length (journal_text other) ≤ length (journal_text (sound_front journal))
-  front_longest =
-      elim readable.opening [
-        | inl none ↦ by_sound (empty_sound journal.opening none)
-        | inr r ↦ elim listable.opening [
-          | inl none ↦
-              omega (arith, none_before other journal t none r (other_opened other journal t none r e))
-          | inr q ↦ let more = beyond other journal t q r e in by_objects q r more.0 more.1
-        ]
-      ]
+  front_longest = elim readable.opening [
+    | inl none ↦ by_sound (empty_sound journal.opening none)
+    | inr r ↦ elim listable.opening [
+      | inl none ↦
+          omega (arith, none_before other journal t none r (other_opened other journal t none r e))
+      | inr q ↦ let more = beyond other journal t q r e in by_objects q r more.0 more.1
+    ]
+  ]
 
 -- THE LAW
 

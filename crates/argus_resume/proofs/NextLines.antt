@@ -1,38 +1,33 @@
 -- No listing is longer than what was taken if the next line is at fault, and a listing is taken whole.
-use Rattle.std.proofs.Common.{◌≡◌, ◌≢◌, ℕ, ◌+◌, ◌<◌, ◌^◌, List, [], ◌∷◌, ◌++◌, length, refl, sym, ap, ◌∙◌, subst, inl}
-use Rattle.std.proofs.Common.{inr, arith, append_assoc, append-nil, length-append, true, reverse, Bool, drop, take}
-use Rattle.std.proofs.{lemmas.Bool.false≢true, lemmas.List.{reverse-append, take-append-drop}}
-use Rattle.std.specs.{Io.KnownBytes.{Consumes, IsAtEnd}, Prelude.{None, Option, Some, codes}, Str.IsUtf8}
+use Rattle.std.proofs.{lemmas.{Bool.false≢true, List.{reverse-append, take-append-drop}}, Common.{◌≡◌, ◌≢◌, ℕ, ◌+◌}}
+use Rattle.std.proofs.Common.{◌<◌, ◌^◌, List, [], ◌∷◌, ◌++◌, length, refl, sym, ap, ◌∙◌, subst, inl, inr, arith}
+use Rattle.std.proofs.Common.{append_assoc, append-nil, length-append, true, reverse, Bool, drop, take}
+use Rattle.std.specs.{Io.KnownBytes.{Consumes, IsAtEnd}, Prelude.{Option, Some, codes}, Str.IsUtf8}
 use Rattle.argus_entries.specs.{Entry.PlainEntry, EntrySpelling.{entry_line, entry_spelling}}
 use Rattle.argus_entries.proofs.Lines.{one_line}
-use Rattle.argus_journal.specs.{JournalView.{JournalView, next_entry, reply_to}, Legal.Legal}
-use Rattle.argus_journal.specs.Opening.{Opening, is_sound}
+use Rattle.argus_journal.specs.{JournalView.{JournalView, next_entry, reply_to}, Legal.Legal, Opening.Opening}
+use Rattle.argus_journal.specs.Opening.{is_sound}
 use Rattle.argus_listings.specs.Listing.{each_from}
 use Rattle.argus_reading.specs.{OpeningLanguages.{FoldedLines, ObjectLines}, Line.{IsEntryLine, IsReadable}}
 use Rattle.argus_resume.specs.{JournalText.{AreReadable, IsReadableJournal, journal_text}, Resumed.IsResumed}
 use Rattle.argus_resume.specs.{Laws.{EndsInFeed, IsListable}, declared.read_end.ReadEnd.ReadEnd}
-use Rattle.argus_resume.specs.Lines.{IsLineFault, IsLineOf, IsNextOfOpening, IsOfOpening}
-use Rattle.argus_resume.specs.Taking.{EndsReading, EndsTaking, HasNoFeed, IsFaulty, IsTorn}
-use Rattle.argus_resume.specs.{declared.resumed.Resumed.Resumed, declared.line_fault.LineFault.LineFault}
-use Rattle.argus_resume.specs.declared.taken_end.TakenEnd.{TakenEnd}
+use Rattle.argus_resume.specs.declared.{resumed.Resumed.Resumed, line_fault.LineFault.LineFault}
+use Rattle.argus_resume.specs.{declared.taken_end.TakenEnd.TakenEnd, Lines.{IsLineFault, IsLineOf, IsNextOfOpening}}
+use Rattle.argus_resume.specs.{Lines.IsOfOpening, Taking.{EndsReading, EndsTaking, HasNoFeed, IsFaulty, IsTorn}}
+use Rattle.argus_resume.proofs.{Readable.readable_by_calls, Stages.front_same, Clean.{IsClean, entry_clean}}
+use Rattle.argus_resume.proofs.{Clean.{folded_clean, object_clean}, Fronts.{feed_told, folded_form, no_line}}
+use Rattle.argus_resume.proofs.{Fronts.{no_opening_line, object_form}, Openings.{folded_line_form, object_line_form}}
+use Rattle.argus_resume.proofs.{Openings.of_opening, Longer.{Behind, compared, folded_begins, no_opening_left}}
+use Rattle.argus_resume.proofs.Longer.{object_begins, older_legal, older_readable, with_entries, with_objects}
+use Rattle.argus_resume.proofs.Longer.{with_opening}
+use Rattle.argus_texts.proofs.Lists.{head_of, tail_of}
 use Rattle.argus_resume.specs.declared.read_end.ReadEnd.TheVariants as read
-use Rattle.argus_resume.proofs.{Readable.readable_by_calls, Stages.front_same}
-use Rattle.argus_resume.proofs.Clean.{IsClean, entry_clean, folded_clean, object_clean}
-use Rattle.argus_resume.proofs.Fronts.{feed_told, folded_form, no_line, no_opening_line, object_form}
-use Rattle.argus_resume.proofs.Openings.{folded_line_form, object_line_form, of_opening}
-use Rattle.argus_resume.proofs.Longer.{Behind, compared, folded_begins, no_opening_left, object_begins, older_legal}
-use Rattle.argus_resume.proofs.Longer.{older_readable, with_entries, with_objects, with_opening}
 use Rattle.argus_resume.specs.declared.line_fault.LineFault.TheVariants as fault
 use Rattle.argus_resume.specs.declared.taken_end.TakenEnd.TheVariants as end
-use Rattle.argus_texts.proofs.Lists.{head_of, tail_of}
 
 -- what can be listed can be read: of its replies nothing is asked
 pub listed_readable : (journal : JournalView) → IsListable journal → IsReadableJournal journal
-listed_readable journal listable = record {
-  opening = listable.opening;
-  entries = readable_by_calls journal.opening listable.opening listable.sound journal.entries listable.legal
-      listable.calls;
-}
+listed_readable journal listable = grind (arith, readable_by_calls)
 
 -- what is left of a listing is the text of what the journal has beyond what was taken
 pub left_behind : (taken other : JournalView) (left : List ℕ) → IsReadableJournal taken → IsListable other
@@ -52,13 +47,7 @@ record NextEntry (taken : JournalView) (line : List ℕ) : Type 0 where
   sound : is_sound taken.opening ≡ true
 
 its_line : (taken : JournalView) (line : List ℕ) → NextEntry taken line → IsEntryLine line
-its_line taken line n = record {
-  number = next_entry taken;
-  entry = n.z;
-  in_range = n.low;
-  readable = n.readable;
-  is = n.is;
-}
+its_line taken line n = grind arith
 
 its_entry : (taken : JournalView) (line : List ℕ) (n : NextEntry taken line) (m : ℕ) (d : PlainEntry) → m < 2 ^ 64
     → IsLineOf m d line → (m ≡ next_entry taken) × (d ≡ n.z)
@@ -68,8 +57,7 @@ its_entry taken line n m d h of =
 
 pub no_entry_of_opening : (n : ℕ) (e : PlainEntry) (line : List ℕ) → n < 2 ^ 64 → line ≡ entry_spelling n e
     → IsOfOpening line → ⊥
-no_entry_of_opening n e line h is of =
-    no_opening_line n e [] (112 ∷ 101 ∷ 110 ∷ 105 ∷ 110 ∷ 103 ∷ 32 ∷ of.rest) h
+no_entry_of_opening n e line h is of = no_opening_line n e [] (112 ∷ 101 ∷ 110 ∷ 105 ∷ 110 ∷ 103 ∷ 32 ∷ of.rest) h
     (sym of.reads.is ∙ is ∙ sym (append-nil (entry_spelling n e)))
 
 no_entry_fault : (taken : JournalView) (line : List ℕ) → NextEntry taken line → (f : LineFault)
@@ -101,10 +89,8 @@ no_opening_fault taken line next c of low (fault.NotTheReply reply) h =
 module _ (taken other : JournalView) (listable : IsListable other) (line more : List ℕ) (whole : HasNoFeed line) where
   behind_entry : taken.opening ≡ other.opening → (zs : List PlainEntry) → other.entries ≡ reverse zs ++ taken.entries
       → line ++ 10 ∷ more ≡ each_from entry_line (next_entry taken) zs → NextEntry taken line
-  behind_entry o [] b is =
-      absurd (let h = ap length is in omega (arith, h, length-append line (10 ∷ more)))
-  behind_entry o (z ∷ zs) b is =
-      let all : other.entries ≡ reverse zs ++ (z ∷ taken.entries) =
+  behind_entry o [] b is = absurd (let h = ap length is in omega (arith, h, length-append line (10 ∷ more)))
+  behind_entry o (z ∷ zs) b is = let all : other.entries ≡ reverse zs ++ (z ∷ taken.entries) =
       b ∙ ap (λ (x : List PlainEntry). x ++ taken.entries) (reverse-append (z ∷ []) zs)
       ∙ append_assoc (reverse zs) (z ∷ []) taken.entries in
       let first : taken.opening.first_entry ≡ other.opening.first_entry = ap (λ (k : Opening). k.first_entry) o in
@@ -139,8 +125,7 @@ module _ (taken other : JournalView) (listable : IsListable other) (line more : 
       let told = feed_told line (codes "opening " ++ form) more rest whole clean.0
       (is ∙ ap (λ x. x ++ rest) (folded_line_form s.first_entry s.first_action)
       ∙ append_assoc (codes "opening " ++ form) (10 ∷ []) rest) in
-      no_opening_fault taken line
-      (inl (record {
+      no_opening_fault taken line (inl (record {
         entries = s.first_entry;
         actions = s.first_action;
         first = first;
@@ -157,16 +142,14 @@ module _ (taken other : JournalView) (listable : IsListable other) (line more : 
       let clean = object_clean (n, z) good in
       let told = feed_told line (codes "opening " ++ form) more rest whole clean.0
       (is ∙ ap (λ x. x ++ rest) (object_line_form n z) ∙ append_assoc (codes "opening " ++ form) (10 ∷ []) rest) in
-      no_opening_fault taken line
-      (inr (record {
+      no_opening_fault taken line (inr (record {
         object = z;
         opened = r.some;
         none = none;
         room = room;
         readable = readable;
         is = ap (λ x. x ++ 10 ∷ []) told.0 ∙ sym (object_line_form n z);
-      }))
-      (subst IsClean (sym told.0) clean) (subst IsOfOpening (sym told.0) (of_opening form))
+      })) (subst IsClean (sym told.0) clean) (subst IsOfOpening (sym told.0) (of_opening form))
       (omega (arith, r.limits.entries, ap length none)) f h
 
 -- THE LAWS
@@ -183,8 +166,7 @@ front_line (c ∷ x) (b ∷ line) more rest n e =
 
 pub no_longer : (taken : JournalView) (left : List ℕ) (f : LineFault) → IsReadableJournal taken
     → IsFaulty taken left f → (front rest : List ℕ) → left ≡ front ++ rest → EndsInFeed front
-    → (other : JournalView) → IsListable other
-    → journal_text other ≡ journal_text taken ++ front → ⊥
+    → (other : JournalView) → IsListable other → journal_text other ≡ journal_text taken ++ front → ⊥
 no_longer taken left f r faulty front rest parts ends other listable e =
     let first = front_line ends.0 faulty.line faulty.more rest faulty.whole
     (ap (λ x. x ++ rest) (sym ends.1) ∙ sym parts ∙ faulty.is) in
@@ -203,15 +185,9 @@ none_within taken left f r faulty other rest listable e =
     (subst (Behind taken other) all (left_behind taken other (left ++ rest) r listable e)) f faulty.says
 
 pub behind_none : (taken other : JournalView) (t : List ℕ) → t ≡ [] → Behind taken other t → taken ≡ other
-behind_none taken other t none (with_entries o [] b is) =
-    ap (λ (s : Opening). let j : JournalView = record { opening = s; entries = taken.entries } in j) o
-    ∙ ap (λ (x : List PlainEntry). let j : JournalView = record { opening = other.opening; entries = x } in j) (sym b)
-behind_none taken other t none (with_entries o (z ∷ zs) b is) =
-    absurd (no_line (entry_spelling (next_entry taken) z) (each_from entry_line (next_entry taken + 1) zs)
-    (sym is ∙ none))
-behind_none taken other t none (with_opening first r rest is) =
-    let begins = folded_begins other.opening rest in
-    absurd (no_opening_left begins.0 (sym none ∙ is ∙ begins.1))
+behind_none taken other t none (with_entries o [] b is) = grind arith
+behind_none taken other t none (with_entries o (z ∷ zs) b is) = grind (arith, no_line)
+behind_none taken other t none (with_opening first r rest is) = grind (arith, folded_begins, no_opening_left)
 behind_none taken other t none (with_objects r gone z readable room rest is) =
     let begins = object_begins (length taken.opening.objects) z rest in
     absurd (no_opening_left begins.0 (sym none ∙ is ∙ begins.1))
@@ -222,17 +198,9 @@ feed_in (b ∷ a) x h = feed_in a x h.1
 
 behind_torn : (taken other : JournalView) (t : List ℕ) → IsTorn t → Behind taken other t → ⊥
 behind_torn taken other t torn (with_entries o [] b is) = torn.0 is
-behind_torn taken other t torn (with_entries o (z ∷ zs) b is) =
-    feed_in (entry_spelling (next_entry taken) z) (each_from entry_line (next_entry taken + 1) zs)
-    (subst HasNoFeed is torn.1)
-behind_torn taken other t torn (with_opening first r rest is) =
-    let s = other.opening in
-    feed_in (codes "opening " ++ FoldedLines.form (s.first_entry, s.first_action)) rest
-    (subst HasNoFeed (is ∙ ap (λ x. x ++ rest) (folded_line_form s.first_entry s.first_action)) torn.1)
-behind_torn taken other t torn (with_objects r gone z readable room rest is) =
-    let n = length taken.opening.objects in
-    feed_in (codes "opening " ++ ObjectLines.form (n, z)) rest
-    (subst HasNoFeed (is ∙ ap (λ x. x ++ rest) (object_line_form n z)) torn.1)
+behind_torn taken other t torn (with_entries o (z ∷ zs) b is) = grind (arith, feed_in)
+behind_torn taken other t torn (with_opening first r rest is) = grind (arith, feed_in, folded_line_form)
+behind_torn taken other t torn (with_objects r gone z readable room rest is) = grind (arith, feed_in, object_line_form)
 
 pub taken_back : (taken : JournalView) (left : List ℕ) (e : TakenEnd) → IsReadableJournal taken
     → EndsTaking e taken left → e ≢ end.OutOfMemory → (other : JournalView) → IsListable other
@@ -241,8 +209,7 @@ taken_back taken left end.Whole r h n other listable e =
     (refl, behind_none taken other left h (left_behind taken other left r listable e))
 taken_back taken left end.Torn r h n other listable e =
     absurd (behind_torn taken other left h (left_behind taken other left r listable e))
-taken_back taken left (end.Fault f) r h n other listable e =
-    absurd (no_fault taken other listable h.line h.more h.whole
+taken_back taken left (end.Fault f) r h n other listable e = absurd (no_fault taken other listable h.line h.more h.whole
     (subst (Behind taken other) h.is (left_behind taken other left r listable e)) f h.says)
 taken_back taken left end.OutOfMemory r h n other listable e = absurd (n refl)
 
@@ -265,19 +232,16 @@ module _ (journal listed : JournalView) (r : IsReadableJournal journal) (listabl
       let none : behind ≡ [] = subst IsAtEnd is h.1 in
       let all : left ++ behind ≡ left = ap (λ (x : List ℕ). left ++ x) none ∙ append-nil left in
       absurd (behind_torn journal listed left h.0 (subst (Behind journal listed) all all_behind))
-  ended (read.Fault f) has failed is h n m =
-      absurd (none_within journal left f r h.0 listed behind listable e)
+  ended (read.Fault f) has failed is h n m = absurd (none_within journal left f r h.0 listed behind listable e)
   ended read.OutOfMemory has failed is h n m = absurd (n refl)
   ended read.Read has failed is h n m = absurd (m refl)
 
 pub consumed_front : (whole bytes : List ℕ) (has : Option (List ℕ)) → Consumes (Some whole) has bytes
     → (behind : List ℕ) × (has ≡ Some behind) × (whole ≡ bytes ++ behind)
-consumed_front whole bytes None h = absurd h
-consumed_front whole bytes (Some behind) h = (behind, refl, h)
+consumed_front whole bytes p h = grind arith
 
 pub resumed_back : (has : Option (List ℕ)) (failed : Bool) (resumed : Resumed) (listed : JournalView)
-    → IsListable listed
-    → IsResumed (Some (journal_text listed)) has failed resumed → resumed.end ≢ read.OutOfMemory
+    → IsListable listed → IsResumed (Some (journal_text listed)) has failed resumed → resumed.end ≢ read.OutOfMemory
     → resumed.end ≢ read.Read → (resumed.end ≡ read.Whole) × (resumed.guardian ≡ listed)
 resumed_back has failed resumed listed listable h n m =
     let t = h.taken in

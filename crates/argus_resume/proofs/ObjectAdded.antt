@@ -1,14 +1,13 @@
 -- An opening with one more object, from the line that spells it.
-use Rattle.std.proofs.Common.{◌≡◌, ℕ, ◌+◌, ◌<◌, List, [], ◌∷◌, ◌++◌, length, sym, ap, ◌∙◌, subst, arith, true}
-use Rattle.std.proofs.{Common.length-append, lemmas.List.{length-map, map-append}}
+use Rattle.std.proofs.{lemmas.List.{length-map, map-append}, Common.{◌≡◌, ℕ, ◌+◌, ◌<◌, List, [], ◌∷◌, ◌++◌, length}}
+use Rattle.std.proofs.Common.{sym, ap, ◌∙◌, subst, arith, true, length-append}
 use Rattle.std.specs.Prelude.{Option, Some, codes}
 use Rattle.argus_contents.specs.{Content.PlainContent, Shape.PlainShape, declared.limits.TheConstants.MAX_OBJECTS}
 use Rattle.argus_journal.specs.Opening.{fits_shape, opening_at}
 use Rattle.argus_listings.specs.Listing.{each_from, folded_line, opened_line}
 use Rattle.argus_reading.specs.OpeningLanguages.{IsForm, ObjectLines}
-use Rattle.argus_resume.specs.JournalText.{AreReadableObjects, IsReadableObject, IsReadableOpening}
-use Rattle.argus_resume.specs.Stage.{AreEnds, lines_of, object_read, objects_read, opening_line}
-use Rattle.argus_resume.specs.declared.opened_object.OpenedObject.{OpenedObject}
+use Rattle.argus_resume.specs.{JournalText.IsReadableOpening, Stage.{AreEnds, lines_of, object_read, objects_read}}
+use Rattle.argus_resume.specs.{Stage.opening_line, declared.opened_object.OpenedObject.OpenedObject}
 use Rattle.argus_resume.proofs.{Ends.{ends_push, lines_bytes}, Openings.{object_line_form, readable_push}}
 use Rattle.argus_resume.proofs.Texts.{object_text}
 
@@ -26,28 +25,13 @@ module _ (items : List OpenedObject) (first_action first_entry : ℕ) (object : 
   objects_more = ap objects_read is ∙ map-append object_read items (object ∷ [])
 
   line_is : (n : ℕ) → n ≡ o → opened_line n (object_read object) ≡ opening_line rest
-  line_is n e =
-      ap (λ k. opened_line k (object_read object)) e ∙ object_line_form o (object_read object)
+  line_is n e = ap (λ k. opened_line k (object_read object)) e ∙ object_line_form o (object_read object)
       ∙ ap opening_line (sym form.is)
 
   pub added_readable : o < MAX_OBJECTS → Fits (object_read object)
       → IsReadableOpening (opening_at (objects_read items) first_action first_entry)
       → IsReadableOpening (opening_at (objects_read new) first_action first_entry)
-  added_readable room fits r =
-      let count : length (objects_read new) ≡ length items + 1 =
-      omega (arith, ap length is, length-map new object_read, length-append items (object ∷ [])) in
-      let readable : IsReadableObject (object_read object) =
-      record { makeable = form.good.1.0; within = form.good.1.1; may_fit = fits } in
-      record {
-        some = r.some;
-        limits = record {
-          objects = omega (arith, count, place, room);
-          actions = r.limits.actions;
-          entries = r.limits.entries;
-        };
-        objects = subst AreReadableObjects (sym objects_more)
-            (readable_push (objects_read items) (object_read object) r.objects readable);
-      }
+  added_readable room fits r = grind (arith, length-map, length-append, objects_more, readable_push)
 
   pub added_text : lines_of (opening_at (objects_read new) first_action first_entry)
       ≡ lines_of (opening_at (objects_read items) first_action first_entry) ++ opening_line rest
@@ -65,8 +49,7 @@ module _ (items : List OpenedObject) (first_action first_entry : ℕ) (object : 
       let number : 0 + length items ≡ o = omega (arith, place) in
       let line : length (opened_line (0 + length items) (object_read object)) ≡ 9 + length rest =
       ap length (line_is (0 + length items) number) ∙ line_length rest in
-      let end : object.end
-      ≡ (head + length (each_from opened_line 0 (objects_read items)))
+      let end : object.end ≡ (head + length (each_from opened_line 0 (objects_read items)))
       + length (opened_line (0 + length items) (object_read object)) =
       omega (arith, e, h, line, lines_bytes (opening_at (objects_read items) first_action first_entry)) in
       subst (AreEnds head 0) (sym is) (ends_push head 0 items object r end)

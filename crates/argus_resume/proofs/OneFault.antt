@@ -1,17 +1,17 @@
 -- A line has at most one fault: what each says excludes the others.
-use Rattle.std.proofs.Common.{◌≡◌, ◌≢◌, ℕ, ◌<◌, ◌^◌, List, refl, sym, ap, ◌∙◌, subst, inl, inr, ◌⊎◌}
-use Rattle.std.proofs.{lemmas.Bool.false≢true, lemmas.Str.utf8_valid_len-IsValidUpTo}
+use Rattle.std.proofs.{lemmas.{Bool.false≢true, Str.utf8_valid_len-IsValidUpTo}, Common.{arith, ◌≡◌, ◌≢◌, ℕ, ◌<◌, ◌^◌}}
+use Rattle.std.proofs.Common.{List, refl, sym, ap, ◌∙◌, subst, inl, inr, ◌⊎◌}
 use Rattle.std.specs.Str.{IsUtf8, IsValidUpTo}
 use Rattle.argus_entries.specs.{Entry.PlainEntry, Reply.{PlainReply, plain_reply}}
 use Rattle.argus_entries.proofs.Lines.{one_line}
 use Rattle.argus_journal.specs.JournalView.{JournalView, next_entry, reply_to}
 use Rattle.argus_reading.specs.{Laws.TextsHaveOneError, Line.{IsEntryLine, IsNoLine, LacksShape, Tells}}
 use Rattle.argus_reading.specs.declared.read_entry_error.ReadEntryError.{ReadEntryError}
-use Rattle.argus_reading.specs.declared.read_entry_error.ReadEntryError.TheVariants as error
-use Rattle.argus_resume.specs.{Laws.IsSameFault, declared.line_fault.LineFault.LineFault}
-use Rattle.argus_resume.specs.Lines.{HasOtherNumber, HasOtherReply, IsBehindUnsound, IsLineFault, IsLineOf, IsOfOpening}
-use Rattle.argus_resume.specs.declared.line_fault.LineFault.TheVariants as fault
+use Rattle.argus_resume.specs.{Laws.IsSameFault, declared.line_fault.LineFault.LineFault, Lines.HasOtherNumber}
+use Rattle.argus_resume.specs.Lines.{HasOtherReply, IsBehindUnsound, IsLineFault, IsLineOf, IsOfOpening}
 use Rattle.argus_resume.proofs.{Clean.entry_clean, NextLines.no_entry_of_opening}
+use Rattle.argus_reading.specs.declared.read_entry_error.ReadEntryError.TheVariants as error
+use Rattle.argus_resume.specs.declared.line_fault.LineFault.TheVariants as fault
 
 -- THE LINE OF AN ENTRY
 
@@ -22,12 +22,10 @@ entry_no_opening : (line : List ℕ) → IsEntryLine line → IsOfOpening line �
 entry_no_opening line e of = no_entry_of_opening e.number e.entry line e.in_range e.is of
 
 entry_told : (line : List ℕ) (at : ℕ) → IsEntryLine line → IsNoLine line at ⊎ LacksShape line at → ⊥
-entry_told line at e (inl f) = f.fault.refused e
-entry_told line at e (inr l) = l.refused e
+entry_told line at e p = grind arith
 
 by_line : (n : ℕ) (e : PlainEntry) (line : List ℕ) → n < 2 ^ 64 → IsLineOf n e line → IsEntryLine line
-by_line n e line h of =
-    record { number = n; entry = e; in_range = h; readable = of.readable; is = of.is }
+by_line n e line h of = record { number = n; entry = e; in_range = h; readable = of.readable; is = of.is }
 
 same_line : (m n : ℕ) (d e : PlainEntry) (line : List ℕ) → m < 2 ^ 64 → n < 2 ^ 64 → IsLineOf m d line
     → IsLineOf n e line → (m ≡ n) × (d ≡ e)
@@ -89,8 +87,7 @@ module _ (law : TextsHaveOneError) (journal : JournalView) (line : List ℕ) (lo
   among fault.NotAnOpening (fault.NoLine b) p q = absurd (q.1 p.1)
   among fault.NotAnOpening fault.NotNext p q = absurd (entry_no_opening line (numbered q) p.1)
   among fault.NotAnOpening fault.NotSound p q = absurd (entry_no_opening line (unsound q) p.1)
-  among fault.NotAnOpening (fault.NotTheReply r) p q =
-      absurd (entry_no_opening line (unlike (plain_reply r) q) p.1)
+  among fault.NotAnOpening (fault.NotTheReply r) p q = absurd (entry_no_opening line (unlike (plain_reply r) q) p.1)
   among (fault.NoLine a) (fault.NoText b) p q = absurd (q.0 p.0)
   among (fault.NoLine a) fault.NotAnOpening p q = absurd (p.1 q.1)
   among (fault.NoLine a) (fault.NoLine b) p q = ap fault.NoLine (same_stop law line b a q.2 p.2)
@@ -110,13 +107,11 @@ module _ (law : TextsHaveOneError) (journal : JournalView) (line : List ℕ) (lo
   among fault.NotSound fault.NotSound p q = refl
   among fault.NotSound (fault.NotTheReply r) p q = absurd (false≢true (sym p.unsound ∙ q.sound))
   among (fault.NotTheReply r) (fault.NoText b) p q = absurd (q.0 (entry_utf8 line (unlike (plain_reply r) p)))
-  among (fault.NotTheReply r) fault.NotAnOpening p q =
-      absurd (entry_no_opening line (unlike (plain_reply r) p) q.1)
+  among (fault.NotTheReply r) fault.NotAnOpening p q = absurd (entry_no_opening line (unlike (plain_reply r) p) q.1)
   among (fault.NotTheReply r) (fault.NoLine b) p q = absurd (entry_told line b (unlike (plain_reply r) p) q.2)
   among (fault.NotTheReply r) fault.NotNext p q = absurd (not_next p.entry p.of q)
   among (fault.NotTheReply r) fault.NotSound p q = absurd (false≢true (sym q.unsound ∙ p.sound))
-  among (fault.NotTheReply r) (fault.NotTheReply s) p q =
-      (s, refl, same_reply (plain_reply r) (plain_reply s) p q)
+  among (fault.NotTheReply r) (fault.NotTheReply s) p q = (s, refl, same_reply (plain_reply r) (plain_reply s) p q)
 
 pub one_fault : TextsHaveOneError → (journal : JournalView) (line : List ℕ) (one other : LineFault)
     → next_entry journal < 2 ^ 64 → IsLineFault one journal line → IsLineFault other journal line

@@ -1,7 +1,6 @@
 -- The lines of openings: what each says, and what can't be the next one.
-use Rattle.std.proofs.Common.{◌≡◌, ℕ, ◌<◌, List, [], ◌∷◌, ◌++◌, length, refl, sym, ◌∙◌, subst, inl, inr, append_assoc}
-use Rattle.std.proofs.{Common.{arith, true}, lemmas.List.{append_cancel_left, append_cancel_right}}
-use Rattle.std.proofs.lemmas.Str.{IsUtf8-append}
+use Rattle.std.proofs.{lemmas.{List.{append_cancel_left, append_cancel_right}, Str.IsUtf8-append}, Common.{◌≡◌, ℕ, ◌<◌}}
+use Rattle.std.proofs.Common.{List, [], ◌∷◌, ◌++◌, length, refl, sym, ◌∙◌, subst, inl, inr, append_assoc, arith, true}
 use Rattle.std.specs.{Fmt.decimal, Prelude.{Option, Some, codes}, Str.IsUtf8}
 use Rattle.argus_contents.specs.{Content.PlainContent, Shape.PlainShape, declared.limits.TheConstants.MAX_OBJECTS}
 use Rattle.argus_journal.specs.{JournalView.{JournalView, next_entry}, Opening.{Opening, fits_shape}}
@@ -11,8 +10,8 @@ use Rattle.argus_reading.proofs.Told.{object_told}
 use Rattle.argus_texts.specs.{Language.FormOf, ShapeSpelling.shape_spelling}
 use Rattle.argus_resume.specs.{JournalText.{AreReadableObjects, IsReadableObject}, Stage.{opened_alone, opening_line}}
 use Rattle.argus_resume.specs.Lines.{AddsObject, BeginsOpening, IsLineFault, IsNextOfOpening, IsOfOpening}
-use Rattle.argus_resume.specs.declared.line_fault.LineFault.TheVariants as fault
 use Rattle.argus_resume.proofs.Clean.{word_clean}
+use Rattle.argus_resume.specs.declared.line_fault.LineFault.TheVariants as fault
 
 -- FORMS
 
@@ -35,17 +34,12 @@ folded_line_form n m = folded_regroup (decimal n) (decimal m)
 
 -- what stands behind the first word of a line
 pub line_told : (rest other : List ℕ) → codes "opening " ++ rest ++ 10 ∷ [] ≡ opening_line other → rest ≡ other
-line_told rest other e =
-    append_cancel_left (codes "opening ") rest other
+line_told rest other e = append_cancel_left (codes "opening ") rest other
     (append_cancel_right (codes "opening " ++ rest) (codes "opening " ++ other) (10 ∷ []) e)
 
 pub adds_form : (journal : JournalView) (rest : List ℕ) (a : AddsObject journal (codes "opening " ++ rest))
     → IsForm ObjectLines (length journal.opening.objects, a.object) rest
-adds_form journal rest a = record {
-  good = ((omega arith, omega (arith, a.room)), (a.readable.makeable, a.readable.within));
-  is = line_told rest (ObjectLines.form (length journal.opening.objects, a.object))
-      (a.is ∙ object_line_form (length journal.opening.objects) a.object);
-}
+adds_form journal rest a = grind (arith, line_told, object_line_form)
 
 pub begins_form : (journal : JournalView) (rest : List ℕ) → BeginsOpening journal (codes "opening " ++ rest)
     → FormOf FoldedLines rest

@@ -1,23 +1,19 @@
 -- How much of what a reader had was taken, read by read.
-use Rattle.std.proofs.Common.{◌≡◌, ℕ, ◌+◌, ◌≤◌, Bool, false, List, [], ◌∷◌, ◌++◌, length, None, Option, Some, take}
-use Rattle.std.proofs.Common.{drop, sym, ap, ◌∙◌, subst, arith, append_assoc, append-nil, length-append, length-drop}
-use Rattle.std.proofs.{Common.{take-add, ◌-◌}, lemmas.Option.none-some}
-use Rattle.std.proofs.lemmas.List.{drop-append-le, drop-drop, length-take-le, take-append-le, take-take}
+use Rattle.std.proofs.lemmas.{Option.none-some, List.{drop-append-le, drop-drop, length-take-le, take-append-le}}
+use Rattle.std.proofs.{lemmas.List.take-take, Common.{◌≡◌, ℕ, ◌+◌, ◌≤◌, Bool, false, List, ◌++◌, length, None, Option}}
+use Rattle.std.proofs.Common.{Some, take, drop, sym, ap, ◌∙◌, subst, arith, append_assoc, length-append, length-drop}
+use Rattle.std.proofs.Common.{take-add, ◌-◌}
 use Rattle.std.specs.{Option.unwrap_or, Io.KnownBytes.Consumes}
 use Rattle.argus_journal.specs.JournalView.{JournalView}
 use Rattle.argus_resume.specs.{JournalText.{IsReadableJournal, journal_text, no_journal}, Resumed.{IsResumed, taken_in}}
-use Rattle.argus_resume.specs.{SoundFront.sound_front, declared.resumed.Resumed.Resumed}
-use Rattle.argus_resume.specs.Taking.{EndsChunk, EndsReading, HasNoFeed, TakesFrom, early_end, line_count}
-use Rattle.argus_resume.specs.{declared.read_end.ReadEnd.ReadEnd, declared.taken_end.TakenEnd.TakenEnd}
-use Rattle.argus_resume.specs.declared.read_end.ReadEnd.TheVariants as end_of
-use Rattle.argus_resume.specs.declared.taken_end.TakenEnd.TheVariants as taken
+use Rattle.argus_resume.specs.{SoundFront.sound_front, declared.{resumed.Resumed.Resumed, read_end.ReadEnd.ReadEnd}}
+use Rattle.argus_resume.specs.{declared.taken_end.TakenEnd.TakenEnd, Taking.{EndsChunk, EndsReading, HasNoFeed}}
+use Rattle.argus_resume.specs.Taking.{TakesFrom, early_end, line_count}
 use Rattle.argus_resume.proofs.Feeds.{count-append}
+use Rattle.argus_resume.specs.declared.taken_end.TakenEnd.TheVariants as taken
 
 consumes_on : (a b c : Option (List ℕ)) (x y : List ℕ) → Consumes a b x → Consumes b c y → Consumes a c (x ++ y)
-consumes_on None b c x y p q = tt
-consumes_on (Some k) None c x y p q = absurd p
-consumes_on (Some k) (Some l) None x y p q = absurd q
-consumes_on (Some k) (Some l) (Some m) x y p q = p ∙ ap (λ t. x ++ t) q ∙ sym (append_assoc x y m)
+consumes_on r b c x y p q = grind (arith, append_assoc)
 
 -- so much of what was read was taken, and this is left of it
 pub record ReadTo (old new : JournalView) (had has : Option (List ℕ)) (bytes lines most : ℕ)
@@ -32,27 +28,13 @@ pub record ReadTo (old new : JournalView) (had has : Option (List ℕ)) (bytes l
 
 module _ (old new : JournalView) (had has : Option (List ℕ)) (bytes lines most : ℕ) (left : List ℕ)
     (r : ReadTo old new had has bytes lines most left) where
-  -- no more was read
-  pub read_kept : (after : Option (List ℕ)) (m : ℕ) → most ≤ m → Consumes has after []
-      → ReadTo old new had after bytes lines m left
-  read_kept after m h c = record {
-    read = r.read;
-    consumed = subst (Consumes had after) (append-nil r.read) (consumes_on had has after r.read [] r.consumed c);
-    size = omega (arith, r.size, h);
-    within = r.within;
-    text = r.text;
-    lines_are = r.lines_are;
-    left_is = r.left_is;
-  }
-
   -- a chunk was read, and its first bytes behind what was left were taken
   pub read_more : (after : Option (List ℕ)) (chunk : List ℕ) (next : JournalView) (count more m : ℕ)
       → Consumes has after chunk → most + length chunk ≤ m → count ≤ length (left ++ chunk)
       → journal_text next ≡ journal_text new ++ take count (left ++ chunk)
       → more ≡ line_count (take count (left ++ chunk))
       → ReadTo old next had after (bytes + count) (lines + more) m (drop count (left ++ chunk))
-  read_more after chunk next count more m c h w e f =
-      let behind : drop bytes (r.read ++ chunk) ≡ left ++ chunk =
+  read_more after chunk next count more m c h w e f = let behind : drop bytes (r.read ++ chunk) ≡ left ++ chunk =
       drop-append-le bytes r.read chunk r.within ∙ ap (λ t. t ++ chunk) r.left_is in
       let before : take bytes (r.read ++ chunk) ≡ take bytes r.read = take-append-le bytes r.read chunk r.within in
       let both : take (bytes + count) (r.read ++ chunk) ≡ take bytes r.read ++ take count (left ++ chunk) =
@@ -82,14 +64,7 @@ module _ (old new : JournalView) (had has : Option (List ℕ)) (bytes lines most
   -- the end
   pub read_ends : (end : ReadEnd) (failed : Bool) → EndsReading end new left has failed
       → TakesFrom old new had has failed (record { bytes = bytes; lines = lines; end = end })
-  read_ends end failed e = record {
-    read = r.read;
-    consumed = r.consumed;
-    within = r.within;
-    text = r.text;
-    lines = r.lines_are;
-    end = subst (λ t. EndsReading end new t has failed) (sym r.left_is) e;
-  }
+  read_ends end failed e = grind arith
 
 same_end : (a b : ReadEnd) → Some a ≡ Some b → a ≡ b
 same_end a b e = ap (λ (o : Option ReadEnd). unwrap_or o a) e
@@ -98,28 +73,17 @@ same_end a b e = ap (λ (o : Option ReadEnd). unwrap_or o a) e
 pub early_ends : (t : TakenEnd) (end : ReadEnd) (j : JournalView) (pending left : List ℕ) (has : Option (List ℕ))
     (failed : Bool) → failed ≡ false → Some end ≡ early_end t → EndsChunk t j pending left
     → EndsReading end j left has failed
-early_ends taken.Whole end j pending left has failed fine e h = absurd (none-some end (sym e))
-early_ends taken.Torn end j pending left has failed fine e h = absurd (none-some end (sym e))
-early_ends (taken.Fault fault) end j pending left has failed fine e h =
-    subst (λ x. EndsReading x j left has failed) (sym (same_end end (end_of.Fault fault) e)) (h, fine)
-early_ends taken.OutOfMemory end j pending left has failed fine e h =
-    subst (λ x. EndsReading x j left has failed) (sym (same_end end end_of.OutOfMemory e)) fine
+early_ends p end j pending left has failed fine e h = grind (arith, none-some, same_end)
 
 -- no end: what is left is pending
 pub no_end : (t : TakenEnd) (j : JournalView) (pending left : List ℕ) → None ≡ early_end t
     → EndsChunk t j pending left → (left ≡ pending) × HasNoFeed pending
-no_end taken.Whole j pending left e h = (sym h.0, subst HasNoFeed (sym h.0) h.1)
-no_end taken.Torn j pending left e h = (sym h.0, subst HasNoFeed (sym h.0) h.1)
-no_end (taken.Fault fault) j pending left e h = absurd (none-some (end_of.Fault fault) e)
-no_end taken.OutOfMemory j pending left e h = absurd (none-some end_of.OutOfMemory e)
+no_end p j pending left e h = grind (arith, none-some)
 
 -- the first bytes of what was taken are the first bytes of what was read
 pub front_read : (text read : List ℕ) (bytes dropped : ℕ) → bytes ≤ length read → text ≡ take bytes read
     → take (length text - dropped) text ≡ take (bytes - dropped) read
-front_read text read bytes dropped h e =
-    let size : length text ≡ bytes = ap length e ∙ length-take-le bytes read h in
-    ap (λ n. take (n - dropped) text) size ∙ ap (take (bytes - dropped)) e
-    ∙ take-take (bytes - dropped) bytes read (omega arith)
+front_read text read bytes dropped h e = grind (arith, length-take-le, take-take)
 
 -- the guardian of what was taken, from what each call of `resume` promises
 pub is_resumed : (old new : JournalView) (had has : Option (List ℕ)) (failed : Bool) (resumed : Resumed)
@@ -136,7 +100,6 @@ is_resumed old new had has failed resumed none readable taken guardian front dro
       readable = readable;
       taken = from;
       guardian = guardian;
-      front = front
-          ∙ front_read (journal_text new) from.read resumed.bytes resumed.dropped from.within from.text;
+      front = front ∙ front_read (journal_text new) from.read resumed.bytes resumed.dropped from.within from.text;
       dropped = dropped;
     }

@@ -1,12 +1,12 @@
 -- A journal that is rebuilt entry by entry, the oldest first.
-use Rattle.std.proofs.Common.{◌≡◌, ℕ, suc, zero, ◌+◌, ◌-◌, ◌<◌, ◌≤◌, List, [], ◌∷◌, length, drop, get_or, sym, ap, ◌∙◌}
-use Rattle.std.proofs.Common.{None, Option, Some, subst, arith, cond, false, nat_lt, reverse, drop-cons, inl, inr, refl}
-use Rattle.std.proofs.{Common.{◌≢◌}, lemmas.List.{get_or-reverse, length-reverse}}
-use Rattle.std.proofs.lemmas.Option.{get_or_from_slice_get, none-some, slice_get_cases, slice_get_within}
+use Rattle.std.proofs.lemmas.{List.{get_or-reverse, length-reverse}, Option.{get_or_from_slice_get, none-some}}
+use Rattle.std.proofs.{lemmas.Option.{slice_get_cases, slice_get_within}, Common.{◌≡◌, ℕ, suc, zero, ◌+◌, ◌-◌, ◌<◌}}
+use Rattle.std.proofs.Common.{◌≤◌, List, [], ◌∷◌, length, drop, get_or, sym, ap, ◌∙◌, None, Option, Some, subst, arith}
+use Rattle.std.proofs.Common.{reverse, drop-cons, refl, ◌≢◌}
 use Rattle.std.specs.Prelude.{slice_get}
 use Rattle.argus_entries.specs.Entry.{PlainEntry}
-use Rattle.argus_journal.specs.{Answers.answer, Journal.entry_at, Legal.Legal, Opening.Opening}
-use Rattle.argus_journal.specs.JournalView.{JournalView, after, entry_with, reply_to}
+use Rattle.argus_journal.specs.{Answers.answer, Journal.entry_at, Legal.Legal, Opening.Opening, JournalView.JournalView}
+use Rattle.argus_journal.specs.JournalView.{after, entry_with, reply_to}
 use Rattle.argus_resume.specs.Without.{without_newest}
 
 -- the older entries of a legal journal are legal
@@ -31,19 +31,15 @@ oldest_next j k e is =
 -- an entry that was found by its number
 pub entry_there : (s : Opening) (j : List PlainEntry) (at : ℕ) (e : Option PlainEntry) → s.first_entry ≤ at
     → e ≡ entry_at s j at → slice_get (reverse j) (at - s.first_entry) ≡ e
-entry_there s j at e from is =
-    let past : nat_lt at s.first_entry ≡ false = grind (arith, from) in
-    sym (is ∙ ap (λ b. cond b None (slice_get (reverse j) (at - s.first_entry))) past)
+entry_there s j at e from is = grind arith
 
 -- an entry's call is made again: it has the reply of the journal
 pub rebuilt_next : (s : Opening) (j : List PlainEntry) (k : ℕ) (e : PlainEntry) (again new : JournalView) → Legal s j
     → slice_get (reverse j) k ≡ Some e → again.opening ≡ s → again.entries ≡ drop (length j - k) j
-    → new ≡ after again e.call
-    → (new.opening ≡ s) × (new.entries ≡ drop (length j - (k + 1)) j)
+    → new ≡ after again e.call → (new.opening ≡ s) × (new.entries ≡ drop (length j - (k + 1)) j)
 rebuilt_next s j k e again new legal is o es made =
     let next = oldest_next j k e is in
-    let l : Legal s (e ∷ drop (length j - k) j) =
-    subst (Legal s) next (legal_from s j (length j - (k + 1)) legal) in
+    let l : Legal s (e ∷ drop (length j - k) j) = subst (Legal s) next (legal_from s j (length j - (k + 1)) legal) in
     let r : reply_to again e.call ≡ e.reply =
     ap (λ (t : Opening). answer t again.entries e.call) o ∙ ap (λ (t : List PlainEntry). answer s t e.call) es
     ∙ sym l.0 in (
@@ -55,12 +51,7 @@ rebuilt_next s j k e again new legal is o es made =
 -- there is an entry at each place
 pub entry_missing : (s : Opening) (j : List PlainEntry) (at : ℕ) → s.first_entry ≤ at
     → at - s.first_entry < length j → None ≡ entry_at s j at → ⊥
-entry_missing s j at from low is =
-    let gone = entry_there s j at None from is in
-    elim ((slice_get_cases (reverse j) (at - s.first_entry)).1) [
-      | inl here ↦ none-some here.0 (sym gone ∙ here.2)
-      | inr past ↦ omega (arith, past.0, low, length-reverse j)
-    ]
+entry_missing s j at from low is = grind (arith, entry_there, slice_get_cases, none-some, length-reverse)
 
 pub some_entries : (j : List PlainEntry) → j ≢ [] → 0 < length j
 some_entries [] n = absurd (n refl)
@@ -70,12 +61,4 @@ some_entries (e ∷ j) n = omega arith
 pub rebuilt_all : (guardian again : JournalView) (s : Opening) (j : List PlainEntry) (k : ℕ) → s ≡ guardian.opening
     → j ≡ guardian.entries → again.opening ≡ s → again.entries ≡ drop (length j - k) j → k + 1 ≡ length j
     → again ≡ without_newest guardian
-rebuilt_all guardian again s j k so je o es n =
-    let one : length j - k ≡ 1 = omega (arith, n) in
-    let entries : again.entries ≡ drop 1 guardian.entries =
-    es ∙ ap (λ m. drop m j) one ∙ ap (λ (l : List PlainEntry). drop 1 l) je in
-    ap (λ (t : Opening). let v : JournalView = record { opening = t; entries = again.entries } in v) (o ∙ so)
-    ∙ ap
-    (λ (l : List PlainEntry).
-    let v : JournalView = record { opening = guardian.opening; entries = l } in v)
-    entries
+rebuilt_all guardian again s j k so je o es n = grind arith

@@ -1,30 +1,26 @@
 -- The replies of a legal journal can be read if its opening and its calls can.
-use Rattle.std.proofs.Common.{Bool, List, None, Option, Some, arith, inl, inr, subst, sym, true, ℕ, ◌+◌, ◌<◌, ◌^◌, ◌≡◌}
+use Rattle.std.proofs.Common.{Bool, List, Option, arith, true, ℕ, ◌+◌, ◌<◌, ◌^◌, ◌≡◌}
 use Rattle.argus_contents.specs.{Content.{KeepsLimits, PlainContent}, declared.limits.TheConstants.MAX_VALUE_DEPTH}
-use Rattle.argus_entries.specs.Call.{PlainCall, abort, abort_others, alter, ask, begin_nested, begin_sub, begin_top}
-use Rattle.argus_entries.specs.{Call.{commit, declare, test_read, test_write}, Entry.PlainEntry}
-use Rattle.argus_entries.specs.{Laws.{CallWithin, ReplyWithin}, declared.refusal.Refusal.Refusal}
+use Rattle.argus_entries.specs.{Call.PlainCall, Entry.PlainEntry, Laws.{CallWithin, ReplyWithin}}
+use Rattle.argus_entries.specs.declared.refusal.Refusal.{Refusal}
 use Rattle.argus_journal.specs.{Answers.{answer, granted, or_refused, refusal, visible_in_history}, Events.history}
 use Rattle.argus_journal.specs.{JournalFacts.next_action_number, Legal.Legal, Objects.{declared, shape_of, shapes}}
 use Rattle.argus_journal.specs.Opening.{KeepsNumbers, Opening, content_in, is_sound}
 use Rattle.argus_model.specs.Owner.{counts_for, owner}
 use Rattle.argus_journal.proofs.{Contents.content_fits, Fitting.fits_keeps, Within.{actions_within, objects_within}}
 use Rattle.argus_resume.specs.JournalText.{AreReadableObjects, IsEmptyOrReadable}
-use Rattle.argus_resume.proofs.Depths.{answer_within, change_within, ValuesWithin}
-use Rattle.argus_resume.proofs.Seen.{CallsWithin, opened_within, seen_within}
+use Rattle.argus_resume.proofs.{Depths.{answer_within, change_within, ValuesWithin}, Seen.{CallsWithin, opened_within}}
+use Rattle.argus_resume.proofs.Seen.{seen_within}
 
 -- THE OPENING
 
 -- its objects
 pub begins_objects : (s : Opening) → IsEmptyOrReadable s → AreReadableObjects s.objects
-begins_objects s (inl e) = subst (λ (x : Opening). AreReadableObjects x.objects) (sym e) tt
-begins_objects s (inr r) = r.objects
+begins_objects s p = grind arith
 
 -- and its numbers
 pub begins_numbers : (s : Opening) → IsEmptyOrReadable s → KeepsNumbers s
-begins_numbers s (inl e) =
-    subst KeepsNumbers (sym e) (record { objects = omega arith; actions = omega arith; entries = omega arith })
-begins_numbers s (inr r) = r.limits
+begins_numbers s p = grind arith
 
 -- REPLIES
 
@@ -39,8 +35,7 @@ module _ (s : Opening) (older : List PlainEntry) (begins : IsEmptyOrReadable s) 
   seen a o = visible_in_history s (history s older) a o
 
   seen_shallow : (a o : ℕ) → ValuesWithin MAX_VALUE_DEPTH (seen a o)
-  seen_shallow a o =
-      seen_within MAX_VALUE_DEPTH (counts a) o (content_in s.objects o) s older calls
+  seen_shallow a o = seen_within MAX_VALUE_DEPTH (counts a) o (content_in s.objects o) s older calls
       (opened_within s.objects o (begins_objects s begins))
 
   seen_keeps : (a o : ℕ) → KeepsLimits (seen a o)
@@ -55,22 +50,11 @@ module _ (s : Opening) (older : List PlainEntry) (begins : IsEmptyOrReadable s) 
 
   granted_within : (call : PlainCall) → CallWithin MAX_VALUE_DEPTH call
       → ReplyWithin MAX_VALUE_DEPTH (granted s (history s older) (shapes s older) call)
-  granted_within (declare shape) w = next_object
-  granted_within begin_top w = next_action
-  granted_within (begin_sub p) w = next_action
-  granted_within (begin_nested p) w = next_action
-  granted_within (commit a) w = tt
-  granted_within (abort a) w = tt
-  granted_within (abort_others a) w = tt
-  granted_within (ask a o q) w = answer_within MAX_VALUE_DEPTH q (seen a o) (seen_keeps a o) (seen_shallow a o)
-  granted_within (alter a o x) w = (change_within MAX_VALUE_DEPTH x (seen a o) w.2 (seen_shallow a o)).1
-  granted_within (test_read a o) w = tt
-  granted_within (test_write a o) w = tt
+  granted_within p w = grind (arith, next_object, next_action, answer_within, seen_keeps, seen_shallow, change_within)
 
   reply_within : (call : PlainCall) (why : Option Refusal) → CallWithin MAX_VALUE_DEPTH call
       → ReplyWithin MAX_VALUE_DEPTH (or_refused why (granted s (history s older) (shapes s older) call))
-  reply_within call None w = granted_within call w
-  reply_within call (Some why) w = tt
+  reply_within call p w = grind (arith, granted_within)
 
   -- the reply to a call that can be read
   pub answer_readable : (call : PlainCall) → CallWithin MAX_VALUE_DEPTH call

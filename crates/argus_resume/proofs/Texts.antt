@@ -1,23 +1,17 @@
 -- How a listing grows by a line.
-use Rattle.std.proofs.Common.{◌≡◌, ℕ, ◌+◌, ◌<◌, ◌==◌, List, [], ◌∷◌, ◌++◌, length, sym, ap, ◌∙◌, append-nil}
-use Rattle.std.proofs.{Common.{append_assoc, arith, cond, false, reverse}, lemmas.List.{length-reverse, reverse-append}}
+use Rattle.std.proofs.{lemmas.List.{length-reverse, reverse-append}, Common.{◌≡◌, ℕ, ◌+◌, ◌<◌, List, [], ◌∷◌, ◌++◌}}
+use Rattle.std.proofs.Common.{length, sym, ap, ◌∙◌, append-nil, append_assoc, arith, reverse}
 use Rattle.std.specs.Prelude.{Option}
 use Rattle.argus_contents.specs.{Content.PlainContent, Shape.PlainShape}
 use Rattle.argus_entries.specs.{Entry.PlainEntry, EntrySpelling.{entry_line, entry_spelling}}
 use Rattle.argus_journal.specs.{JournalView.{JournalView, next_entry, with_entry}, Opening.{Opening, opening_at}}
-use Rattle.argus_listings.specs.Listing.{each_from, entries_text, folded_line, opened_line, opening_text}
+use Rattle.argus_listings.specs.Listing.{each_from, entries_text, opened_line}
 use Rattle.argus_resume.specs.{JournalText.journal_text, Stage.{lines_of, opened_alone}}
 
 pub each_from-append : {A : Type 0} (f : ℕ → A → List ℕ) (n : ℕ) (xs ys : List A)
     → each_from f n (xs ++ ys) ≡ each_from f n xs ++ each_from f (n + length xs) ys
-each_from-append f n [] ys =
-    let same : n ≡ n + 0 = omega arith in
-    ap (λ k. each_from f k ys) same
-each_from-append f n (x ∷ xs) ys =
-    let same : (n + 1) + length xs ≡ n + length (x ∷ xs) = omega arith in
-    ap (λ t. f n x ++ t) (each_from-append f (n + 1) xs ys)
-    ∙ sym (append_assoc (f n x) (each_from f (n + 1) xs) (each_from f ((n + 1) + length xs) ys))
-    ∙ ap (λ k. (f n x ++ each_from f (n + 1) xs) ++ each_from f k ys) same
+each_from-append f n [] ys = grind arith
+each_from-append f n (x ∷ xs) ys = grind (arith, each_from-append f (n + 1) xs ys, append_assoc)
 
 -- one more at the end
 pub each_from_push : {A : Type 0} (f : ℕ → A → List ℕ) (n : ℕ) (xs : List A) (y : A)
@@ -27,18 +21,14 @@ each_from_push f n xs y =
 
 entries_push : (s : Opening) (older : List PlainEntry) (e : PlainEntry)
     → entries_text s (e ∷ older) ≡ entries_text s older ++ entry_line (s.first_entry + length older) e
-entries_push s older e =
-    ap (λ l. each_from entry_line s.first_entry l) (reverse-append (e ∷ []) older)
+entries_push s older e = ap (λ l. each_from entry_line s.first_entry l) (reverse-append (e ∷ []) older)
     ∙ each_from_push entry_line s.first_entry (reverse older) e
     ∙ ap (λ k. entries_text s older ++ entry_line (s.first_entry + k) e) (length-reverse older)
 
 -- the listing of a journal with one entry more
 pub entry_text : (journal : JournalView) (e : PlainEntry) → journal_text (with_entry journal e)
     ≡ journal_text journal ++ (entry_spelling (next_entry journal) e ++ 10 ∷ [])
-entry_text journal e =
-    ap (λ t. opening_text journal.opening ++ t) (entries_push journal.opening journal.entries e)
-    ∙ sym (append_assoc (opening_text journal.opening) (entries_text journal.opening journal.entries)
-    (entry_spelling (next_entry journal) e ++ 10 ∷ []))
+entry_text journal e = grind (arith, entries_push, append_assoc)
 
 -- the listing of a journal with one entry more, from the entry's line
 pub line_text : (old new : JournalView) (e : PlainEntry) (line : List ℕ) → new ≡ with_entry old e
@@ -48,19 +38,10 @@ line_text old new e line is of =
 
 -- the listing of an opening alone
 pub opened_text : (s : Opening) → 0 < s.first_entry → journal_text (opened_alone s) ≡ lines_of s
-opened_text s h =
-    let some : (s.first_entry == 0) ≡ false = grind arith in
-    append-nil (opening_text s) ∙ ap (λ b. cond b [] (lines_of s)) some
+opened_text s h = grind (arith, append-nil)
 
 -- the lines of an opening with one object more
 pub object_text : (objects : List (PlainShape × Option PlainContent)) (object : PlainShape × Option PlainContent)
-    (first_action first_entry : ℕ)
-    → lines_of (opening_at (objects ++ object ∷ []) first_action first_entry)
+    (first_action first_entry : ℕ) → lines_of (opening_at (objects ++ object ∷ []) first_action first_entry)
     ≡ lines_of (opening_at objects first_action first_entry) ++ opened_line (length objects) object
-object_text objects object first_action first_entry =
-    let head = folded_line first_entry first_action in
-    let number : 0 + length objects ≡ length objects = omega arith in
-    ap (λ t. head ++ t)
-    (each_from_push opened_line 0 objects object ∙ ap
-    (λ k. each_from opened_line 0 objects ++ opened_line k object) number)
-    ∙ sym (append_assoc head (each_from opened_line 0 objects) (opened_line (length objects) object))
+object_text objects object first_action first_entry = grind (arith, each_from_push, append_assoc)

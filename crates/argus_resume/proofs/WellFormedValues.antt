@@ -34,10 +34,7 @@ mutual
 before : (v : PlainValue) (vs : PlainValues) → IsWellFormedValue v → AreWellFormedValues vs → AreWellFormedValues (value.more v vs)
 before v vs one all = (
   max one.0 all.0,
-  (
-    deeper one.0 (max one.0 all.0) v (omega arith) one.1,
-    all_deeper all.0 (max one.0 all.0) vs (omega arith) all.1,
-  ),
+  (deeper one.0 (max one.0 all.0) v (omega arith) one.1, all_deeper all.0 (max one.0 all.0) vs (omega arith) all.1),
 )
 
 -- values, and others after them
@@ -85,8 +82,7 @@ int_formed v n is within = says v (V.Int n) (value.int n) is (int_is n) (1, (ome
 
 pub text_formed : (v : Value) (b : Box (String Heap) Heap) → v ≡ V.Text b → IsUtf8 (string_bytes b.value)
     → IsWellFormedValue (plain_value v)
-text_formed v b is utf8 =
-    says v (V.Text b) (value.text (string_bytes b.value)) is (text_is b) (1, (omega arith, utf8))
+text_formed v b is utf8 = says v (V.Text b) (value.text (string_bytes b.value)) is (text_is b) (1, (omega arith, utf8))
 
 pub atomic_formed : (v : Value) (o : ObjId) → v ≡ V.Atomic o → o.0 < 2 ^ 32 → IsWellFormedValue (plain_value v)
 atomic_formed v o is within = says v (V.Atomic o) (value.atomic o.0) is (atomic_is o) (1, (omega arith, within))
@@ -98,14 +94,12 @@ one_up depth vs w = all_deeper depth (depth + 1 - 1) vs (omega arith) w
 pub sequence_formed : (v : Value) (b : Box (Vec Value Heap) Heap) → v ≡ V.Sequence b
     → AreWellFormedValues (listed (plain_list b.value.items)) → IsWellFormedValue (plain_value v)
 sequence_formed v b is held = let vs = listed (plain_list b.value.items) in
-    says v (V.Sequence b) (value.sequence vs) is (sequence_is b)
-    (held.0 + 1, (omega arith, one_up held.0 vs held.1))
+    says v (V.Sequence b) (value.sequence vs) is (sequence_is b) (held.0 + 1, (omega arith, one_up held.0 vs held.1))
 
 pub fields_formed : (v : Value) (b : Box (Vec Value Heap) Heap) → v ≡ V.Fields b
     → AreWellFormedValues (listed (plain_list b.value.items)) → IsWellFormedValue (plain_value v)
 fields_formed v b is held = let vs = listed (plain_list b.value.items) in
-    says v (V.Fields b) (value.fields vs) is (plain_value-Fields b)
-    (held.0 + 1, (omega arith, one_up held.0 vs held.1))
+    says v (V.Fields b) (value.fields vs) is (plain_value-Fields b) (held.0 + 1, (omega arith, one_up held.0 vs held.1))
 
 pub choice_formed : (v : Value) (tag : ℕ) (b : Box Value Heap) → v ≡ V.Choice tag b → tag < 2 ^ 8
     → IsWellFormedValue (plain_value b.value) → IsWellFormedValue (plain_value v)

@@ -28,8 +28,7 @@ pub record IsListable (journal : JournalView) : Type 0 where
 -- The entries of a legal journal can be read, each with its reply, exactly if its calls can be: its
 -- opening has to be sound and readable.
 abbrev pub JournalsAreReadable : Type 0
-JournalsAreReadable =
-    (journal : JournalView) → Legal journal.opening journal.entries
+JournalsAreReadable = (journal : JournalView) → Legal journal.opening journal.entries
     → is_sound journal.opening ≡ true → IsEmptyOrReadable journal.opening
     → AreReadable journal.entries ↔ HaveReadableCalls journal.entries
 
@@ -48,8 +47,7 @@ CheckpointsLeaveListable =
 -- Each opening of these objects can be read that is sound and within the limits, and before which an
 -- entry went.
 abbrev pub OpeningsAreReadable : List (PlainShape × Option PlainContent) → Type 0
-OpeningsAreReadable objects =
-    (first_action first_entry : ℕ) → 0 < first_entry
+OpeningsAreReadable objects = (first_action first_entry : ℕ) → 0 < first_entry
     → KeepsNumbers (opening_at objects first_action first_entry)
     → is_sound (opening_at objects first_action first_entry) ≡ true
     → IsReadableOpening (opening_at objects first_action first_entry)

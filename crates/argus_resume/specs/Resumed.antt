@@ -7,8 +7,7 @@ use Rattle.argus_resume.specs.declared.taken_from.TakenFrom.{TakenFrom}
 
 -- how much was taken
 abbrev pub taken_in : Resumed → TakenFrom
-taken_in resumed =
-    record { bytes = resumed.bytes; lines = resumed.lines; end = resumed.end }
+taken_in resumed = record { bytes = resumed.bytes; lines = resumed.lines; end = resumed.end }
 
 -- The bytes that were taken are the listing of a journal, and the guardian has that journal: all of
 -- it if it has an entry, and otherwise with as many objects as make a sound opening. The guardian's

@@ -17,5 +17,4 @@ sound_opening s = opening_front s (sound_count s (length s.objects))
 
 -- the journal with as many objects of its opening as make a sound one
 abbrev pub sound_front : JournalView → JournalView
-sound_front journal =
-    record { opening = sound_opening journal.opening; entries = journal.entries }
+sound_front journal = record { opening = sound_opening journal.opening; entries = journal.entries }

@@ -52,8 +52,7 @@ pub record IsCounted (lines : OpeningLines) : Type 0 where
 
 -- the journal that was taken, of a guardian that may be ahead of it
 abbrev pub taken_by : EntryLines → JournalView
-taken_by entries =
-    if entries.is_ahead then without_newest entries.guardian else entries.guardian
+taken_by entries = if entries.is_ahead then without_newest entries.guardian else entries.guardian
 
 -- a journal that isn't just an opening: with no line, or with an entry
 abbrev pub HasEntries : JournalView → Type 0

@@ -29,8 +29,7 @@ IsWellFormedObject object = IsMakeable object.0 × IsWellFormedOption object.1
 -- each of the objects is such an object
 abbrev pub AreWellFormedObjects : List (PlainShape × Option PlainContent) → Type 0
 AreWellFormedObjects [] = Unit {0}
-AreWellFormedObjects (object ∷ objects) =
-    IsWellFormedObject object × AreWellFormedObjects objects
+AreWellFormedObjects (object ∷ objects) = IsWellFormedObject object × AreWellFormedObjects objects
 
 -- the same of each value of the change, whose numbers are in range, too
 abbrev pub IsWellFormedChange : PlainChange → Type 0

@@ -10,6 +10,5 @@ where_some s p None h = tt
 where_some s p (Some x) h = h
 
 pub returns : goal.returns
-returns c =
-    where_some c.args.text.now c.args.word.now c.strip_prefix.result
+returns c = where_some c.args.text.now c.args.word.now c.strip_prefix.result
     (strip_prefix_is Decides-eqb c.args.text.now c.args.word.now c.strip_prefix.result c.strip_prefix.ensures.cases)

@@ -9,8 +9,7 @@ first n m text others h e s = e ∙ one_digit (48 + n) m others (omega arith) (o
 
 one_more : (n d more : ℕ) (text rest others : List ℕ) → 0 < n → d ≤ 9 → more < 2 ^ 64 → more ≡ n * 10 + d
     → text ≡ decimal n ++ rest → rest ≡ (48 + d) ∷ others → text ≡ decimal more ++ others
-one_more n d more text rest others p h w s e f =
-    e ∙ ap (λ r. decimal n ++ r) f
+one_more n d more text rest others p h w s e f = e ∙ ap (λ r. decimal n ++ r) f
     ∙ grown_step n (48 + d) more others p (omega (arith, s)) w (omega arith) (omega (arith, h))
 
 pub loop-next-init : goal.loop-next-init
@@ -32,6 +31,5 @@ loop-next-preserved c =
     }
 
 pub returns-then-number-eq0 : goal.returns-then-number-eq0
-returns-then-number-eq0 c =
-    first c.in_ok-first.first c.from-number.result c.args.text.now c.in_ok-first.others.now
+returns-then-number-eq0 c = first c.in_ok-first.first c.from-number.result c.args.text.now c.in_ok-first.others.now
     c.in_ok-first.ensures.digit c.in_ok-first.ensures.read c.from-number.ensures

@@ -7,12 +7,10 @@ use Rattle.argus_resume.proofs.Copied.{copied_all, copied_more}
 use Rattle.argus_resume.proofs.rebuilding.reopened.Goals as goal
 
 pub loop-shape-preserved : goal.loop-shape-preserved
-loop-shape-preserved c =
-    let next = copied_more (opening_of c.args.journal.now).objects c.loop-shape.o
+loop-shape-preserved c = let next = copied_more (opening_of c.args.journal.now).objects c.loop-shape.o
     (c.in-Some.shape.now, plain_option c.in-Some.content.now) c.loop-shape.objects.items c.push.new.self.items
     (c.in_ok-shape.shape, c.in_ok-content.content) (sym c.in-Some.ensures.object) c.loop-shape.invariant.copied
-    c.in_ok-push.ensures.items
-    (ap (λ (s : PlainShape). (s, plain_option c.in_ok-content.content)) c.in_ok-shape.ensures
+    c.in_ok-push.ensures.items (ap (λ (s : PlainShape). (s, plain_option c.in_ok-content.content)) c.in_ok-shape.ensures
     ∙ ap (λ (k : Option PlainContent). (c.in-Some.shape.now, k)) c.in_ok-content.ensures) in
     record { within = next.0; copied = next.1 }
 

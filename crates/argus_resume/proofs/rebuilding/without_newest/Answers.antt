@@ -15,11 +15,7 @@ loop-at-preserved c =
     let more = rebuilt_next s j (c.loop-at.at - s.first_entry) e c.loop-at.again c.call.new.self
     c.journal-journal.ensures.legal (entry_there s j c.loop-at.at (Some e) i.from c.in-Some.ensures) i.opening i.entries
     (c.in_ok-call-2.ensures.ok ∙ ap (λ (k : PlainCall). after c.loop-at.again k) c.in_ok-call.ensures) in
-    record {
-      from = omega (arith, i.from);
-      opening = more.0;
-      entries = more.1 ∙ ap (λ k. drop (length j - k) j) next;
-    }
+    record { from = omega (arith, i.from); opening = more.0; entries = more.1 ∙ ap (λ k. drop (length j - k) j) next }
 
 pub returns-in_default : goal.returns-in_default
 returns-in_default c =
@@ -37,8 +33,7 @@ returns c =
     let same : j ≡ c.args.guardian.now.entries = c.journal-journal.ensures.entries ∙ c.journal.ensures.entries in
     let some = some_entries c.args.guardian.now.entries c.requires in
     rebuilt_all c.args.guardian.now c.loop-at.again s j (c.loop-at.at - s.first_entry)
-    (c.journal-journal.ensures.opening ∙ c.journal.ensures.opening) same i.opening i.entries
-    (omega (
+    (c.journal-journal.ensures.opening ∙ c.journal.ensures.opening) same i.opening i.entries (omega (
       arith,
       i.from,
       c.loop-at-test.false,

@@ -6,12 +6,11 @@ use Rattle.argus_resume.proofs.{Ends.front_shorter, Sound.{count_sound, count_wi
 use Rattle.argus_resume.proofs.resuming.guardian_of.Goals as goal
 
 pub guardian-requires-clause-within : goal.guardian-requires-clause-within
-guardian-requires-clause-within c =
-    omega (
-      arith,
-      c.sound_count-count.ensures,
-      count_within (opening_read c.args.lines.now) (length c.args.lines.now.objects.items),
-    )
+guardian-requires-clause-within c = omega (
+  arith,
+  c.sound_count-count.ensures,
+  count_within (opening_read c.args.lines.now) (length c.args.lines.now.objects.items),
+)
 
 pub guardian-requires-clause-sound : goal.guardian-requires-clause-sound
 guardian-requires-clause-sound c =
@@ -19,18 +18,16 @@ guardian-requires-clause-sound c =
     (count_sound (opening_read c.args.lines.now) (length c.args.lines.now.objects.items))
 
 pub end_of-requires-clause-within : goal.end_of-requires-clause-within
-end_of-requires-clause-within c =
-    omega (
-      arith,
-      c.sound_count-count.ensures,
-      count_within (opening_read c.args.lines.now) (length c.args.lines.now.objects.items),
-    )
+end_of-requires-clause-within c = omega (
+  arith,
+  c.sound_count-count.ensures,
+  count_within (opening_read c.args.lines.now) (length c.args.lines.now.objects.items),
+)
 
 pub overflow_sub-result : goal.overflow_sub-result
-overflow_sub-result c =
-    omega (
-      arith,
-      c.end.ensures,
-      c.end_of.ensures,
-      front_shorter (opening_read c.args.lines.now) c.sound_count-count.result,
-    )
+overflow_sub-result c = omega (
+  arith,
+  c.end.ensures,
+  c.end_of.ensures,
+  front_shorter (opening_read c.args.lines.now) c.sound_count-count.result,
+)

@@ -14,13 +14,10 @@ returns-in_err-take_call-clause-fault c =
     let e = entry_with (plain_call c.in-Some.call) (plain_reply c.in-Some.reply) in
     let text = c.args.text.now in
     let rest = c.in-Some.rest.now in
-    rw (p.1, p.2)
-    (subst (λ (j : JournalView). IsFrontError c.in_err-take_call.field-0.0 j text)
-    (ap journal_taken (sym c.in-Entries.is))
-    (line_error journal e text rest c.in_err-take_call.field-0.0
+    rw (p.1, p.2) (subst (λ (j : JournalView). IsFrontError c.in_err-take_call.field-0.0 j text)
+    (ap journal_taken (sym c.in-Entries.is)) (line_error journal e text rest c.in_err-take_call.field-0.0
     (omega (arith, c.next_number.type_inv, c.next_number.ensures))
-    (subst (λ n. HasFrontLine n e text rest) c.next_number.ensures c.in-Some.ensures)
-    c.in_err-take_call.ensures.fault))
+    (subst (λ n. HasFrontLine n e text rest) c.next_number.ensures c.in-Some.ensures) c.in_err-take_call.ensures.fault))
 
 pub returns-clause-some : goal.returns-clause-some
 returns-clause-some c =
@@ -35,8 +32,6 @@ returns-clause-text c =
     let new = taken_by c.take_call.new.entries in
     let longer = line_text (taken_by c.in-Entries.entries) new e (entry_spelling next e) c.in_ok-take_call.ensures.taken
     (ap (λ n. entry_spelling n e) c.next_number.ensures) in
-    longer
-    ∙ ap (λ (j : JournalView). journal_text j ++ (entry_spelling next e ++ 10 ∷ []))
-    (ap journal_taken (sym c.in-Entries.is))
-    ∙ ap (λ t. journal_text (journal_taken c.args.stage.now) ++ t)
+    longer ∙ ap (λ (j : JournalView). journal_text j ++ (entry_spelling next e ++ 10 ∷ []))
+    (ap journal_taken (sym c.in-Entries.is)) ∙ ap (λ t. journal_text (journal_taken c.args.stage.now) ++ t)
     (sym (line_taken next e c.args.text.now c.in-Some.rest.now c.in-Some.ensures))

@@ -24,8 +24,7 @@ returns-in-Ok-clause-dropped c =
     counted.readable.some same c.in-Ok.ensures.guardian c.in-Ok.ensures.dropped).1
 
 pub returns-in-Ok-come_back-clause-guardian : goal.returns-in-Ok-come_back-clause-guardian
-returns-in-Ok-come_back-clause-guardian c =
-    let same : c.come_back.new.self.guardian ≡ c.args.self =
+returns-in-Ok-come_back-clause-guardian c = let same : c.come_back.new.self.guardian ≡ c.args.self =
     sym (level_taken c.come_back.new.self c.in-Ok-come_back.ensures.level) ∙ c.come_back.ensures.journal
     ∙ ap journal_taken (sym c.in-Entries.is) ∙ c.self.view_is in
     same ∙ sym (front_same c.args.self

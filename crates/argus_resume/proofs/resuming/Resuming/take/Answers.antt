@@ -13,8 +13,7 @@ loop-bytes-preserved c =
     record {
       within = omega (arith, some.within, length-drop from text, c.loop-bytes-test.true);
       text = text_more (journal_text c.args.self.now) (journal_text c.loop-bytes.self)
-          (journal_text c.take_next.new.self)
-          text from c.in-Ok.count c.loop-bytes.invariant.text longer;
+          (journal_text c.take_next.new.self) text from c.in-Ok.count c.loop-bytes.invariant.text longer;
       lines = count_more text from c.in-Ok.count c.loop-bytes.lines c.loop-bytes.invariant.lines some.one;
     }
 

@@ -22,8 +22,7 @@ returns-in-Err-clause-end c =
     let text = c.args.text.now in
     let f = feed_there text c.in-Some.length (sym c.in-Some.ensures) in
     let line = take c.in-Some.length text in
-    rw (c.end_of_error.ensures)
-    (error_ends c.take_line.new.self text c.in-Err.error
+    rw (c.end_of_error.ensures) (error_ends c.take_line.new.self text c.in-Err.error
     (subst (λ (j : JournalView). IsFrontError c.in-Err.error j text) (sym c.in-Err.ensures.err)
     (text_error c.args.self.now text line (drop (c.in-Some.length + 1) text) c.in-Err.error f.split f.none
     c.in-Err.ensures.fault)))
