@@ -58,13 +58,11 @@ left_cut a s c t d whole x rest (w, p, e) (n, q) =
 
 pub left_stops : (a : Option (List ℕ)) (s : List ℕ) (c : Option (List ℕ)) (t whole rest : List ℕ)
     → Left a s c t whole rest → Cut a s c whole
-left_stops a s c t whole rest left =
-    left_cut a s c t c whole [] rest left (0, appends_none c)
+left_stops a s c t whole rest left = left_cut a s c t c whole [] rest left (0, appends_none c)
 
 left_after : (a : Option (List ℕ)) (s : List ℕ) (c : Option (List ℕ)) (t x y : List ℕ) → Added a s c t x
     → Left a s c t (x ++ y) y
-left_after a s c t x y (w, p, e) =
-    (w, p, sym (append_assoc s x y) ∙ ap (λ k. k ++ y) e ∙ append_assoc w t y)
+left_after a s c t x y (w, p, e) = (w, p, sym (append_assoc s x y) ∙ ap (λ k. k ++ y) e ∙ append_assoc w t y)
 
 -- two texts, one after the other
 pub added_then : (a : Option (List ℕ)) (s : List ℕ) (c : Option (List ℕ)) (t : List ℕ) (d : Option (List ℕ))
@@ -72,8 +70,7 @@ pub added_then : (a : Option (List ℕ)) (s : List ℕ) (c : Option (List ℕ)) 
 added_then a s c t d u x y (w, p, e) (v, q, f) = (
   w ++ v,
   appends_on a c d w v p q,
-  sym (append_assoc s x y) ∙ ap (λ k. k ++ y) e ∙ append_assoc w t y ∙ ap (λ k. w ++ k) f
-      ∙ sym (append_assoc w v u),
+  sym (append_assoc s x y) ∙ ap (λ k. k ++ y) e ∙ append_assoc w t y ∙ ap (λ k. w ++ k) f ∙ sym (append_assoc w v u),
 )
 
 pub cut_then : (a : Option (List ℕ)) (s : List ℕ) (c : Option (List ℕ)) (t : List ℕ) (d : Option (List ℕ))

@@ -74,22 +74,19 @@ pub audited : (journal : JournalView) (legal : Legal journal.opening journal.ent
     (s : Opening)
     (j : List PlainEntry) (vs : List Version) (text mid : List ℕ) → s ≡ journal.opening → j ≡ journal.entries
     → map version_pair vs ≡ versions_of journal.opening journal.entries o → mid ≡ text ++ base_line name (base_of s j o)
-    → mid ++ version_lines name (map (held_as (λ a. visible_to s j a o)) vs)
-    ≡ text ++ audit_text journal o name
+    → mid ++ version_lines name (map (held_as (λ a. visible_to s j a o)) vs) ≡ text ++ audit_text journal o name
 audited journal legal o name s j vs text mid e f told =
     subst (λ k. Audited k j) (sym e) (subst (λ k. Audited journal.opening k) (sym f) from_said)
   where
     Audited : Opening → List PlainEntry → Type 0
     Audited k l = mid ≡ text ++ base_line name (base_of k l o)
-        → mid ++ version_lines name (map (held_as (λ a. visible_to k l a o)) vs)
-        ≡ text ++ audit_text journal o name
+        → mid ++ version_lines name (map (held_as (λ a. visible_to k l a o)) vs) ≡ text ++ audit_text journal o name
 
     from_said : Audited journal.opening journal.entries
     from_said h =
         let sees : ℕ → Option PlainContent = λ a. visible_to journal.opening journal.entries a o in
         let base = base_line name (base_of journal.opening journal.entries o) in
-        ap (λ k. k ++ version_lines name (map (held_as sees) vs)) h
-        ∙ ap (λ k. (text ++ base) ++ version_lines name k)
+        ap (λ k. k ++ version_lines name (map (held_as sees) vs)) h ∙ ap (λ k. (text ++ base) ++ version_lines name k)
         (versions_seen sees vs (writers_of journal.opening journal.entries o) told)
         ∙ append_assoc text base (version_lines name (versions_of journal.opening journal.entries o))
         ∙ ap (λ k. text ++ k) (sym (audit_same journal legal o name))

@@ -35,8 +35,7 @@ module _ {A : Type 0} (f : ℕ → A → List ℕ) (xs : List A) (i n : ℕ)
 
     pub each_next : (d : Option (List ℕ)) (v : List ℕ) → Added c u d v []
         → Left a s d v whole (each_from f (n + 1) (drop (i + 1) xs))
-    each_next d v poured =
-        left_added a s c u d v whole [] (each_from f (n + 1) (drop (i + 1) xs)) appended poured
+    each_next d v poured = left_added a s c u d v whole [] (each_from f (n + 1) (drop (i + 1) xs)) appended poured
 
     pub each_cut : (d : Option (List ℕ)) → Cut c u d [] → Cut a s d whole
     each_cut d cut = left_cut a s c u d whole [] (each_from f (n + 1) (drop (i + 1) xs)) appended cut
@@ -78,8 +77,7 @@ entry_there s j at e from is =
 
 -- the lines of an opening before which entries went
 pub opening_there : (s : Opening) (n entries actions : ℕ) → n ≡ s.first_entry → n ≢ 0 → entries ≡ s.first_entry
-    → actions ≡ s.first_action
-    → folded_line entries actions ++ each_from opened_line 0 s.objects ≡ opening_text s
+    → actions ≡ s.first_action → folded_line entries actions ++ each_from opened_line 0 s.objects ≡ opening_text s
 opening_there s n entries actions e f g h =
     let rest = each_from opened_line 0 s.objects in
     let some : (s.first_entry == 0) ≡ false = grind (arith, e, f) in

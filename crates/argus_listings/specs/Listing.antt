@@ -55,8 +55,7 @@ versions_again journal o =
 
 -- the line of an object in the listing of bases
 abbrev pub bases_text : JournalView → ℕ → List ℕ → List ℕ
-bases_text journal o name =
-    object_line name (codes " ") (base_of journal.opening journal.entries o)
+bases_text journal o name = object_line name (codes " ") (base_of journal.opening journal.entries o)
 
 -- the lines of an object in the listing of stacks
 abbrev pub stacks_text : JournalView → ℕ → List ℕ → List ℕ

@@ -9,11 +9,9 @@ abbrev pub invariant-loop-version : goal.invariant-loop-version
 invariant-loop-version l =
     string_bytes l.text ++ version_lines l.name (map (λ (v : Version). (
       v.holder.0,
-      visible_to (opening_of l.journal)
-          (entries_of l.journal) v.holder.0 l.o.0,
+      visible_to (opening_of l.journal) (entries_of l.journal) v.holder.0 l.o.0,
     )) (drop l.version-index l.versions))
     ≡ string_bytes l.fn.text ++ version_lines l.name (map (λ (v : Version). (
       v.holder.0,
-      visible_to (opening_of l.journal)
-          (entries_of l.journal) v.holder.0 l.o.0,
+      visible_to (opening_of l.journal) (entries_of l.journal) v.holder.0 l.o.0,
     )) l.versions)

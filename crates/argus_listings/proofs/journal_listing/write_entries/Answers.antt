@@ -31,8 +31,7 @@ returns-in_default-clause-ok g c =
 pub returns-in_err-append_entry-clause-cut : goal.returns-in_err-append_entry-clause-cut
 returns-in_err-append_entry-clause-cut g c =
     let s = opening_of c.args.journal.now in let j = entries_of c.args.journal.now in
-    on_err c.from_residual.result
-    (each_stops entry_line (reverse j) (c.loop-at.at - s.first_entry) c.loop-at.at
+    on_err c.from_residual.result (each_stops entry_line (reverse j) (c.loop-at.at - s.first_entry) c.loop-at.at
     (g.W.Write.contents (inner_of c.args.writer.now)) (string_bytes c.args.text.now)
     (g.W.Write.contents (inner_of c.loop-at.writer)) (string_bytes c.loop-at.text)
     (entries_text s j) c.loop-at.invariant.left)

@@ -13,7 +13,6 @@ invariant-loop-at g l = record {
   from : (opening_of l.journal).first_entry ≤ l.at;
   left : Left (g.W.Write.contents (inner_of l.fn.writer)) (string_bytes l.fn.text)
       (g.W.Write.contents (inner_of l.writer)) (string_bytes l.text)
-      (entries_text (opening_of l.journal) (entries_of l.journal))
-      (each_from entry_line l.at
+      (entries_text (opening_of l.journal) (entries_of l.journal)) (each_from entry_line l.at
       (drop (l.at - (opening_of l.journal).first_entry) (reverse (entries_of l.journal))));
 }

@@ -18,8 +18,7 @@ returns-clause-ok g c =
     let line = folded_line c.first_entry-2.result c.first_action.result in
     let rest = each_from opened_line 0 s.objects in
     let P : List ℕ → Type 0 = λ x. Added a t d u x in
-    on_ok_weaker c.write_opened.result
-    (λ more. subst P
+    on_ok_weaker c.write_opened.result (λ more. subst P
     (opening_there s c.first_entry.result c.first_entry-2.result c.first_action.result c.first_entry.ensures.first
     c.if-first_entry-eq0.false c.first_entry-2.ensures.first c.first_action.ensures.first)
     (added_then a t a m d u line rest (text_added a t m line c.in_ok-append_folded.ensures) more))
@@ -35,12 +34,10 @@ returns-clause-cut g c =
     let line = folded_line c.first_entry-2.result c.first_action.result in
     let rest = each_from opened_line 0 s.objects in
     let P : List ℕ → Type 0 = λ x. Cut a t d x in
-    on_err_weaker c.write_opened.result
-    (λ cut. subst P
+    on_err_weaker c.write_opened.result (λ cut. subst P
     (opening_there s c.first_entry.result c.first_entry-2.result c.first_action.result c.first_entry.ensures.first
     c.if-first_entry-eq0.false c.first_entry-2.ensures.first c.first_action.ensures.first)
-    (cut_then a t a m d line rest (text_added a t m line c.in_ok-append_folded.ensures) cut))
-    c.write_opened.ensures.cut
+    (cut_then a t a m d line rest (text_added a t m line c.in_ok-append_folded.ensures) cut)) c.write_opened.ensures.cut
 
 pub returns-in_err-append_folded-clause-cut : goal.returns-in_err-append_folded-clause-cut
 returns-in_err-append_folded-clause-cut g c =

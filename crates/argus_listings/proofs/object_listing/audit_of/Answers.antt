@@ -10,5 +10,4 @@ returns c =
     let opening = c.journal-2.ensures.opening ∙ c.journal.ensures.opening in
     let entries = c.journal-2.ensures.entries ∙ c.journal.ensures.entries in
     subst (λ j. IfOk c.of.result (λ audit. IsAudit audit view.opening j)) entries
-    (subst (λ s. IfOk c.of.result (λ audit. IsAudit audit s (entries_of c.journal-2.result.now))) opening
-    c.of.ensures)
+    (subst (λ s. IfOk c.of.result (λ audit. IsAudit audit s (entries_of c.journal-2.result.now))) opening c.of.ensures)

@@ -26,8 +26,7 @@ returns-in_err-flush_long-clause-cut g c =
     (objects_text c.args.listing c.args.names.now journal) c.loop-name.invariant.left
     c.name-item.result (taken c.declared_names-name-items.result.now (names_within journal c.args.names.now)
     c.loop-name.name-index c.name-item.result c.declared_names-name-items.ensures.within
-    c.loop-name-test.true c.name-item.is)
-    (string_bytes c.append_object.new.text) c.in_ok-append_object.ensures
+    c.loop-name-test.true c.name-item.is) (string_bytes c.append_object.new.text) c.in_ok-append_object.ensures
     (g.W.Write.contents (inner_of c.flush_long.new.writer)) c.in_err-flush_long.ensures.cut)
 
 pub loop-name-preserved : goal.loop-name-preserved
@@ -42,8 +41,7 @@ loop-name-preserved g c =
           (objects_text c.args.listing c.args.names.now journal) c.loop-name.invariant.left
           c.name-item.result (taken c.declared_names-name-items.result.now (names_within journal c.args.names.now)
           c.loop-name.name-index c.name-item.result c.declared_names-name-items.ensures.within
-          c.loop-name-test.true c.name-item.is)
-          (string_bytes c.append_object.new.text) c.in_ok-append_object.ensures
+          c.loop-name-test.true c.name-item.is) (string_bytes c.append_object.new.text) c.in_ok-append_object.ensures
           (g.W.Write.contents (inner_of c.flush_long.new.writer)) (string_bytes c.flush_long.new.text)
           c.in_ok-flush_long.ensures.ok;
     }

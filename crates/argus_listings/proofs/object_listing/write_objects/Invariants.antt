@@ -10,7 +10,6 @@ invariant-loop-name g l = record {
   fine : has_failed l.writer ≡ false;
   number : l.o ≡ l.name-index;
   left : Left (g.W.Write.contents (inner_of l.fn.writer)) (string_bytes l.fn.text)
-      (g.W.Write.contents (inner_of l.writer)) (string_bytes l.text)
-      (objects_text l.listing l.names l.guardian)
+      (g.W.Write.contents (inner_of l.writer)) (string_bytes l.text) (objects_text l.listing l.names l.guardian)
       (each_from (object_text l.listing l.guardian) l.o (drop l.name-index (names_within l.guardian l.names)));
 }

@@ -11,5 +11,4 @@ returns-clause-cut g c =
     (front_poured (g.W.Write.contents (inner_of c.args.writer.now)) (string_bytes c.new-text.result)
     (g.W.Write.contents (inner_of c.write_lines.new.writer)) (string_bytes c.write_lines.new.text)
     (g.W.Write.contents (inner_of c.flush.new.writer)) (listing_of c.args.listing c.args.names.now c.args.guardian.now)
-    c.new-text.ensures.bytes c.in_ok-write_lines.ensures.ok)
-    c.flush.ensures.cut
+    c.new-text.ensures.bytes c.in_ok-write_lines.ensures.ok) c.flush.ensures.cut
