@@ -29,7 +29,7 @@ pub drop_here : (bs : List ℕ) (i : ℕ) → i < length bs → drop i bs ≡ ge
 drop_here bs i h = rw (add-one, drop-cons bs i 0) refl
 
 test_false : (b c : ℕ) → b ≢ c → (b == c) ≡ false
-test_false b c h = grind (arith, nat_tests)
+test_false b c h = grind arith
 
 lines_of_other : (b : ℕ) (bs : List ℕ) → b ≢ 10 → lines_of (b ∷ bs) ≡ onto b (lines_of bs)
 lines_of_other b bs h = ap (λ t. cond t ((10 ∷ []) ∷ lines_of bs) (onto b (lines_of bs))) (test_false b 10 h)
@@ -48,12 +48,8 @@ pass bs i h other e = e ∙ ap (λ d. glue (take i bs) (lines_of d)) (drop_here 
 
 -- the byte at i is a line feed: the first line is whole
 pub meet : (bs : List ℕ) (i : ℕ) → i < length bs → get_or bs i 0 ≡ 10
-    → lines_of bs ≡ glue (take i bs) (lines_of (drop i bs))
-    → lines_of bs ≡ take (i + 1) bs ∷ lines_of (drop (i + 1) bs)
-meet bs i h feed e = e ∙ ap (λ d. glue (take i bs) (lines_of d)) (drop_here bs i h)
-    ∙ ap (glue (take i bs)) (lines_of_feed (get_or bs i 0) (drop (i + 1) bs) feed)
-    ∙ glue_line (take i bs) (get_or bs i 0 ∷ []) (lines_of (drop (i + 1) bs))
-    ∙ ap (λ t. t ∷ lines_of (drop (i + 1) bs)) (sym (take_more bs i 0 h))
+    → lines_of bs ≡ glue (take i bs) (lines_of (drop i bs)) → lines_of bs ≡ take (i + 1) bs ∷ lines_of (drop (i + 1) bs)
+meet bs i h feed e = grind (arith, drop_here, lines_of_feed, glue_line, take_more)
 
 word_other : (b : ℕ) (bs : List ℕ) → is_blank b ≡ false
     → (word (b ∷ bs) ≡ b ∷ word bs) × (behind_word (b ∷ bs) ≡ behind_word bs)
@@ -80,15 +76,7 @@ passed_more bs i h e p =
 pub reach_end : (bs : List ℕ) (i : ℕ) → 0 < length bs → length bs ≤ i → i ≤ length bs
     → lines_of bs ≡ glue (take i bs) (lines_of (drop i bs))
     → lines_of bs ≡ take (length bs) bs ∷ lines_of (drop (length bs) bs)
-reach_end bs i some low high e =
-    let same : i ≡ length bs = omega arith in
-    let nothing = drop-length bs in
-    let whole = take-length bs in
-    e ∙ ap (λ n. glue (take n bs) (lines_of (drop n bs))) same
-    ∙ ap (λ d. glue (take (length bs) bs) (lines_of d)) nothing
-    ∙ ap (λ t. glue t []) whole ∙ glue_whole bs some
-    ∙ ap (λ t. t ∷ []) (sym whole)
-    ∙ ap (λ d. take (length bs) bs ∷ lines_of d) (sym nothing)
+reach_end bs i some low high e = grind (arith, drop-length, take-length, glue_whole)
 
 pub blank_ascii : (b : ℕ) → is_blank b ≡ true → b < 128
-blank_ascii b e = grind (arith, nat_tests)
+blank_ascii b e = grind arith

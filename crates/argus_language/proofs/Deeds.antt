@@ -1,139 +1,71 @@
 -- A line spells one deed: operations of queries and changes, read back.
-use Rattle.std.proofs.Common.{◌≡◌, ℕ, List, [], ◌++◌, Option, Some, None, refl, sym, ◌∙◌, ap}
+use Rattle.std.proofs.Common.{arith, ◌≡◌, ℕ, List, [], ◌++◌, Option, Some, None, refl, sym, ◌∙◌, ap}
 use Rattle.std.specs.Option.{option_map}
 use Rattle.argus_contents.specs.{Change.PlainChange, Content.PlainContent, Value.PlainValue, declared.query.Query.Query}
 use Rattle.argus_contents.specs.declared.limits.TheConstants.{MAX_VALUE_DEPTH}
-use Rattle.argus_contents.specs.Change as change
-use Rattle.argus_contents.specs.declared.query.Query.TheVariants as query
 use Rattle.argus_texts.specs.{Spelling.{Within, spelling}, ContentSpelling.{PartsWithin, content_spelling}}
 use Rattle.argus_texts.proofs.{Contents.one_content, Forms.{one_form, value_ends}}
 use Rattle.argus_language.specs.{Operation.{Operation, of_any, of_record, of_array, of_variant}, PlainStep.SimpleStep}
 use Rattle.argus_language.specs.{Spelled.{change_words, query_words, sentence}, Placement.{HasForm, IsReadable}}
+use Rattle.argus_contents.specs.Change as change
+use Rattle.argus_contents.specs.declared.query.Query.TheVariants as query
 use Rattle.argus_language.specs.Operation as op
 use Rattle.argus_language.specs.PlainStep as part
 use Rattle.argus_language.specs.Spelled as line
 
 -- the query that an operation is
 query-of : Operation ℕ → Option Query
-query-of (of_any (op.create t)) = None
 query-of (of_any op.read) = Some query.Whole
-query-of (of_any op.touch) = None
 query-of (of_record f op.get) = Some (query.Field f)
-query-of (of_record f (op.set t)) = None
 query-of (of_array op.low) = Some query.Low
 query-of (of_array op.high) = Some query.High
 query-of (of_array op.size) = Some query.Size
 query-of (of_array op.bottom) = Some query.Bottom
 query-of (of_array op.top) = Some query.Top
 query-of (of_array (op.fetch i)) = Some (query.Fetch i)
-query-of (of_array (op.store i t)) = None
-query-of (of_array (op.addh t)) = None
-query-of (of_array (op.addl t)) = None
-query-of (of_array op.remh) = None
-query-of (of_array op.reml) = None
-query-of (of_array (op.set_low i)) = None
-query-of (of_array (op.trim i n)) = None
 query-of (of_variant t op.is_tag) = Some (query.IsTag t)
 query-of (of_variant t op.tag_value) = Some (query.TagValue t)
-query-of (of_variant t (op.change_tag v)) = None
+query-of o = None
 
 query-told : (q : Query) → query-of (query_words q) ≡ Some q
 unfolding query-of
-query-told query.Whole = refl
-query-told (query.Field f) = refl
-query-told query.Low = refl
-query-told query.High = refl
-query-told query.Size = refl
-query-told (query.Fetch i) = refl
-query-told query.Bottom = refl
-query-told query.Top = refl
-query-told (query.IsTag t) = refl
-query-told (query.TagValue t) = refl
+query-told p = grind arith
 
 change-no-query : (c : PlainChange) → query-of (change_words c) ≡ None
 unfolding query-of
-change-no-query (change.create c) = refl
-change-no-query (change.set_field f v) = refl
-change-no-query (change.store i v) = refl
-change-no-query (change.addh v) = refl
-change-no-query (change.addl v) = refl
-change-no-query change.remh = refl
-change-no-query change.reml = refl
-change-no-query (change.set_low i) = refl
-change-no-query (change.trim i n) = refl
-change-no-query (change.change_tag t v) = refl
-change-no-query change.touch = refl
+change-no-query p = grind arith
 
 -- the value of a change, and its content
 value-of : PlainChange → Option PlainValue
-value-of (change.create c) = None
 value-of (change.set_field f v) = Some v
 value-of (change.store i v) = Some v
 value-of (change.addh v) = Some v
 value-of (change.addl v) = Some v
-value-of change.remh = None
-value-of change.reml = None
-value-of (change.set_low i) = None
-value-of (change.trim i n) = None
 value-of (change.change_tag t v) = Some v
-value-of change.touch = None
+value-of c = None
 
 content-of : PlainChange → Option PlainContent
 content-of (change.create c) = Some c
-content-of (change.set_field f v) = None
-content-of (change.store i v) = None
-content-of (change.addh v) = None
-content-of (change.addl v) = None
-content-of change.remh = None
-content-of change.reml = None
-content-of (change.set_low i) = None
-content-of (change.trim i n) = None
-content-of (change.change_tag t v) = None
-content-of change.touch = None
+content-of c = None
 
 -- the text of a value in an operation, and of a content
 value-text : Operation ℕ → Option (List ℕ)
-value-text (of_any o) = None
-value-text (of_record f op.get) = None
 value-text (of_record f (op.set t)) = Some t
-value-text (of_array op.low) = None
-value-text (of_array op.high) = None
-value-text (of_array op.size) = None
-value-text (of_array op.bottom) = None
-value-text (of_array op.top) = None
-value-text (of_array (op.fetch i)) = None
 value-text (of_array (op.store i t)) = Some t
 value-text (of_array (op.addh t)) = Some t
 value-text (of_array (op.addl t)) = Some t
-value-text (of_array op.remh) = None
-value-text (of_array op.reml) = None
-value-text (of_array (op.set_low i)) = None
-value-text (of_array (op.trim i n)) = None
-value-text (of_variant t op.is_tag) = None
-value-text (of_variant t op.tag_value) = None
 value-text (of_variant t (op.change_tag v)) = Some v
+value-text o = None
 
 content-text : Operation ℕ → Option (List ℕ)
 content-text (of_any (op.create t)) = Some t
-content-text (of_any op.read) = None
-content-text (of_any op.touch) = None
-content-text (of_record f o) = None
-content-text (of_array o) = None
-content-text (of_variant t o) = None
+content-text o = None
 
 -- the change of this operation, with the content or the value for its text
 rebuilt : Operation ℕ → Option PlainContent → Option PlainValue → Option PlainChange
 rebuilt (of_any (op.create t)) c v = option_map change.create c
-rebuilt (of_any op.read) c v = None
 rebuilt (of_any op.touch) c v = Some change.touch
-rebuilt (of_record f op.get) c v = None
 rebuilt (of_record f (op.set t)) c v = option_map (change.set_field f) v
-rebuilt (of_array op.low) c v = None
-rebuilt (of_array op.high) c v = None
-rebuilt (of_array op.size) c v = None
-rebuilt (of_array op.bottom) c v = None
-rebuilt (of_array op.top) c v = None
-rebuilt (of_array (op.fetch i)) c v = None
 rebuilt (of_array (op.store i t)) c v = option_map (change.store i) v
 rebuilt (of_array (op.addh t)) c v = option_map change.addh v
 rebuilt (of_array (op.addl t)) c v = option_map change.addl v
@@ -141,9 +73,8 @@ rebuilt (of_array op.remh) c v = Some change.remh
 rebuilt (of_array op.reml) c v = Some change.reml
 rebuilt (of_array (op.set_low i)) c v = Some (change.set_low i)
 rebuilt (of_array (op.trim i n)) c v = Some (change.trim i n)
-rebuilt (of_variant t op.is_tag) c v = None
-rebuilt (of_variant t op.tag_value) c v = None
 rebuilt (of_variant t (op.change_tag x)) c v = option_map (change.change_tag t) v
+rebuilt o c v = None
 
 -- what a change's words tell
 record Told (c : PlainChange) : Type 0 where
@@ -153,17 +84,7 @@ record Told (c : PlainChange) : Type 0 where
 
 change-told : (c : PlainChange) → Told c
 unfolding rebuilt value-of content-of value-text content-text
-change-told (change.create c) = record { same = refl; value = refl; content = refl }
-change-told (change.set_field f v) = record { same = refl; value = refl; content = refl }
-change-told (change.store i v) = record { same = refl; value = refl; content = refl }
-change-told (change.addh v) = record { same = refl; value = refl; content = refl }
-change-told (change.addl v) = record { same = refl; value = refl; content = refl }
-change-told change.remh = record { same = refl; value = refl; content = refl }
-change-told change.reml = record { same = refl; value = refl; content = refl }
-change-told (change.set_low i) = record { same = refl; value = refl; content = refl }
-change-told (change.trim i n) = record { same = refl; value = refl; content = refl }
-change-told (change.change_tag t v) = record { same = refl; value = refl; content = refl }
-change-told change.touch = record { same = refl; value = refl; content = refl }
+change-told p = grind arith
 
 -- P holds of what is there
 Holds : {A : Type 0} → (A → Type 0) → Option A → Type 0
@@ -172,41 +93,18 @@ Holds P (Some x) = P x
 
 readable-value : (c : PlainChange) → IsReadable c → Holds (Within MAX_VALUE_DEPTH) (value-of c)
 unfolding Holds value-of
-readable-value (change.create c) h = tt
-readable-value (change.set_field f v) h = h
-readable-value (change.store i v) h = h
-readable-value (change.addh v) h = h
-readable-value (change.addl v) h = h
-readable-value change.remh h = tt
-readable-value change.reml h = tt
-readable-value (change.set_low i) h = tt
-readable-value (change.trim i n) h = tt
-readable-value (change.change_tag t v) h = h
-readable-value change.touch h = tt
+readable-value p h = grind arith
 
 readable-content : (c : PlainChange) → IsReadable c → Holds (PartsWithin MAX_VALUE_DEPTH) (content-of c)
 unfolding Holds content-of
-readable-content (change.create c) h = h
-readable-content (change.set_field f v) h = tt
-readable-content (change.store i v) h = tt
-readable-content (change.addh v) h = tt
-readable-content (change.addl v) h = tt
-readable-content change.remh h = tt
-readable-content change.reml h = tt
-readable-content (change.set_low i) h = tt
-readable-content (change.trim i n) h = tt
-readable-content (change.change_tag t v) h = tt
-readable-content change.touch h = tt
+readable-content p h = grind arith
 
 -- each has one text
 one-of : {A : Type 0} (P : A → Type 0) (text : A → List ℕ)
     → ((x y : A) → P x → P y → text x ≡ text y → x ≡ y) → (o q : Option A) → Holds P o → Holds P q
     → option_map text o ≡ option_map text q → o ≡ q
 unfolding Holds
-one-of P text told None None h k e = refl
-one-of P text told (Some x) (Some y) h k e = ap Some (told x y h k cc)
-one-of P text told None (Some y) h k e = absurd (cc)
-one-of P text told (Some x) None h k e = absurd (cc)
+one-of p text told q r h k e = grind arith
 
 one-value : (v w : PlainValue) → Within MAX_VALUE_DEPTH v → Within MAX_VALUE_DEPTH w → spelling v ≡ spelling w → v ≡ w
 one-value v w h k e = (one_form MAX_VALUE_DEPTH v w [] [] h k (value_ends v [] tt) (value_ends w [] tt)
@@ -231,14 +129,10 @@ one-change c d h k e =
     cc
 
 one-query : (q r : Query) → query_words q ≡ query_words r → q ≡ r
-one-query q r e =
-    let same : Some q ≡ Some r = sym (query-told q) ∙ ap query-of e ∙ query-told r in
-    cc
+one-query q r e = grind (arith, query-told, query-of)
 
 apart : (q : Query) (c : PlainChange) → query_words q ≡ change_words c → ⊥
-apart q c e =
-    let same : Some q ≡ None = sym (query-told q) ∙ ap query-of e ∙ change-no-query c in
-    cc
+apart q c e = grind (arith, query-told, query-of, change-no-query)
 
 access-number : (x y : ℕ) (o p : Operation ℕ) → line.access x o ≡ line.access y p → x ≡ y
 access-number x y o p e = cc
@@ -260,9 +154,4 @@ one-deed (part.ask x q) (part.alter y d) h k e =
     absurd (apart q d (access-operation x y (query_words q) (change_words d) e))
 one-deed (part.alter x c) (part.ask y r) h k e =
     absurd (apart r c (access-operation y x (query_words r) (change_words c) (sym e)))
-one-deed part.declare d h k e = absurd (cc)
-one-deed part.leave d h k e = absurd (cc)
-one-deed part.abort_leave d h k e = absurd (cc)
-one-deed part.leave_all d h k e = absurd (cc)
-one-deed (part.ask x q) d h k e = absurd (cc)
-one-deed (part.alter x c) d h k e = absurd (cc)
+one-deed d e h k i = absurd (cc)

@@ -2,14 +2,13 @@
 use Rattle.std.proofs.Common.{◌≡◌, ℕ, ◌+◌, ◌<◌, List, [], ◌∷◌, ◌++◌, length, map, take, drop, get_or, slice_get, Some}
 use Rattle.std.proofs.Common.{refl, sym, ◌∙◌, ap, subst, arith, below_more, flat_map, add-one, drop-cons, length-drop}
 use Rattle.std.proofs.{Common.{inl, None, append_assoc, take-append-drop}, lemmas.Option.slice_get-get_or}
-use Rattle.std.proofs.{lemmas.List.{take_more, append-nil, take_all}, lemmas.Grind.{fold-append, flat_map-append}}
+use Rattle.std.proofs.lemmas.{List.{take_more, append-nil, take_all}, Grind.{fold-append, flat_map-append}}
 use Rattle.argus_texts.specs.ShapeSpelling.{shape_spelling}
-use Rattle.argus_language.specs.{Command.command_of, Fault.{position_after, position_at, position_behind}}
-use Rattle.argus_language.specs.Fault.{FineAt, FineBefore, HasFault, IsFine, IsFaultOf, Position, name_fault}
-use Rattle.argus_language.specs.{Levels.levels_after, Lines.line_text, Numbered.sentences_of, Spelled.Sentence}
-use Rattle.argus_language.specs.{Objects.{AllMakeable, PlainObjects, with_more}, declared.level.Level.Level}
+use Rattle.argus_language.specs.{Command.command_of, Fault.{position_at, position_behind, FineAt, FineBefore, HasFault}}
+use Rattle.argus_language.specs.{Fault.{IsFine, IsFaultOf, Position, name_fault}, Levels.levels_after, Lines.line_text}
+use Rattle.argus_language.specs.{Numbered.sentences_of, Spelled.Sentence, Objects.{AllMakeable, PlainObjects}}
+use Rattle.argus_language.specs.{Objects.with_more, declared.{level.Level.Level, fault_kind.FaultKind.FaultKind}}
 use Rattle.argus_language.specs.Script.{Declares, name_declared, shape_declared}
-use Rattle.argus_language.specs.declared.fault_kind.FaultKind.{FaultKind}
 use Rattle.argus_language.proofs.Numbers.{told-grows}
 
 -- the line at i, where the lines from i on begin with it
@@ -18,10 +17,10 @@ pub record Here (lines : List (List ℕ)) (i : ℕ) (line : List ℕ) (more : Li
   pub front : take (i + 1) lines ≡ take i lines ++ line ∷ []
   pub left : drop (i + 1) lines ≡ more
 
-head_same : {A : Type 0} {x y : A} {xs ys : List A} → x ∷ xs ≡ y ∷ ys → x ≡ y
+pub head_same : {A : Type 0} {x y : A} {xs ys : List A} → x ∷ xs ≡ y ∷ ys → x ≡ y
 head_same e = cc
 
-tail_same : {A : Type 0} {x y : A} {xs ys : List A} → x ∷ xs ≡ y ∷ ys → xs ≡ ys
+pub tail_same : {A : Type 0} {x y : A} {xs ys : List A} → x ∷ xs ≡ y ∷ ys → xs ≡ ys
 tail_same e = cc
 
 pub here_at : (lines : List (List ℕ)) (i : ℕ) (line : List ℕ) (more : List (List ℕ)) → drop i lines ≡ line ∷ more
@@ -41,14 +40,10 @@ position_same : (a b c d : ℕ) (xs ys : List Level) → a ≡ b → c ≡ d →
 position_same a b c d xs ys e f g = λ j. record { lines = e j; bytes = f j; levels = g j }
 
 pub position-more : (lines : List (List ℕ)) (i before after : ℕ) (line : List ℕ) (levels new : List Level)
-    → take (i + 1) lines ≡ take i lines ++ line ∷ []
-    → position_behind (take i lines) ≡ position_at i before levels
+    → take (i + 1) lines ≡ take i lines ++ line ∷ [] → position_behind (take i lines) ≡ position_at i before levels
     → before + length line ≡ after → new ≡ levels_after (command_of (line_text line)) (i + 1) levels
     → position_behind (take (i + 1) lines) ≡ position_at (i + 1) after new
-position-more lines i before after line levels new front e f g =
-    ap position_behind front ∙ fold-append position_after (position_at 0 0 []) (take i lines) (line ∷ [])
-    ∙ ap (λ p. position_after p line) e ∙ position_same (i + 1) (i + 1) (before + length line) after
-    (levels_after (command_of (line_text line)) (i + 1) levels) new refl f (sym g)
+position-more lines i before after line levels new front e f g = grind (arith, fold-append, position_same)
 
 flat-more : {B : Type 0} (f : List ℕ → List B) (lines : List (List ℕ)) (i : ℕ) (line : List ℕ)
     → take (i + 1) lines ≡ take i lines ++ line ∷ []
@@ -60,8 +55,7 @@ pub declares-more : (lines : List (List ℕ)) (i : ℕ) (line : List ℕ) (old n
     → take (i + 1) lines ≡ take i lines ++ line ∷ []
     → Declares (take i lines) old → new.names ≡ old.names ++ name_declared (command_of (line_text line))
     → map shape_spelling new.shapes ≡ map shape_spelling old.shapes ++ shape_declared (command_of (line_text line))
-    → (AllMakeable old → AllMakeable new)
-    → Declares (take (i + 1) lines) new
+    → (AllMakeable old → AllMakeable new) → Declares (take (i + 1) lines) new
 declares-more lines i line old new front e f g h = record {
   names = flat-more (λ line. name_declared (command_of (line_text line))) lines i line front
       ∙ ap (λ t. t ++ name_declared (command_of (line_text line))) e.names ∙ sym f;
@@ -89,51 +83,42 @@ module _ (lines : List (List ℕ)) (i : ℕ) (line : List ℕ) (old new : PlainO
 
   extended : (more : PlainObjects) → with_more new more ≡ with_more old (with_more added more)
   unfolding added
-  extended more = λ j. record {
-    names = (ap (λ t. t ++ more.names) names ∙ append_assoc old.names added.names more.names) j;
-    shapes = (ap (λ t. t ++ more.shapes) shapes ∙ append_assoc old.shapes added.shapes more.shapes) j;
-  }
+  extended more = grind (arith, append_assoc, shapes)
 
   pub told-more : ToldOf (take i lines) old so-far → ToldOf (take (i + 1) lines) new after
-  told-more told-so-far = λ more.
-      flat-more (sentences_of (with_more new more)) lines i line front
+  told-more told-so-far = λ more. flat-more (sentences_of (with_more new more)) lines i line front
       ∙ ap (λ os. flat_map (sentences_of os) (take i lines) ++ sentences_of os line) (extended more)
       ∙ ap (λ t. t ++ sentences_of (with_more old (with_more added more)) line) (told-so-far (with_more added more))
-      ∙ ap (λ t. so-far ++ t) (told-grows old (with_more added more) line fine)
-      ∙ sym lines-after
+      ∙ ap (λ t. so-far ++ t) (told-grows old (with_more added more) line fine) ∙ sym lines-after
 
 pub fine-more : (lines : List (List ℕ)) (i : ℕ) (line : List ℕ) (objects : PlainObjects) (p : Position)
     → slice_get lines i ≡ Some line
     → Declares (take i lines) objects → position_behind (take i lines) ≡ p → IsFine p objects line → FineBefore lines i
     → FineBefore lines (i + 1)
-fine-more lines i line objects p here declared e fine before =
-    below_more (FineAt lines) i before (record {
-      line = line;
-      here = here;
-      objects = objects;
-      declared = declared;
-      fine = subst (λ q. IsFine q objects line) (sym e) fine;
-    })
+fine-more lines i line objects p here declared e fine before = below_more (FineAt lines) i before (record {
+  line = line;
+  here = here;
+  objects = objects;
+  declared = declared;
+  fine = subst (λ q. IsFine q objects line) (sym e) fine;
+})
 
 pub first-fault : (lines : List (List ℕ)) (i : ℕ) (line : List ℕ) (objects : PlainObjects) (p : Position)
-    (k : FaultKind)
-    → slice_get lines i ≡ Some line
+    (k : FaultKind) → slice_get lines i ≡ Some line
     → Declares (take i lines) objects → position_behind (take i lines) ≡ p → HasFault p objects line k
-    → FineBefore lines i
-    → IsFaultOf lines (record { line = i + 1; kind = k })
-first-fault lines i line objects p k here declared e fault before =
-    inl (
-      i,
-      refl,
-      record {
-        line = line;
-        here = here;
-        objects = objects;
-        declared = declared;
-        fault = subst (λ q. HasFault q objects line k) (sym e) fault;
-        before = before;
-      },
-    )
+    → FineBefore lines i → IsFaultOf lines (record { line = i + 1; kind = k })
+first-fault lines i line objects p k here declared e fault before = inl (
+  i,
+  refl,
+  record {
+    line = line;
+    here = here;
+    objects = objects;
+    declared = declared;
+    fault = subst (λ q. HasFault q objects line k) (sym e) fault;
+    before = before;
+  },
+)
 
 -- no line is left
 pub all-taken : (lines : List (List ℕ)) (i : ℕ) → drop i lines ≡ [] → take i lines ≡ lines

@@ -1,27 +1,24 @@
 -- The fault of a script by its levels is the one by its unmatched opening lines.
-use Rattle.std.proofs.Common.{◌≡◌, ◌↔◌, ℕ, zero, suc, ◌+◌, ◌<◌, ◌≤◌, ◌⊎◌, inl, inr, Bool, true, false, cond, List, []}
-use Rattle.std.proofs.Common.{◌∷◌, length, take, get_or, sum_by, Some, None, refl, sym, ◌∙◌, ap, subst, arith, add-one}
-use Rattle.std.proofs.{lemmas.List.{take_more, take_all}, lemmas.List.Sums.sum_by_more}
-use Rattle.std.proofs.lemmas.Option.{get_or_from_slice_get, slice_get-get_or, slice_get_within}
-use Rattle.argus_language.specs.{Command.command_of, Fault.position_behind, FaultyLines.{fault_at, is_past_limits_at}}
-use Rattle.argus_language.specs.Fault.{FineAt, FineBefore, FirstFault, HasFault, HasWordFault, IsFaultOf, NoFault}
-use Rattle.argus_language.specs.Fault.{Unclosed, WordsAreFine, is_bad, is_past_limits, line_fault, position_at}
-use Rattle.argus_language.specs.FaultyLines.{AreFineLines, HasNoFaultyLine, IsFaultyLine, IsFineLine, IsFirstFaultyLine}
+use Rattle.std.proofs.Common.{◌≡◌, ◌↔◌, ℕ, zero, suc, ◌+◌, ◌<◌, ◌≤◌, ◌⊎◌, inl, inr, Bool, true, cond, List, [], ◌∷◌}
+use Rattle.std.proofs.Common.{length, take, get_or, sum_by, Some, None, refl, sym, ◌∙◌, ap, subst, arith, add-one}
+use Rattle.std.proofs.lemmas.{List.{take_more, take_all, Sums.sum_by_more}, Option.get_or_from_slice_get}
+use Rattle.std.proofs.lemmas.Option.{slice_get-get_or, slice_get_within}
+use Rattle.argus_language.specs.{Command.command_of, Fault.{position_behind, FineAt, FineBefore, FirstFault, HasFault}}
+use Rattle.argus_language.specs.Fault.{HasWordFault, IsFaultOf, NoFault, Unclosed, WordsAreFine, is_bad, line_fault}
+use Rattle.argus_language.specs.{Fault.position_at, FaultyLines.{fault_at, is_past_limits_at, AreFineLines}}
+use Rattle.argus_language.specs.FaultyLines.{HasNoFaultyLine, IsFaultyLine, IsFineLine, IsFirstFaultyLine}
 use Rattle.argus_language.specs.{Laws.LevelsTellUnmatchedLines, Levels.{depth_of, levels_after, may_follow}}
 use Rattle.argus_language.specs.{Lines.line_text, OpeningLines.{command_at, has_arm, may_stand_at, unmatched}}
-use Rattle.argus_language.specs.{declared.fault_kind.FaultKind.FaultKind, declared.level.Level.Level}
+use Rattle.argus_language.specs.declared.{fault_kind.FaultKind.FaultKind, level.Level.Level}
 use Rattle.argus_language.specs.declared.script_fault.ScriptFault.{ScriptFault}
+use Rattle.argus_language.proofs.{Faults.position-more, OpeningLines.{may_same, opened_front, AreNested, IsFront}}
+use Rattle.argus_language.proofs.OpeningLines.{are_nested, depth_same, levels_by, levels_more}
 use Rattle.argus_language.specs.declared.fault_kind.FaultKind.TheVariants as kind
-use Rattle.argus_language.proofs.{Faults.position-more, OpeningLines.{may_same, opened_front}}
-use Rattle.argus_language.proofs.OpeningLines.{AreNested, IsFront, are_nested, depth_same, levels_by, levels_more}
 
 -- the last test of three
 last-test : {A : Type 0} (a b c : Bool) (x y z : A) → cond a (Some x) (cond b (Some y) (cond c None (Some z))) ≡ None
     → c ≡ true
-last-test true b c x y z e = absurd (cc)
-last-test false true c x y z e = absurd (cc)
-last-test false false true x y z e = refl
-last-test false false false x y z e = absurd (cc)
+last-test p q r x y z e = grind arith
 
 module _ (lines : List (List ℕ)) where
   -- the levels of what is unmatched before the line at n
@@ -39,12 +36,7 @@ module _ (lines : List (List ℕ)) where
   may n = may_same lines (command_at lines n) n (unmatched lines n) (are_nested lines n)
 
   look : (n m : ℕ) → IsTold n → line_fault (position_behind (take n lines)) m (get_or lines n []) ≡ fault_at lines n m
-  look n m p = ap (λ q. line_fault q m (get_or lines n [])) p
-      ∙ ap (λ d. cond (is_past_limits n (sum_by length (take n lines)) d m (get_or lines n [])) (Some kind.TooLong)
-      (cond (is_bad (command_at lines n)) (Some kind.BadWord)
-      (cond (may_follow (command_at lines n) (levels n)) None (Some kind.Misplaced)))) (depth n)
-      ∙ ap (λ b. cond (is_past_limits_at lines n m) (Some kind.TooLong)
-      (cond (is_bad (command_at lines n)) (Some kind.BadWord) (cond b None (Some kind.Misplaced)))) (may n)
+  look n m p = grind (arith, depth, may)
 
   stands : (n m : ℕ) → fault_at lines n m ≡ None → may_stand_at lines n ≡ true
   stands n m e = last-test (is_past_limits_at lines n m) (is_bad (command_at lines n)) (may_stand_at lines n)
@@ -138,14 +130,12 @@ module _ (lines : List (List ℕ)) where
 
   -- the innermost level is that of the innermost opening line
   abbrev Innermost : List ℕ → Level → Type 0
-  Innermost openings innermost =
-      (i : ℕ) × (outer : List ℕ) × (innermost.line ≡ i + 1) × (openings ≡ i ∷ outer)
+  Innermost openings innermost = (i : ℕ) × (outer : List ℕ) × (innermost.line ≡ i + 1) × (openings ≡ i ∷ outer)
 
   innermost_of : (n : ℕ) (openings : List ℕ) → AreNested lines n openings → (innermost : Level) (outer : List Level)
       → levels_by lines n openings ≡ innermost ∷ outer → Innermost openings innermost
   innermost_of n [] h innermost outer e = absurd (cc)
-  innermost_of n (i ∷ os) h innermost outer e =
-      let front : IsFront (i + 1) (levels_by lines n (i ∷ os)) =
+  innermost_of n (i ∷ os) h innermost outer e = let front : IsFront (i + 1) (levels_by lines n (i ∷ os)) =
       opened_front (command_at lines i) (i + 1) (has_arm lines n i) (levels_by lines i os) h.1 in
       let both : front.innermost ∷ front.outer ≡ innermost ∷ outer = sym front.levels ∙ e in
       let same : front.innermost ≡ innermost = cc in
@@ -154,8 +144,7 @@ module _ (lines : List (List ℕ)) where
   front_of : (n i : ℕ) (os : List ℕ) → AreNested lines n (i ∷ os) → IsFront (i + 1) (levels_by lines n (i ∷ os))
   front_of n i os h = opened_front (command_at lines i) (i + 1) (has_arm lines n i) (levels_by lines i os) h.1
 
-  closed_of : (n : ℕ) (openings : List ℕ) → AreNested lines n openings → levels_by lines n openings ≡ []
-      → openings ≡ []
+  closed_of : (n : ℕ) (openings : List ℕ) → AreNested lines n openings → levels_by lines n openings ≡ [] → openings ≡ []
   closed_of n [] h e = refl
   closed_of n (i ∷ os) h e =
       let front : IsFront (i + 1) (levels_by lines n (i ∷ os)) = front_of n i os h in
@@ -202,12 +191,11 @@ module _ (lines : List (List ℕ)) where
   none_same = (said, told)
     where
       said : NoFault lines → HasNoFaultyLine lines
-      said f =
-          let n = length lines in (
-            fine_said n (omega arith) f.fine,
-            closed_of n (unmatched lines n) (are_nested lines n) (sym (told_whole (told_of n (omega arith) f.fine))
-                ∙ f.closed),
-          )
+      said f = let n = length lines in (
+        fine_said n (omega arith) f.fine,
+        closed_of n (unmatched lines n) (are_nested lines n) (sym (told_whole (told_of n (omega arith) f.fine))
+            ∙ f.closed),
+      )
 
       told : HasNoFaultyLine lines → NoFault lines
       told (f, u) =

@@ -1,16 +1,15 @@
 -- Steps and blocks of a script that is being read, with one more or one less.
-use Rattle.std.proofs.Common.{◌≡◌, Bool, true, cond, List, [], ◌∷◌, ◌++◌, flat_map, map, reverse, Vec, refl, sym, ◌∙◌}
-use Rattle.std.proofs.Common.{ap, subst, append_assoc, rules, arith, zero, suc, Result, Ok, Err, OnOk}
-use Rattle.std.proofs.{lemmas.List.Elements.All-append, lemmas.Grind.flat_map-append}
-use Rattle.std.proofs.lemmas.List.{append-nil, reverse-append}
+use Rattle.std.proofs.Common.{◌≡◌, Bool, true, cond, List, [], ◌∷◌, ◌++◌, flat_map, map, reverse, Vec, sym, ◌∙◌, ap}
+use Rattle.std.proofs.{Common.{subst, append_assoc, rules, arith, Result, OnOk}, lemmas.List.Elements.All-append}
+use Rattle.std.proofs.lemmas.{Grind.flat_map-append, List.{append-nil, reverse-append}}
 use Rattle.std.specs.{List.All, declared.alloc.Global.Global}
 use Rattle.argus_memory.specs.declared.limited.Limited.{Limited}
 use Rattle.argus_language.specs.{Levels.{behind_arm, is_arm, place_of}, Objects.{AllMakeable, PlainObjects}}
 use Rattle.argus_language.specs.{PlainStep.{block, plain_step, plain_steps}, declared.open_block.OpenBlock.OpenBlock}
+use Rattle.argus_language.specs.declared.{place.Place.Place, block_kind.BlockKind.BlockKind, step.Step.Step}
 use Rattle.argus_language.specs.Reading.{AllBegan, IsSound, closing_at, front, is_arm_line, levels_of, lines_so_far}
 use Rattle.argus_language.specs.Spelled.{Sentence, begin, closing, lines_of_part, lines_of_parts}
-use Rattle.argus_language.specs.{Placement.{AllMayStand, MayStand, may_begin, place_in}, declared.place.Place.Place}
-use Rattle.argus_language.specs.{declared.block_kind.BlockKind.BlockKind, declared.step.Step.Step}
+use Rattle.argus_language.specs.Placement.{AllMayStand, MayStand, may_begin, place_in}
 use Rattle.argus_contents.specs.Shape.{PlainShape}
 use Rattle.argus_texts.specs.ShapeSpelling.{IsMakeable}
 use Rattle.argus_language.specs.Spelled as sentence
@@ -59,10 +58,7 @@ regrouped : (a b c d e : List Sentence) → a ++ (b ++ (c ++ (d ++ e))) ≡ ((a 
 regrouped a b c d e = simp append_assoc
 
 closing-arm : (o : BlockKind) → closing o ≡ cond (is_arm_line o) [] (sentence.«end» ∷ [])
-closing-arm (opening.Enter k) = refl
-closing-arm (opening.If l x) = refl
-closing-arm opening.Coenter = refl
-closing-arm (opening.Arm k) = refl
+closing-arm p = grind arith
 
 -- the innermost block ends
 module _ (blocks left : List OpenBlock) (b : OpenBlock) (steps : Vec Step (Limited Global)) (now : List Step)
@@ -89,32 +85,20 @@ module _ (blocks left : List OpenBlock) (b : OpenBlock) (steps : Vec Step (Limit
       ∙ ap (λ ls. is_arm (place_of ls)) (sym (levels-push left blocks b e))))
 
   pub close-sound : IsSound left now
-  close-sound = push-sound left b.before.items now (S.Block b.opening steps) f
-      (record { began = began.1; stand = began.0.before })
-      (subst (MayStand (place_of (levels_of left))) (sym (plain-Block b.opening steps))
-      (began.0.may, subst (λ p. AllMayStand p (plain_steps steps.items)) began.0.place within))
+  close-sound = grind (arith, push-sound, began, plain-Block, within)
 
 arm-in : (o : BlockKind) (p : Place) (b : Bool) → may_begin o p ≡ true → place_in o p ≡ place.Arm b → p
     ≡ place.Coenter b
-arm-in (opening.Arm k) (place.Coenter c) b may e = cc
-arm-in (opening.Arm k) place.Top b may e = absurd (cc)
-arm-in (opening.Arm k) (place.Body c) b may e = absurd (cc)
-arm-in (opening.Arm k) (place.Arm c) b may e = absurd (cc)
-arm-in (opening.Enter k) p b may e = absurd (cc)
-arm-in (opening.If l x) p b may e = absurd (cc)
-arm-in opening.Coenter p b may e = absurd (cc)
+arm-in p q b may e = grind arith
 
 -- around an arm is its coenter
 pub behind-arm : (bs : List OpenBlock) (b : Bool) → AllBegan bs → place_of (map (λ x. x.level) bs) ≡ place.Arm b
     → place_of (behind_arm (map (λ x. x.level) bs)) ≡ place.Coenter b
 behind-arm [] b h e = absurd (cc)
-behind-arm (x ∷ xs) b h e =
-    ap (λ t. place_of (cond t (map (λ y. y.level) xs) (map (λ y. y.level) (x ∷ xs)))) (ap is_arm e)
-    ∙ arm-in x.opening (place_of (map (λ y. y.level) xs)) b h.0.may (sym h.0.place ∙ e)
+behind-arm (x ∷ xs) b h e = grind (arith, arm-in)
 
 made-alone : (shape : PlainShape) → IsMakeable shape → All IsMakeable (shape ∷ [])
-made-alone shape h zero d l = h
-made-alone shape h (suc k) d l = absurd (omega arith)
+made-alone shape h p d l = grind arith
 
 -- a shape more that can be made
 pub makeable-more : (old new : PlainObjects) (shape : PlainShape) → new.shapes ≡ old.shapes ++ shape ∷ []
@@ -124,5 +108,4 @@ makeable-more old new shape e one h =
 
 -- what holds anyway holds on Ok
 pub on-ok : {T E : Type 0} (r : Result T E) (P : Type 0) → P → OnOk r P
-on-ok (Ok x) P h = h
-on-ok (Err x) P h = tt
+on-ok p q h = grind arith

@@ -23,26 +23,13 @@ position-append t i (x ∷ xs) ys =
 -- what was found is found behind more, too
 pub position-kept : {X : Type 0} (t : X → Bool) (xs ys : List X) (i : ℕ) → position_from t 0 xs ≡ Some i
     → position_from t 0 (xs ++ ys) ≡ Some i
-position-kept t xs ys i e =
-    position-append t 0 xs ys ∙ ap (λ o. first_of o (position_from t (0 + length xs) ys)) e
+position-kept t xs ys i e = position-append t 0 xs ys ∙ ap (λ o. first_of o (position_from t (0 + length xs) ys)) e
 
 pub position-last : {X : Type 0} (t : X → Bool) (xs : List X) (y : X) → position_from t 0 xs ≡ None
     → position_from t 0 (xs ++ y ∷ []) ≡ cond (t y) (Some (length xs)) None
 position-last t xs y e =
     position-append t 0 xs (y ∷ []) ∙ ap (λ o. first_of o (position_from t (0 + length xs) (y ∷ []))) e
     ∙ ap (λ n. cond (t y) (Some n) None) (omega arith)
-
-within_either : (b : Bool) (i k : ℕ) (o : Option ℕ) (n : ℕ) → i < n → (o ≡ Some k → k < n) → cond b (Some i) o ≡ Some k
-    → k < n
-within_either true i k o n h later e = let same : i ≡ k = cc in omega arith
-within_either false i k o n h later e = later e
-
-pub position-within : {X : Type 0} (t : X → Bool) (i k : ℕ) (xs : List X) → position_from t i xs ≡ Some k
-    → k < i + length xs
-position-within t i k [] e = absurd (cc)
-position-within t i k (x ∷ xs) e =
-    within_either (t x) i k (position_from t (i + 1) xs) (i + length (x ∷ xs)) (omega arith)
-    (λ later. omega (arith, position-within t (i + 1) k xs later)) e
 
 first_of-none : {A : Type 0} (o : Option A) → first_of o None ≡ o
 first_of-none (Some x) = refl
@@ -60,16 +47,14 @@ module _ (names : List (List ℕ)) (name other : List ℕ) (none : position_from
         ∙ ap (λ b. cond b (Some (length names)) None) (nat_list_eq_equiv.symm other name ∙ equal))
     found-last false apart = sym (position-append (λ n. bytes_eq other n) 0 names (name ∷ [])
         ∙ ap (λ b. first_of (position_from (λ n. bytes_eq other n) 0 names) (cond b (Some (0 + length names)) None))
-        (nat_list_eq_equiv.symm other name ∙ apart)
-        ∙ first_of-none (position_from (λ n. bytes_eq other n) 0 names))
+        (nat_list_eq_equiv.symm other name ∙ apart) ∙ first_of-none (position_from (λ n. bytes_eq other n) 0 names))
 
 -- one more name, with its number and its shape
 pub indexed-more : (names more-names : List (List ℕ)) (shapes more-shapes : List PlainShape)
     (old new : BTreeMap (Bor (List ℕ)) ℕ) (name : List ℕ) (shape : PlainShape)
     → IsIndexed names shapes old → position_from (λ n. bytes_eq name n) 0 names ≡ None
     → UpdatesBy (λ x y. slice_cmp nat_cmp x.now y.now) (λ k. slice_cmp nat_cmp name k.now) old new (Some (length names))
-    → more-names ≡ names ++ name ∷ [] → more-shapes ≡ shapes ++ shape ∷ []
-    → IsIndexed more-names more-shapes new
+    → more-names ≡ names ++ name ∷ [] → more-shapes ≡ shapes ++ shape ∷ [] → IsIndexed more-names more-shapes new
 indexed-more names more-names shapes more-shapes old new name shape h none updates e f = record {
   found = λ other. btree_map_updates_str name old new (Some (length names)) updates other
       ∙ ap (λ o. cond (bytes_eq name other) (Some (length names)) o) (h.found other)

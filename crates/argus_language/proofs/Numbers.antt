@@ -1,18 +1,17 @@
 -- What a line says of objects it says of more of them, too.
-use Rattle.std.proofs.Common.{◌≡◌, ℕ, cond, List, ◌++◌, slice_get, Option, Some, None, is_some, refl, sym, ◌∙◌, ap}
-use Rattle.std.proofs.{Common.{arith, length-append}, Math.ListN.get_or-append}
-use Rattle.std.proofs.lemmas.Option.{slice_get_within, slice_get-get_or}
+use Rattle.std.proofs.Common.{◌≡◌, ℕ, cond, List, ◌++◌, slice_get, Option, Some, None, is_some, sym, ◌∙◌, ap, arith}
+use Rattle.std.proofs.{Common.length-append, Math.ListN.get_or-append, lemmas.Option.slice_get_within}
+use Rattle.std.proofs.lemmas.Option.{slice_get-get_or}
 use Rattle.std.specs.{Option.{option_and_then, option_map}, Str.bytes_eq}
 use Rattle.argus_contents.specs.Shape.{PlainShape}
 use Rattle.argus_language.specs.{Command.{Command, command_of}, Fault.{access_fault, name_fault}, Lines.line_text}
 use Rattle.argus_language.specs.Numbered.{access_to, numbered, numbered_in, one_or_none, sentences_of}
 use Rattle.argus_language.specs.{Objects.{PlainObjects, number_of, shape_at, with_more}, Operation.Operation}
 use Rattle.argus_language.specs.Spelled.{Sentence}
+use Rattle.argus_language.proofs.Naming.{position-kept}
 use Rattle.argus_language.specs.Command as c
 use Rattle.argus_language.specs.Spelled as sentence
 use Rattle.argus_language.specs.declared.fault_kind.FaultKind.TheVariants as kind
-use Rattle.argus_language.specs.declared.block_kind.BlockKind.TheVariants as opening
-use Rattle.argus_language.proofs.Naming.{position-kept}
 
 get-kept : {X : Type 0} (xs ys : List X) (i : ℕ) (x : X) → slice_get xs i ≡ Some x → slice_get (xs ++ ys) i ≡ Some x
 get-kept xs ys i x e =
@@ -26,8 +25,7 @@ record Found (o : Option ℕ) : Type 0 where
   is : o ≡ Some number
 
 found : (o : Option ℕ) → cond (is_some o) None (Some kind.UnknownName) ≡ None → Found o
-found (Some x) e = record { number = x; is = refl }
-found None e = absurd (cc)
+found p e = grind arith
 
 -- an object that was found
 record Shaped (os : PlainObjects) (o : Option ℕ) : Type 0 where
@@ -38,13 +36,11 @@ record Shaped (os : PlainObjects) (o : Option ℕ) : Type 0 where
 
 with-shape : (os : PlainObjects) (x : ℕ) (op : Operation (List ℕ)) (s : Option PlainShape) → shape_at os x ≡ s
     → access_fault op s ≡ None → Shaped os (Some x)
-with-shape os x op (Some s) h e = record { number = x; shape = s; is = refl; shape-is = h }
-with-shape os x op None h e = absurd (cc)
+with-shape os x op p h e = grind arith
 
 shaped : (os : PlainObjects) (op : Operation (List ℕ)) (o : Option ℕ)
     → access_fault op (option_and_then (shape_at os) o) ≡ None → Shaped os o
-shaped os op (Some x) e = with-shape os x op (shape_at os x) refl e
-shaped os op None e = absurd (cc)
+shaped os op p e = grind (arith, with-shape)
 
 module _ (os more : PlainObjects) where
   number-kept : (name : List ℕ) (x : ℕ) → number_of name os ≡ Some x → number_of name (with_more os more) ≡ Some x
@@ -52,29 +48,14 @@ module _ (os more : PlainObjects) where
 
   access-kept : (op : Operation (List ℕ)) (name : List ℕ) → Shaped os (number_of name os)
       → numbered (with_more os more) (c.access name op) ≡ numbered os (c.access name op)
-  access-kept op name h =
-      let f : Option PlainShape → Option Sentence =
+  access-kept op name h = let f : Option PlainShape → Option Sentence =
       λ o. option_and_then (λ s. option_map (sentence.access h.number) (numbered_in s op)) o in
       ap (option_and_then (access_to (with_more os more) op)) (number-kept name h.number h.is)
       ∙ ap f (get-kept os.shapes more.shapes h.number h.shape h.shape-is)
       ∙ sym (ap (option_and_then (access_to os op)) h.is ∙ ap f h.shape-is)
 
   numbered-grows : (x : Command) → name_fault x os ≡ None → numbered (with_more os more) x ≡ numbered os x
-  numbered-grows (c.test l name) e =
-      let h = found (number_of name os) e in
-      let f : Option ℕ → Option Sentence = option_map (λ x. sentence.begin (opening.If l x)) in
-      ap f (number-kept name h.number h.is) ∙ sym (ap f h.is)
-  numbered-grows (c.access name op) e = access-kept op name (shaped os op (number_of name os) e)
-  numbered-grows c.nothing e = refl
-  numbered-grows c.bad e = refl
-  numbered-grows (c.declare name shape) e = refl
-  numbered-grows (c.enter k) e = refl
-  numbered-grows c.coenter e = refl
-  numbered-grows (c.arm k) e = refl
-  numbered-grows c.leave e = refl
-  numbered-grows c.abort_leave e = refl
-  numbered-grows c.leave_all e = refl
-  numbered-grows c.«end» e = refl
+  numbered-grows p e = grind (arith, found, number-kept, access-kept, shaped)
 
   pub told-grows : (line : List ℕ) → name_fault (command_of (line_text line)) os ≡ None
       → sentences_of (with_more os more) line ≡ sentences_of os line

@@ -1,17 +1,15 @@
 -- What passes no limit has room: a command begins with the word by which the limits are tested.
 use Rattle.std.proofs.Common.{◌≡◌, ℕ, ◌<◌, nat_le, Bool, true, false, ◌&&◌, ◌||◌, cond, List, length, Option, Some}
-use Rattle.std.proofs.{Common.{None, codes, refl, ap, arith}, lemmas.Bool.Decides.nat_tests}
+use Rattle.std.proofs.{Common.{None, codes, ap, arith}, lemmas.Bool.{and_parts, or_parts}}
 use Rattle.std.specs.{Option.option_map, Str.{bytes_eq, is_utf8}}
 use Rattle.argus_contents.specs.{Name.is_name, declared.limits.TheConstants.MAX_OBJECTS}
 use Rattle.argus_language.specs.Command.{Command, accessing, bad, command, declaring, entering, is_comment, leaving}
 use Rattle.argus_language.specs.{Command.{operation, or_bad, command_of, testing, command_of_text}, Levels.depth_of}
-use Rattle.argus_language.specs.{Fault.{Position, is_one_too_many, is_too_long, opens_block}, Objects.PlainObjects}
-use Rattle.argus_language.specs.{Lines.{is_empty, is_word, others, line_text, word}, Operation.Operation}
-use Rattle.argus_language.specs.{Reading.IsWithinLimits, declared.level.Level.Level}
-use Rattle.argus_language.specs.declared.limits.TheConstants.{MAX_OPEN_BLOCKS}
+use Rattle.argus_language.specs.{Fault.{Position, is_too_long, opens_block}, Objects.PlainObjects, Lines.is_empty}
+use Rattle.argus_language.specs.{Lines.{others, line_text, word}, Operation.Operation, Reading.IsWithinLimits}
+use Rattle.argus_language.specs.declared.{level.Level.Level, limits.TheConstants.MAX_OPEN_BLOCKS}
 use Rattle.argus_language.specs.Command as c
 use Rattle.argus_language.specs.declared.action_kind.ActionKind.TheVariants as kind
-use Rattle.argus_language.specs.declared.lock.Lock.TheVariants as lock
 
 -- a command that opens or declares something stands behind a verb that says so
 abbrev pub VerbOpens : List ℕ → Command → Type 0
@@ -22,42 +20,27 @@ VerbOpens verb (c.declare name shape) = (bytes_eq verb (codes "declare") ≡ tru
 VerbOpens verb x = Unit {0}
 
 either : (P : Command → Type 0) (b : Bool) (x y : Command) → (b ≡ true → P x) → P y → P (cond b x y)
-either P true x y f h = f refl
-either P false x y f h = h
+either p q x y f h = grind arith
 
 either-said : (P : Command → Type 0) (b : Bool) (x : Command) → P x → P bad → P (or_bad (cond b (Some x) None))
-either-said P true x h k = h
-either-said P false x h k = k
+either-said p q x h k = grind arith
 
 second : (a b d : Bool) → b ≡ true → (a || (b || d)) ≡ true
-second true b d e = refl
-second false true d e = refl
-second false false d e = absurd (cc)
+second p b d e = grind arith
 
 third : (a b d : Bool) → d ≡ true → (a || (b || d)) ≡ true
-third true b d e = refl
-third false true d e = refl
-third false false d e = e
-
-left : (a b : Bool) → (a && b) ≡ true → a ≡ true
-left true b e = refl
-left false b e = e
+third p b d e = grind arith
 
 module _ (verb rest : List ℕ) where
   declares : bytes_eq verb (codes "declare") ≡ true → VerbOpens verb (declaring rest)
-  declares e = either (VerbOpens verb) (is_name (word rest) && is_word (others rest))
-      (c.declare (word rest) (others rest)) bad
-      (λ h. (e, left (is_name (word rest)) (is_word (others rest)) h)) tt
+  declares e = grind (arith, either, and_parts)
 
   enters : opens_block verb ≡ true → VerbOpens verb (entering rest)
   enters e = either (VerbOpens verb) (bytes_eq rest (codes "topaction")) (c.enter kind.Topaction) _ (λ h. e)
       (either (VerbOpens verb) (bytes_eq rest (codes "action")) (c.enter kind.Subaction) bad (λ h. e) tt)
 
   tests : opens_block verb ≡ true → VerbOpens verb (testing rest)
-  tests e = either (VerbOpens verb) (bytes_eq (word rest) (codes "test_read")) _ _
-      (λ h. either-said (VerbOpens verb) (is_name (others rest)) (c.test lock.Read (others rest)) e tt)
-      (either (VerbOpens verb) (bytes_eq (word rest) (codes "test_write")) _ bad
-      (λ h. either-said (VerbOpens verb) (is_name (others rest)) (c.test lock.Write (others rest)) e tt) tt)
+  tests e = grind (arith, either, either-said)
 
   leaves : VerbOpens verb (leaving rest)
   leaves = either (VerbOpens verb) (is_empty rest) c.leave _ (λ h. tt)
@@ -65,8 +48,7 @@ module _ (verb rest : List ℕ) where
 
   access-said : (name : List ℕ) (o : Option (Operation (List ℕ))) → VerbOpens verb (or_bad (option_map
       (c.access name) o))
-  access-said name (Some o) = tt
-  access-said name None = tt
+  access-said name p = grind arith
 
   accesses : VerbOpens verb (accessing verb rest)
   accesses = either (VerbOpens verb) (is_name (word rest)) _ bad
@@ -82,15 +64,13 @@ module _ (verb rest : List ℕ) where
       (either P (bytes_eq verb (codes "coenter")) _ _
       (λ h. either-said P (is_empty rest) c.coenter (second e (bytes_eq verb (codes "coenter")) i h) tt)
       (either P (bytes_eq verb (codes "topaction")) _ _
-      (λ h. either-said P (is_empty rest) (c.arm kind.Topaction) tt tt)
-      (either P (bytes_eq verb (codes "action")) _ _
+      (λ h. either-said P (is_empty rest) (c.arm kind.Topaction) tt tt) (either P (bytes_eq verb (codes "action")) _ _
       (λ h. either-said P (is_empty rest) (c.arm kind.Subaction) tt tt)
       (either P i (testing rest) _ (λ h. tests (third e (bytes_eq verb (codes "coenter")) i h))
       (either P (bytes_eq verb (codes "leave")) (leaving rest) _ (λ h. leaves)
       (either P (bytes_eq verb (codes "abort")) _ _
       (λ h. either P (bytes_eq rest (codes "leave")) c.abort_leave bad (λ k. tt) tt)
-      (either P (bytes_eq verb (codes "end")) _ _ (λ h. either-said P (is_empty rest) c.«end» tt tt)
-      accesses))))))))
+      (either P (bytes_eq verb (codes "end")) _ _ (λ h. either-said P (is_empty rest) c.«end» tt tt) accesses))))))))
 
 pub verb_opens : (text : List ℕ) → VerbOpens (word text) (command_of text)
 verb_opens text =
@@ -100,37 +80,15 @@ verb_opens text =
     tt
 
 below : (m n : ℕ) (b : Bool) → (nat_le m n && b) ≡ false → b ≡ true → n < m
-below m n b e h = grind (arith, nat_tests)
-
-neither : (a b : Bool) → (a || b) ≡ false → (a ≡ false) × (b ≡ false)
-neither true b e = absurd (cc)
-neither false b e = (refl, e)
+below m n b e h = grind arith
 
 room-of : (x : Command) (verb : List ℕ) (ls : List Level) (os : PlainObjects)
     → (nat_le MAX_OPEN_BLOCKS (depth_of ls) && opens_block verb) ≡ false
     → (nat_le MAX_OBJECTS (length os.names) && bytes_eq verb (codes "declare")) ≡ false → VerbOpens verb x
     → IsWithinLimits x ls os
-room-of (c.enter k) verb ls os e f h = below MAX_OPEN_BLOCKS (depth_of ls) (opens_block verb) e h
-room-of c.coenter verb ls os e f h = below MAX_OPEN_BLOCKS (depth_of ls) (opens_block verb) e h
-room-of (c.test l name) verb ls os e f h = below MAX_OPEN_BLOCKS (depth_of ls) (opens_block verb) e h
-room-of (c.declare name shape) verb ls os e f h =
-    (below MAX_OBJECTS (length os.names) (bytes_eq verb (codes "declare")) f h.0, h.1)
-room-of c.nothing verb ls os e f h = tt
-room-of c.bad verb ls os e f h = tt
-room-of (c.arm k) verb ls os e f h = tt
-room-of c.leave verb ls os e f h = tt
-room-of c.abort_leave verb ls os e f h = tt
-room-of c.leave_all verb ls os e f h = tt
-room-of c.«end» verb ls os e f h = tt
-room-of (c.access name o) verb ls os e f h = tt
+room-of p verb ls os e f h = grind (arith, below)
 
 -- a line that passes no limit has room for what it says
 pub has_room : (p : Position) (os : PlainObjects) (line : List ℕ) → is_too_long p (length os.names) line ≡ false
     → IsWithinLimits (command_of (line_text line)) p.levels os
-has_room p os line e =
-    let verb = word (line_text line) in
-    let long = neither _ _ e in
-    let many = neither _ (is_one_too_many p (length os.names) verb) long.1 in
-    let both = neither (nat_le MAX_OPEN_BLOCKS (depth_of p.levels) && opens_block verb)
-    (nat_le MAX_OBJECTS (length os.names) && bytes_eq verb (codes "declare")) many.1 in
-    room-of (command_of (line_text line)) verb p.levels os both.0 both.1 (verb_opens (line_text line))
+has_room p os line e = grind (arith, or_parts, room-of, verb_opens)

@@ -7,10 +7,7 @@ use Rattle.argus_language.proofs.Faults.{ToldOf}
 
 pub start-position : (n : ℕ) (blocks : List OpenBlock) → blocks ≡ []
     → position_at 0 0 [] ≡ position_at 0 (n - n) (levels_of blocks)
-start-position n blocks e = λ j. record { lines = 0; bytes = zero-less j; levels = ap levels_of (sym e) j }
-  where
-    zero-less : 0 ≡ n - n
-    zero-less = omega arith
+start-position n blocks e = grind arith
 
 none-declared : Declares [] no_objects
 none-declared = record { names = refl; shapes = refl; makeable = λ k d h. absurd (omega arith) }

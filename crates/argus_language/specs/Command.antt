@@ -44,8 +44,7 @@ with_name_and_text rest f = if is_name (word rest)
 
 -- what a word says with the int and the text after it
 abbrev pub with_int_and_text : {A : Type 0} → List ℕ → (ℤ → List ℕ → A) → Option A
-with_int_and_text rest f =
-    option_and_then (λ i. with_text (others rest) (f i)) (int_of (word rest))
+with_int_and_text rest f = option_and_then (λ i. with_text (others rest) (f i)) (int_of (word rest))
 
 -- what a word says with the two ints after it
 abbrev pub with_ints : {A : Type 0} → List ℕ → (ℤ → ℤ → A) → Option A
@@ -54,8 +53,7 @@ with_ints rest f =
 
 -- the operation on any object that a verb says with the words after the object's name
 abbrev pub any_operation : List ℕ → List ℕ → Option AnyOperation
-any_operation verb rest =
-    if bytes_eq verb (codes "create") then with_text rest create else
+any_operation verb rest = if bytes_eq verb (codes "create") then with_text rest create else
     (if bytes_eq verb (codes "read") then alone rest read else
     (if bytes_eq verb (codes "touch") then alone rest touch else None))
 
@@ -68,8 +66,7 @@ record_operation verb rest =
 
 -- the operation on an array that needs no more words
 abbrev pub short_array_operation : List ℕ → Option ArrayOperation
-short_array_operation verb =
-    if bytes_eq verb (codes "low") then Some low else
+short_array_operation verb = if bytes_eq verb (codes "low") then Some low else
     (if bytes_eq verb (codes "high") then Some high else
     (if bytes_eq verb (codes "size") then Some size else
     (if bytes_eq verb (codes "bottom") then Some bottom else
@@ -109,8 +106,7 @@ first_of None o = o
 
 -- the operation that a verb says with the words after the object's name
 abbrev pub operation : List ℕ → List ℕ → Option (Operation (List ℕ))
-operation verb rest =
-    first_of (record_operation verb rest)
+operation verb rest = first_of (record_operation verb rest)
     (first_of (option_map of_any (any_operation verb rest))
     (first_of (option_map of_array (array_operation verb rest)) (variant_operation verb rest)))
 
@@ -131,14 +127,12 @@ declaring rest =
 
 -- what kind of action the word after `enter` says
 abbrev pub entering : List ℕ → Command
-entering rest =
-    if bytes_eq rest (codes "topaction") then enter kind.Topaction else
+entering rest = if bytes_eq rest (codes "topaction") then enter kind.Topaction else
     (if bytes_eq rest (codes "action") then enter kind.Subaction else bad)
 
 -- what is tested: a lock, and the object's name
 abbrev pub testing : List ℕ → Command
-testing rest =
-    if bytes_eq (word rest) (codes "test_read") then or_bad
+testing rest = if bytes_eq (word rest) (codes "test_read") then or_bad
     (with_name (others rest) (test lock.Read)) else
     (if bytes_eq (word rest) (codes "test_write") then or_bad
     (with_name (others rest) (test lock.Write)) else bad)
@@ -150,8 +144,7 @@ leaving rest =
 
 -- what a line says, by its first word and those after it
 abbrev pub command : List ℕ → List ℕ → Command
-command verb rest =
-    if bytes_eq verb (codes "declare") then declaring rest else
+command verb rest = if bytes_eq verb (codes "declare") then declaring rest else
     (if bytes_eq verb (codes "enter") then entering rest else
     (if bytes_eq verb (codes "coenter") then or_bad (alone rest coenter) else
     (if bytes_eq verb (codes "topaction") then or_bad (alone rest (arm kind.Topaction)) else
@@ -159,8 +152,7 @@ command verb rest =
     (if bytes_eq verb (codes "if") then testing rest else
     (if bytes_eq verb (codes "leave") then leaving rest else
     (if bytes_eq verb (codes "abort") then (if bytes_eq rest (codes "leave") then abort_leave else
-    bad) else
-    (if bytes_eq verb (codes "end") then or_bad (alone rest «end») else
+    bad) else (if bytes_eq verb (codes "end") then or_bad (alone rest «end») else
     accessing verb rest))))))))
 
 -- a comment begins with `#`

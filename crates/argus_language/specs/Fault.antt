@@ -46,8 +46,7 @@ opens_block verb =
 -- by its first word a line goes past a limit, with this many blocks open and this many objects
 -- declared
 abbrev pub is_past_counts : ℕ → ℕ → List ℕ → Bool
-is_past_counts blocks objects verb =
-    (nat_le MAX_OPEN_BLOCKS blocks && opens_block verb)
+is_past_counts blocks objects verb = (nat_le MAX_OPEN_BLOCKS blocks && opens_block verb)
     || (nat_le MAX_OBJECTS objects && bytes_eq verb (codes "declare"))
 
 -- a line goes past a limit, after this many lines and bytes, open blocks and declared objects
@@ -71,8 +70,7 @@ is_bad c = false
 
 -- what is wrong with a command, except for its names and texts
 abbrev pub place_fault : Command → List Level → Option FaultKind
-place_fault c levels =
-    if is_bad c then Some kind.BadWord else
+place_fault c levels = if is_bad c then Some kind.BadWord else
     (if may_follow c levels then None else Some kind.Misplaced)
 
 -- what is wrong with a name of a field or a tag
@@ -83,14 +81,9 @@ field_fault name fs = if is_some (field_of name fs) then None else Some kind.Unk
 abbrev pub operation_fault : Operation (List ℕ) → PlainShape → Option FaultKind
 operation_fault (of_any o) s = None
 operation_fault (of_record name o) (rec fs) = field_fault name fs
-operation_fault (of_record name o) (arr t) = Some kind.BadType
-operation_fault (of_record name o) (var fs) = Some kind.BadType
-operation_fault (of_array o) (rec fs) = Some kind.BadType
 operation_fault (of_array o) (arr t) = None
-operation_fault (of_array o) (var fs) = Some kind.BadType
-operation_fault (of_variant name o) (rec fs) = Some kind.BadType
-operation_fault (of_variant name o) (arr t) = Some kind.BadType
 operation_fault (of_variant name o) (var fs) = field_fault name fs
+operation_fault o s = Some kind.BadType
 
 -- what is wrong with an access to the object that was found, except for its text
 abbrev pub access_fault : Operation (List ℕ) → Option PlainShape → Option FaultKind
@@ -112,8 +105,7 @@ name_fault c os = None
 
 -- what is wrong with a line before its names and texts are tested
 abbrev pub line_fault : Position → ℕ → List ℕ → Option FaultKind
-line_fault p objects line =
-    if is_too_long p objects line then Some kind.TooLong else
+line_fault p objects line = if is_too_long p objects line then Some kind.TooLong else
     place_fault (command_of (line_text line)) p.levels
 
 -- the text of an operation isn't a written form, which is a fault of this kind
@@ -155,8 +147,7 @@ TextIsFine c = Unit {0}
 -- what a command says of objects, with its arguments, has a fault of this kind; texts are tested
 -- last
 abbrev pub HasWordFault : Command → PlainObjects → FaultKind → Type 0
-HasWordFault c os k =
-    (name_fault c os ≡ Some k) ⊎ ((name_fault c os ≡ None) × TextFault c k)
+HasWordFault c os k = (name_fault c os ≡ Some k) ⊎ ((name_fault c os ≡ None) × TextFault c k)
 
 -- it has no fault
 abbrev pub WordsAreFine : Command → PlainObjects → Type 0
@@ -164,8 +155,7 @@ WordsAreFine c os = (name_fault c os ≡ None) × TextIsFine c
 
 -- the line has a fault of this kind
 abbrev pub HasFault : Position → PlainObjects → List ℕ → FaultKind → Type 0
-HasFault p os line k =
-    (line_fault p (length os.names) line ≡ Some k)
+HasFault p os line k = (line_fault p (length os.names) line ≡ Some k)
     ⊎ ((line_fault p (length os.names) line ≡ None) × HasWordFault (command_of
     (line_text line)) os k)
 
@@ -207,8 +197,7 @@ pub record Unclosed (lines : List (List ℕ)) (number : ℕ) : Type 0 where
 -- The fault of a script: its first faulty line, numbered from 1; if there is none, the block that
 -- isn't closed.
 abbrev pub IsFaultOf : List (List ℕ) → ScriptFault → Type 0
-IsFaultOf lines fault =
-    ((i : ℕ) × (fault.line ≡ i + 1) × FirstFault lines i fault.kind)
+IsFaultOf lines fault = ((i : ℕ) × (fault.line ≡ i + 1) × FirstFault lines i fault.kind)
     ⊎ ((fault.kind ≡ kind.Unclosed) × Unclosed lines fault.line)
 
 -- no line has a fault, and no block is open at the end

@@ -15,8 +15,7 @@ is_past_limits_at lines i objects =
 
 -- what is wrong with the line at i before its names and texts are tested
 abbrev pub fault_at : List (List ℕ) → ℕ → ℕ → Option FaultKind
-fault_at lines i objects =
-    if is_past_limits_at lines i objects then Some kind.TooLong else
+fault_at lines i objects = if is_past_limits_at lines i objects then Some kind.TooLong else
     (if is_bad (command_at lines i) then Some kind.BadWord else
     (if may_stand_at lines i then None else Some kind.Misplaced))
 
@@ -51,5 +50,4 @@ IsFirstFaultyLine lines fault =
 
 -- no line is faulty, and no opening line is unmatched at the end
 abbrev pub HasNoFaultyLine : List (List ℕ) → Type 0
-HasNoFaultyLine lines =
-    AreFineLines lines (length lines) × (unmatched lines (length lines) ≡ [])
+HasNoFaultyLine lines = AreFineLines lines (length lines) × (unmatched lines (length lines) ≡ [])

@@ -28,13 +28,11 @@ above_zero n = if nat_lt n 9223372036854775808 then Some (pos n) else None
 
 -- the int of this many below 0, within 64 bits
 abbrev pub below_zero : ℕ → Option ℤ
-below_zero n =
-    if nat_lt 0 n && nat_le n 9223372036854775808 then Some (negsuc (n - 1)) else None
+below_zero n = if nat_lt 0 n && nat_le n 9223372036854775808 then Some (negsuc (n - 1)) else None
 
 -- the int that the bytes spell
 abbrev pub int_of : List ℕ → Option ℤ
 int_of [] = None
-int_of (b ∷ bs) =
-    if b == 45 then option_and_then below_zero (positive_of bs) else
+int_of (b ∷ bs) = if b == 45 then option_and_then below_zero (positive_of bs) else
     (if b == 48 then (if is_empty bs then Some (pos 0) else None) else
     option_and_then above_zero (positive_of (b ∷ bs)))

@@ -21,10 +21,8 @@ depth_of (l ∷ ls) = l.depth
 
 -- the level is an arm
 abbrev pub is_arm : Place → Bool
-is_arm place.Top = false
-is_arm (place.Body b) = false
 is_arm (place.Arm b) = true
-is_arm (place.Coenter b) = false
+is_arm p = false
 
 -- an arm ends where the next one begins, or its coenter ends
 abbrev pub behind_arm : List Level → List Level
@@ -43,8 +41,7 @@ with_arm (l ∷ ls) = record { place = in_arm l.place; line = l.line; depth = l.
 -- the levels after a command at the line with this number
 abbrev pub levels_after : Command → ℕ → List Level → List Level
 levels_after (command.enter k) n ls = with_block (place.Body false) n ls
-levels_after (command.test l name) n ls =
-    with_block (place.Body (may_leave_all (place_of ls))) n ls
+levels_after (command.test l name) n ls = with_block (place.Body (may_leave_all (place_of ls))) n ls
 levels_after command.coenter n ls = with_block (place.Coenter (not (is_top (place_of ls)))) n ls
 levels_after (command.arm k) n ls = with_arm (behind_arm ls)
 levels_after command.«end» n ls = drop 1 (behind_arm ls)
@@ -58,9 +55,6 @@ may_follow (command.declare name shape) ls = is_top (place_of ls)
 may_follow (command.enter k) ls = may_begin (opening.Enter k) (place_of ls)
 may_follow command.coenter ls = may_begin opening.Coenter (place_of ls)
 may_follow (command.arm k) ls = takes_arm k (place_of (behind_arm ls))
-may_follow (command.test l name) ls = is_body (place_of ls)
-may_follow command.leave ls = is_body (place_of ls)
-may_follow command.abort_leave ls = is_body (place_of ls)
 may_follow command.leave_all ls = may_leave_all (place_of ls)
 may_follow command.«end» ls = not (is_top (place_of ls))
-may_follow (command.access name o) ls = is_body (place_of ls)
+may_follow c ls = is_body (place_of ls)

@@ -13,14 +13,9 @@ use Rattle.argus_language.specs.declared.block_kind.BlockKind.TheVariants as ope
 abbrev pub numbered_in : PlainShape → Operation (List ℕ) → Option (Operation ℕ)
 numbered_in s (of_any o) = Some (of_any o)
 numbered_in (rec fs) (of_record name o) = option_map (λ f. of_record f o) (field_of name fs)
-numbered_in (arr t) (of_record name o) = None
-numbered_in (var fs) (of_record name o) = None
-numbered_in (rec fs) (of_array o) = None
 numbered_in (arr t) (of_array o) = Some (of_array o)
-numbered_in (var fs) (of_array o) = None
-numbered_in (rec fs) (of_variant name o) = None
-numbered_in (arr t) (of_variant name o) = None
 numbered_in (var fs) (of_variant name o) = option_map (λ t. of_variant t o) (field_of name fs)
+numbered_in s o = None
 
 -- an access to the object with this number
 abbrev pub access_to : PlainObjects → Operation (List ℕ) → ℕ → Option Sentence

@@ -13,8 +13,7 @@ pub record PlainObjects : Type 0 where
 
 -- objects are stored as the pair of these lists
 abbrev pub objects_coded : Coded PlainObjects
-objects_coded =
-    code_by (List (List ℕ) × List PlainShape)
+objects_coded = code_by (List (List ℕ) × List PlainShape)
     (coded× (coded_list (coded_list coded_ℕ)) (coded_list shape_coded))
     (λ o. (o.names, o.shapes)) (λ p. record { names = p.0; shapes = p.1 }) (λ _. refl)
 

@@ -13,48 +13,20 @@ command_at lines i = command_of (line_text (get_or lines i []))
 
 -- an opening line: `enter`, `if` or `coenter`
 abbrev pub opens : Command → Bool
-opens command.nothing = false
-opens command.bad = false
-opens (command.declare name shape) = false
 opens (command.enter k) = true
 opens command.coenter = true
-opens (command.arm k) = false
 opens (command.test l name) = true
-opens command.leave = false
-opens command.abort_leave = false
-opens command.leave_all = false
-opens command.«end» = false
-opens (command.access name o) = false
+opens c = false
 
 -- an arm line: `topaction` or `action`
 abbrev pub is_arm_line : Command → Bool
-is_arm_line command.nothing = false
-is_arm_line command.bad = false
-is_arm_line (command.declare name shape) = false
-is_arm_line (command.enter k) = false
-is_arm_line command.coenter = false
 is_arm_line (command.arm k) = true
-is_arm_line (command.test l name) = false
-is_arm_line command.leave = false
-is_arm_line command.abort_leave = false
-is_arm_line command.leave_all = false
-is_arm_line command.«end» = false
-is_arm_line (command.access name o) = false
+is_arm_line c = false
 
 -- an `end`
 abbrev pub is_end : Command → Bool
-is_end command.nothing = false
-is_end command.bad = false
-is_end (command.declare name shape) = false
-is_end (command.enter k) = false
-is_end command.coenter = false
-is_end (command.arm k) = false
-is_end (command.test l name) = false
-is_end command.leave = false
-is_end command.abort_leave = false
-is_end command.leave_all = false
 is_end command.«end» = true
-is_end (command.access name o) = false
+is_end c = false
 
 -- the opening lines that are unmatched after the line at n, given those before it: an opening line
 -- adds one, and an `end` matches the innermost
@@ -82,18 +54,10 @@ has_arm lines (suc n) i =
 -- what is directly in the block that such a line opened is in an action: in an `enter` or an `if`,
 -- and in a coenter that has an arm line
 abbrev pub holds_action : Command → Bool → Bool
-holds_action command.nothing a = false
-holds_action command.bad a = false
-holds_action (command.declare name shape) a = false
 holds_action (command.enter k) a = true
 holds_action command.coenter a = a
-holds_action (command.arm k) a = false
 holds_action (command.test l name) a = true
-holds_action command.leave a = false
-holds_action command.abort_leave a = false
-holds_action command.leave_all a = false
-holds_action command.«end» a = false
-holds_action (command.access name o) a = false
+holds_action c a = false
 
 -- the line at n is in an action, if these opening lines are unmatched before it
 abbrev pub in_action : List (List ℕ) → ℕ → List ℕ → Bool
@@ -109,18 +73,9 @@ at_top (i ∷ outer) = false
 -- subaction's only if that isn't at top level itself
 abbrev pub takes_arm_line : ActionKind → Command → List ℕ → Bool
 takes_arm_line k command.nothing outer = false
-takes_arm_line k command.bad outer = false
-takes_arm_line k (command.declare name shape) outer = false
-takes_arm_line k (command.enter kind) outer = false
 takes_arm_line kind.Topaction command.coenter outer = true
 takes_arm_line kind.Subaction command.coenter outer = not (at_top outer)
-takes_arm_line k (command.arm kind) outer = false
-takes_arm_line k (command.test l name) outer = false
-takes_arm_line k command.leave outer = false
-takes_arm_line k command.abort_leave outer = false
-takes_arm_line k command.leave_all outer = false
-takes_arm_line k command.«end» outer = false
-takes_arm_line k (command.access name o) outer = false
+takes_arm_line k c outer = false
 
 -- an arm line of this kind is allowed after these lines: directly in the innermost
 abbrev pub in_coenter_for : ActionKind → List (List ℕ) → List ℕ → Bool
@@ -130,18 +85,9 @@ in_coenter_for k lines (i ∷ outer) = takes_arm_line k (command_at lines i) out
 -- `leave all` is allowed in the block that such a line opened: in a coenter that has an arm line
 -- and isn't the outermost block; and in an `if`, if it is allowed further out
 abbrev pub lets_leave_all : Command → Bool → Bool → Bool → Bool
-lets_leave_all command.nothing is_outermost has_arm further = false
-lets_leave_all command.bad is_outermost has_arm further = false
-lets_leave_all (command.declare name shape) is_outermost has_arm further = false
-lets_leave_all (command.enter k) is_outermost has_arm further = false
 lets_leave_all command.coenter is_outermost has_arm further = has_arm && not is_outermost
-lets_leave_all (command.arm k) is_outermost has_arm further = false
 lets_leave_all (command.test l name) is_outermost has_arm further = further
-lets_leave_all command.leave is_outermost has_arm further = false
-lets_leave_all command.abort_leave is_outermost has_arm further = false
-lets_leave_all command.leave_all is_outermost has_arm further = false
-lets_leave_all command.«end» is_outermost has_arm further = false
-lets_leave_all (command.access name o) is_outermost has_arm further = false
+lets_leave_all c is_outermost has_arm further = false
 
 -- `leave all` is allowed at n, if these opening lines are unmatched before it: from the innermost
 -- outwards come only `if`s, and then a coenter with an arm line, which isn't at top level
@@ -156,15 +102,11 @@ may_stand_behind command.nothing lines n openings = true
 may_stand_behind command.bad lines n openings = true
 may_stand_behind (command.declare name shape) lines n openings = at_top openings
 may_stand_behind (command.enter kind.Topaction) lines n openings = at_top openings || in_action lines n openings
-may_stand_behind (command.enter kind.Subaction) lines n openings = in_action lines n openings
 may_stand_behind command.coenter lines n openings = at_top openings || in_action lines n openings
 may_stand_behind (command.arm k) lines n openings = in_coenter_for k lines openings
-may_stand_behind (command.test l name) lines n openings = in_action lines n openings
-may_stand_behind command.leave lines n openings = in_action lines n openings
-may_stand_behind command.abort_leave lines n openings = in_action lines n openings
 may_stand_behind command.leave_all lines n openings = in_arm_of_action lines n openings
 may_stand_behind command.«end» lines n openings = not (at_top openings)
-may_stand_behind (command.access name o) lines n openings = in_action lines n openings
+may_stand_behind c lines n openings = in_action lines n openings
 
 -- the line at n is allowed where it is
 abbrev pub may_stand_at : List (List ℕ) → ℕ → Bool

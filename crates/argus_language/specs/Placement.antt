@@ -13,40 +13,33 @@ use Rattle.argus_language.specs.declared.place.Place.TheVariants as place
 -- in no block
 abbrev pub is_top : Place → Bool
 is_top place.Top = true
-is_top (place.Body b) = false
-is_top (place.Arm b) = false
-is_top (place.Coenter b) = false
+is_top p = false
 
 -- in an action: in an `enter` block, an arm or an `if` block
 abbrev pub is_body : Place → Bool
-is_body place.Top = false
 is_body (place.Body b) = true
 is_body (place.Arm b) = true
-is_body (place.Coenter b) = false
+is_body p = false
 
 -- directly in a coenter
 abbrev pub is_coenter : Place → Bool
-is_coenter place.Top = false
-is_coenter (place.Body b) = false
-is_coenter (place.Arm b) = false
 is_coenter (place.Coenter b) = true
+is_coenter p = false
 
 -- an arm may end all others: only `if` blocks are between it and here, and its coenter is in an
 -- action
 abbrev pub may_leave_all : Place → Bool
-may_leave_all place.Top = false
 may_leave_all (place.Body b) = b
 may_leave_all (place.Arm b) = b
-may_leave_all (place.Coenter b) = false
+may_leave_all p = false
 
 -- an arm of this kind is allowed there: in a coenter, and a subaction's only if the coenter is in
 -- an action
 abbrev pub takes_arm : ActionKind → Place → Bool
 takes_arm k place.Top = false
-takes_arm k (place.Body b) = false
-takes_arm k (place.Arm b) = false
 takes_arm kind.Topaction (place.Coenter b) = true
 takes_arm kind.Subaction (place.Coenter b) = b
+takes_arm k p = false
 
 -- a block or an arm may begin there
 abbrev pub may_begin : BlockKind → Place → Bool
@@ -59,9 +52,7 @@ may_begin (opening.Arm k) p = takes_arm k p
 -- the place in an arm of a coenter
 abbrev pub in_arm : Place → Place
 in_arm (place.Coenter b) = place.Arm b
-in_arm place.Top = place.Top
-in_arm (place.Body b) = place.Body b
-in_arm (place.Arm b) = place.Arm b
+in_arm p = p
 
 -- the place in a block or an arm that began at a place
 abbrev pub place_in : BlockKind → Place → Place
@@ -73,11 +64,8 @@ place_in (opening.Arm k) p = in_arm p
 -- a deed is allowed there
 abbrev pub may_stand : SimpleStep → Place → Bool
 may_stand part.declare p = is_top p
-may_stand (part.ask x q) p = is_body p
-may_stand (part.alter x c) p = is_body p
-may_stand part.leave p = is_body p
-may_stand part.abort_leave p = is_body p
 may_stand part.leave_all p = may_leave_all p
+may_stand d p = is_body p
 
 -- the content or the value of a change has a written form that is read
 abbrev pub IsReadable : PlainChange → Type 0
@@ -86,21 +74,13 @@ IsReadable (change.set_field f v) = Within MAX_VALUE_DEPTH v
 IsReadable (change.store i v) = Within MAX_VALUE_DEPTH v
 IsReadable (change.addh v) = Within MAX_VALUE_DEPTH v
 IsReadable (change.addl v) = Within MAX_VALUE_DEPTH v
-IsReadable change.remh = Unit {0}
-IsReadable change.reml = Unit {0}
-IsReadable (change.set_low i) = Unit {0}
-IsReadable (change.trim from count) = Unit {0}
 IsReadable (change.change_tag t v) = Within MAX_VALUE_DEPTH v
-IsReadable change.touch = Unit {0}
+IsReadable c = Unit {0}
 
 -- the argument of a deed has a written form that is read
 abbrev pub HasForm : SimpleStep → Type 0
-HasForm part.declare = Unit {0}
-HasForm (part.ask x q) = Unit {0}
 HasForm (part.alter x c) = IsReadable c
-HasForm part.leave = Unit {0}
-HasForm part.abort_leave = Unit {0}
-HasForm part.leave_all = Unit {0}
+HasForm d = Unit {0}
 
 abbrev mutual
   -- the step is allowed at a place, and so is each step in it

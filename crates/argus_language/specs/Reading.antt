@@ -37,10 +37,8 @@ lines_so_far blocks steps = flat_map front blocks ++ lines_of_parts (plain_steps
 
 -- the line of an arm
 abbrev pub is_arm_line : BlockKind → Bool
-is_arm_line (opening.Enter k) = false
-is_arm_line (opening.If l x) = false
-is_arm_line opening.Coenter = false
 is_arm_line (opening.Arm k) = true
+is_arm_line o = false
 
 -- a block began where it is allowed, after steps that are allowed where they are
 pub record BeganAt (p : Place) (b : OpenBlock) : Type 0 where

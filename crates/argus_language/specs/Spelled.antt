@@ -59,10 +59,8 @@ sentence part.leave_all = leave_all
 -- the line that closes what began with this line: none closes an arm, which goes on to the next arm
 -- or to the end of its coenter
 abbrev pub closing : BlockKind → List Sentence
-closing (opening.Enter k) = «end» ∷ []
-closing (opening.If l x) = «end» ∷ []
-closing opening.Coenter = «end» ∷ []
 closing (opening.Arm k) = []
+closing o = «end» ∷ []
 
 abbrev mutual
   -- the lines of a step: a block is its first line, the lines of its steps, and its last

@@ -13,7 +13,7 @@ use argus_memory::Room;
 /// let script = parse(heap, b"declare x atomic_record[n:int]\n")?;
 /// assert_eq!(rt; script.names().len(), 1);
 /// ```
-#[derive(Drop)]
+#[derive(Debug, Drop)]
 pub struct Script {
     pub(crate) names: Vec<Name, Room>,
     pub(crate) shapes: Vec<Shape, Room>,

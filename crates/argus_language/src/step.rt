@@ -19,7 +19,7 @@ use argus_memory::Room;
 /// ```text
 /// Step::Ask(0, Query::Whole)                      // read x
 /// ```
-#[derive(Drop)]
+#[derive(Debug, Drop)]
 pub enum Step {
     Declare,
     Ask(u32, Query),

@@ -86,8 +86,7 @@ returns-clause-fine c =
     let reading = c.loop-rest.reading in
     ok_more c.whole.result (reading.blocks.items ≡ []) (NoFault lines)
     (λ h. end_fine lines c.loop-rest.lines left _ (levels_of reading.blocks.items) I.position refl
-    (ap levels_of h) I.fine)
-    c.whole.ensures.blocks
+    (ap levels_of h) I.fine) c.whole.ensures.blocks
 
 pub returns-clause-fault : goal.returns-clause-fault
 returns-clause-fault c =

@@ -7,8 +7,7 @@ use Rattle.argus_language.proofs.Cutting.{blank_ascii}
 use Rattle.argus_language.proofs.words.text_behind_blanks.Goals as goal
 
 pub range_from-rest-requires : goal.range_from-rest-requires
-range_from-rest-requires c = λ h.
-    let here = c.in-Some.ensures.item in
+range_from-rest-requires c = λ h. let here = c.in-Some.ensures.item in
     let same = c.as_bytes.ensures.value in
     IsCharBoundary-after_ascii c.loop-first.rest.now 0 (subst IsUtf8 same c.as_bytes.ensures.utf8)
     (omega (arith, ap length same, here.3.0))

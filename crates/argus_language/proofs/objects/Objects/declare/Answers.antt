@@ -11,8 +11,7 @@ invariant_of-self-2 c =
     let old = c.self.inside in
     let count : c.len.result ≡ length old.names.items = search rules in
     indexed-more old.names.items c.push_reserved.new.self.items old.shapes.items c.push_reserved-2.new.self.items
-    old.numbers c.insert.new.self text c.args.shape
-    c.self.invariant
+    old.numbers c.insert.new.self text c.args.shape c.self.invariant
     (ap (number_of text) c.self.view_is ∙ c.requires.new)
     (subst (λ n. UpdatesBy (λ x y. slice_cmp nat_cmp x.now y.now) (λ k. slice_cmp nat_cmp text k.now) old.numbers
     c.insert.new.self (Some n)) count c.in_ok-insert.ensures.updates)

@@ -10,8 +10,7 @@ returns-clause-makeable c =
     let new = c.push.new.self.objects in
     on-ok c.push.result (AllMakeable old → AllMakeable new)
     (makeable-more old new c.in_ok-made.made (ap (λ o. o.shapes) c.push.ensures.objects
-    ∙ c.in_ok-declare.ensures.shapes)
-    c.in_ok-made.ensures.makeable)
+    ∙ c.in_ok-declare.ensures.shapes) c.in_ok-made.ensures.makeable)
 
 pub returns-in-Some-clause-fault : goal.returns-in-Some-clause-fault
 returns-in-Some-clause-fault c = search rules
