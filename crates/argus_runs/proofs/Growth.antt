@@ -1,5 +1,6 @@
 -- If each call adds to the state, the run does.
-use Rattle.std.proofs.Common.{◌≡◌, Bool, true, false, List, ◌∷◌, Option, Some, None}
+use Rattle.std.proofs.Common.{arith, ◌≡◌, Bool, true, false, List, ◌∷◌, Option, Some, None}
+use Rattle.std.proofs.lemmas.Bool.Decides.{nat_tests}
 use Rattle.argus_actions.specs.declared.action_id.ActionId.{ActionId}
 use Rattle.argus_language.specs.PlainStep.{PlainSteps}
 use Rattle.argus_contents.specs.{Shape.PlainShape, declared.obj_id.ObjId.ObjId}
@@ -20,17 +21,16 @@ pub record ExtendingCalls (S : Type 0) (is_prefix : S → S → Type 0) (reply :
   pub on : (s t u : S) → is_prefix s t → is_prefix t u → is_prefix s u
   pub call_extends : (call : PlainCall) (s : S) → IsRunPrefix is_prefix s (reply call s)
 
-module _ (S : Type 0) (is_prefix : S → S → Type 0) (reply : PlainCall → S → RunOutcome S PlainReply)
-    (arm_runner : ArmRunner S)
-    (l : ExtendingCalls S is_prefix reply arm_runner) where
+module _ {S : Type 0} {is_prefix : S → S → Type 0} {reply : PlainCall → S → RunOutcome S PlainReply}
+    {arm_runner : ArmRunner S} (l : ExtendingCalls S is_prefix reply arm_runner) where
   within_on : {X : Type 0} (s t : S) (m : RunOutcome S X) → is_prefix s t → IsRunPrefix is_prefix t m
       → IsRunPrefix is_prefix s m
   within_on s t (finished x u) p q = l.on s t u p q
   within_on s t mismatched p q = absurd q
 
   pub within_then : {X Y : Type 0} (s : S) (m : RunOutcome S X) (f : X → S → RunOutcome S Y)
-      → IsRunPrefix is_prefix s m → ((x : X) (t : S) → IsRunPrefix is_prefix t (f x t)) → IsRunPrefix is_prefix s
-      (m >>= f)
+      → IsRunPrefix is_prefix s m → ((x : X) (t : S) → IsRunPrefix is_prefix t (f x t))
+      → IsRunPrefix is_prefix s (m >>= f)
   within_then s (finished x t) f p g = within_on s t (f x t) p (g x t)
   within_then s mismatched f p g = absurd p
 
@@ -39,15 +39,10 @@ module _ (S : Type 0) (is_prefix : S → S → Type 0) (reply : PlainCall → S 
   Grows X s m n = IsRunPrefix is_prefix s m
 
   grows : Simulates S S reply reply Grows
-  grows = record {
-    stays = λ X x s. l.same s;
-    on = λ X Y s m n f g p q. within_then s m f p q;
-    call = l.call_extends;
-  }
+  grows = grind (arith, nat_tests, within_then)
 
   none_handed : (h : ArmRunner S) → h ≡ None → Handed S S reply reply Grows h
-  none_handed None e = tt
-  none_handed (Some g) e = cc
+  none_handed h e = grind (arith, nat_tests)
 
   alone : Handed S S reply reply Grows arm_runner
   alone = none_handed arm_runner l.no_arm_runner
@@ -58,8 +53,7 @@ module _ (S : Type 0) (is_prefix : S → S → Type 0) (reply : PlainCall → S 
 
   pub begin_on_grows : (ps : PlainSteps) (w : Option ActionId) (b : Option ActionId) (t : S)
       → IsRunPrefix is_prefix t (begin_on ps w b t)
-  begin_on_grows ps w b t = within_then t (begin_all S reply arm_runner ps w t) (λ bs u. finished (b ∷ bs) u)
-      (begin_all_related S S reply reply Grows grows arm_runner alone ps w t) (λ bs u. l.same u)
+  begin_on_grows ps w b t = grind (arith, nat_tests, begin_all_related, within_then, grows, alone)
 
   -- what follows a step, a beginning, a test
   abbrev pub go_on : List ObjId → PlainSteps → Option ActionId → Flow → S → RunOutcome S Flow
@@ -82,8 +76,7 @@ module _ (S : Type 0) (is_prefix : S → S → Type 0) (reply : PlainCall → S 
 
   go_on_by : (b : Bool) (ns : List ObjId) (ps : PlainSteps) (w : Option ActionId) (x : Flow) (t : S) → Whole ns ps
       → IsRunPrefix is_prefix t (elim b [ true ↦ run_steps S reply arm_runner ns ps w t | false ↦ finished x t ])
-  go_on_by true ns ps w x t h = h w t
-  go_on_by false ns ps w x t h = l.same t
+  go_on_by b ns ps w x t h = grind (arith, nat_tests)
 
   pub go_on_grows : (ns : List ObjId) (ps : PlainSteps) (w : Option ActionId) → Whole ns ps → (x : Flow) (t : S)
       → IsRunPrefix is_prefix t (go_on ns ps w x t)
@@ -94,9 +87,7 @@ module _ (S : Type 0) (is_prefix : S → S → Type 0) (reply : PlainCall → S 
 
   pub enter_on_grows : (ns : List ObjId) (ps : PlainSteps) → Whole ns ps → (b : Option ActionId) (t : S)
       → IsRunPrefix is_prefix t (enter_on ns ps b t)
-  enter_on_grows ns ps h None t = l.same t
-  enter_on_grows ns ps h (Some a) t = within_then t (run_steps S reply arm_runner ns ps (Some a) t)
-      (finish S reply arm_runner a) (h (Some a) t) (finish_grows a)
+  enter_on_grows ns ps h b t = grind (arith, nat_tests, finish_grows, within_then)
 
   pub test_on_grows : (ns : List ObjId) (ps : PlainSteps) (a : ActionId) → Whole ns ps → (r : PlainReply) (t : S)
       → IsRunPrefix is_prefix t (test_on ns ps a r t)

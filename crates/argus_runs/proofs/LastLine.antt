@@ -16,8 +16,7 @@ newest e older =
     slice_get-get_or (reverse (e ∷ older)) n e within
     ∙ ap Some (get_or-reverse (e ∷ older) n e inside ∙ ap (λ k. get_or (e ∷ older) k e) first)
 
-found : (first : ℕ) (e : PlainEntry) (older : List PlainEntry)
-    → (if nat_lt (first + length older) first then None
+found : (first : ℕ) (e : PlainEntry) (older : List PlainEntry) → (if nat_lt (first + length older) first then None
     else slice_get (reverse (e ∷ older)) ((first + length older) - first)) ≡ Some e
 found first e older =
     let past : nat_lt (first + length older) first ≡ false = grind arith in
@@ -38,8 +37,7 @@ written_one j k c at t u e d p =
     let P : List ℕ → Type 0 = λ x. Appends t u x in (
       entry_of j c ∷ [],
       e,
-      subst P (line_made j k c at e d ∙ sym (append-nil (entry_line (next_entry j) (entry_of j c))))
-          p,
+      subst P (line_made j k c at e d ∙ sym (append-nil (entry_line (next_entry j) (entry_of j c)))) p,
     )
 
 pub lacking_one : (j k : JournalView) (c : PlainCall) (at n : ℕ) (t u : Option (List ℕ)) → k ≡ after j c

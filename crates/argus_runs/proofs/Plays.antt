@@ -20,8 +20,7 @@ Same j (finished x k) n = (made : Es) × (k ≡ extended j made) × ((rest : Es)
 Same j mismatched n = ⊥
 
 same_after : {Y : Type 0} (j k : JournalView) (made : Es) → k ≡ extended j made → (r : RunOutcome JournalView Y)
-    (g n : Es → RunOutcome Es Y)
-    → Same k r g → ((rest : Es) → n (made ++ rest) ≡ g rest) → Same j r n
+    (g n : Es → RunOutcome Es Y) → Same k r g → ((rest : Es) → n (made ++ rest) ≡ g rest) → Same j r n
 same_after j k made e (finished y l) g n (later, d, h) p = (
   made ++ later,
   d ∙ ap (λ z. extended z later) e ∙ sym (extended_more j made later),
@@ -29,9 +28,9 @@ same_after j k made e (finished y l) g n (later, d, h) p = (
 )
 same_after j k made e mismatched g n q p = absurd q
 
-same_then : {X Y : Type 0} (j : JournalView) (m : RunOutcome JournalView X) (n : Es → RunOutcome Es X) (f : X
-    → JournalView → RunOutcome JournalView Y)
-    (g : X → Es → RunOutcome Es Y) → Same j m n → ((x : X) (k : JournalView) → Same k (f x k) (g x))
+same_then : {X Y : Type 0} (j : JournalView) (m : RunOutcome JournalView X) (n : Es → RunOutcome Es X)
+    (f : X → JournalView → RunOutcome JournalView Y) (g : X → Es → RunOutcome Es Y) → Same j m n
+    → ((x : X) (k : JournalView) → Same k (f x k) (g x))
     → Same j (m >>= f) (λ s. n s >>= g)
 same_then j (finished x k) n f g (made, e, h) q =
     same_after j k made e (f x k) (g x) (λ s. n s >>= g) (q x k) (λ rest. ap (λ z. z >>= g) (h rest))
@@ -51,9 +50,9 @@ tops_same : (script : PlainScript) (j : JournalView)
 tops_same script j = tops_related JournalView Es reply_from_journal reply_from_entries (λ X j m n. Same j m n) same_runs
     None tt script.objects.shapes [] script.parts j
 
-tells_of : {X : Type 0} (j : JournalView) (x : X) (k : JournalView) (m : RunOutcome JournalView X) (n : Es
-    → RunOutcome Es X) → m ≡ finished x k
-    → Same j m n → (made : Es) × (k ≡ extended j made) × (n made ≡ finished x [])
+tells_of : {X : Type 0} (j : JournalView) (x : X) (k : JournalView) (m : RunOutcome JournalView X)
+    (n : Es → RunOutcome Es X) → m ≡ finished x k → Same j m n
+    → (made : Es) × (k ≡ extended j made) × (n made ≡ finished x [])
 tells_of j x k (finished y l) n e (made, d, h) = let p : k ≡ l = cc in let q : x ≡ y = cc in
     (made, p ∙ d, ap n (sym (append-nil made)) ∙ h [] ∙ ap (λ z. finished z []) (sym q))
 tells_of j x k mismatched n e s = absurd s
@@ -61,13 +60,11 @@ tells_of j x k mismatched n e s = absurd s
 pub plays-tell : PlaysTell
 plays-tell j script k (ns, e) =
     let t = tells_of j ns k (play script j) (run_tops Es reply_from_entries None script.objects.shapes [] script.parts)
-    e
-    (tops_same script j) in
+    e (tops_same script j) in
     (t.0, t.1, (ns, t.2))
 
 ends : {X : Type 0} (is_prefix : JournalView → JournalView → Type 0) (j : JournalView) (m : RunOutcome JournalView X)
-    → IsRunPrefix is_prefix j m
-    → (k : JournalView) × (x : X) × (m ≡ finished x k)
+    → IsRunPrefix is_prefix j m → (k : JournalView) × (x : X) × (m ≡ finished x k)
 ends is_prefix j (finished x k) p = (k, x, refl)
 ends is_prefix j mismatched p = absurd p
 
@@ -77,10 +74,7 @@ runs-end j script =
       no_arm_runner = refl;
       same = prefix_refl;
       on = prefix_trans;
-      call_extends =
-          asked_grows;
+      call_extends = asked_grows;
     } in
-    let t = ends IsJournalPrefix j (play script j) (tops_grow JournalView IsJournalPrefix reply_from_journal None l
-    script.objects.shapes [] script.parts j)
-    in
+    let t = ends IsJournalPrefix j (play script j) (tops_grow l script.objects.shapes [] script.parts j) in
     (t.0, (t.1, t.2))

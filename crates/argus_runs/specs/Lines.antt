@@ -28,8 +28,7 @@ Written old text new text' = (made : List PlainEntry) × (new ≡ extended old m
 -- the same, except that the last line is cut short or missing
 abbrev pub Lacking : JournalView → Option (List ℕ) → JournalView → Option (List ℕ) → Type 0
 Lacking old text new text' = (made : List PlainEntry) × (last : PlainEntry) × (n : ℕ)
-    × (new ≡ extended old (made ++ last ∷ []))
-    × Appends text text' (lines (next_entry old) made
+    × (new ≡ extended old (made ++ last ∷ [])) × Appends text text' (lines (next_entry old) made
     ++ take n (entry_line (next_entry old + length made) last))
 
 -- What a run keeps, as its own code sees it. The flags say whether a line could not be written whole:

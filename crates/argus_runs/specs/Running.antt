@@ -117,8 +117,7 @@ module _ (S : Type 0) (reply : PlainCall → S → RunOutcome S PlainReply)
         ]
     run_step numbers (block (opening.If l x) ps) None s = finished flow.On s
     run_step numbers (block (opening.If l x) ps) (Some a) s =
-        reply (test_call l a (object_number_at numbers x)) s
-        >>= λ r t. elim (says_yes r) [
+        reply (test_call l a (object_number_at numbers x)) s >>= λ r t. elim (says_yes r) [
           | true ↦ run_steps numbers ps (Some a) t
           | false ↦ finished (flow_after r) t
         ]
@@ -147,8 +146,7 @@ module _ (S : Type 0) (reply : PlainCall → S → RunOutcome S PlainReply)
   abbrev pub run_arm : List ObjId → PlainStep → Option ActionId → S → RunOutcome S Flow
   run_arm numbers p b s = elim b [
     | None ↦ finished flow.On s
-    | Some a ↦ run_step numbers p
-        (Some a) s
+    | Some a ↦ run_step numbers p (Some a) s
   ]
 
   -- the arms of a coenter, however they are run

@@ -45,8 +45,7 @@ written_on : (j k l : JournalView) (t u v : Option (List ℕ)) → Written j t k
 written_on j k l t u v (m, e, p) (n, f, q) = (
   m ++ n,
   f ∙ ap (λ x. extended x n) e ∙ sym (extended_more j m n),
-  appends_on t u v (lines (next_entry j) m) (lines (next_entry k) n) (lines (next_entry j) (m ++
-      n))
+  appends_on t u v (lines (next_entry j) m) (lines (next_entry k) n) (lines (next_entry j) (m ++ n))
       (lines-append (next_entry j) m n
       ∙ ap (λ x. lines (next_entry j) m ++ lines x n) (sym (ap next_entry e ∙ next-extended j
       m))) p q,
@@ -65,15 +64,12 @@ lacking_on j k l t u v (m, e, p) (n, last, i, f, q) =
       appends_on t u v (lines (next_entry j) m)
           (lines (next_entry k) n ++ take i (entry_line (next_entry k + length n) last))
           (lines (next_entry j) (m ++ n) ++ take i (entry_line (next_entry j + length (m ++ n))
-          last))
-          (ap (λ x. x ++ take i (entry_line (next_entry j + length (m ++ n)) last))
-          (lines-append (next_entry j) m n ∙ ap (λ x. lines (next_entry j) m ++ lines x n) (sym
-          h))
+          last)) (ap (λ x. x ++ take i (entry_line (next_entry j + length (m ++ n)) last))
+          (lines-append (next_entry j) m n ∙ ap (λ x. lines (next_entry j) m ++ lines x n) (sym h))
           ∙ append_assoc (lines (next_entry j) m) (lines (next_entry k) n)
           (take i (entry_line (next_entry j + length (m ++ n)) last))
           ∙ ap (λ x. lines (next_entry j) m ++ (lines (next_entry k) n ++ take i (entry_line x
-          last)))
-          (let g : next_entry j + length (m ++ n) ≡ next_entry k + length n = omega (
+          last))) (let g : next_entry j + length (m ++ n) ≡ next_entry k + length n = omega (
             arith,
             h,
             length-append m n,
@@ -88,8 +84,7 @@ preserved_refl true j t = (refl, refl, refl)
 
 -- two runs, one after the other, keep what runs keep
 pub preserved_trans : (f g h : Bool) (j k l : JournalView) (t u v : Option (List ℕ))
-    → KeepsText f j t g k u
-    → KeepsText g k u h l v → KeepsText f j t h l v
+    → KeepsText f j t g k u → KeepsText g k u h l v → KeepsText f j t h l v
 preserved_trans false false false j k l t u v p q = written_on j k l t u v p q
 preserved_trans false false true j k l t u v p q = lacking_on j k l t u v p q
 preserved_trans false true false j k l t u v p (a, b, c) = cc

@@ -99,8 +99,7 @@ module _ (receipts : List PlainReceipt) where
   -- an arm ends
   ends : (k : ℕ) (b : Option ActionId) (s t : CheckState) (ended : Option Ended) (f : CheckState
       → RunOutcome CheckState Flow) (n : RunOutcome Es Flow) (o : RunOutcome Es Flow) → ended_as b t.last ≡ ended
-      → IsTold (enter_arm k s) t → o ≡ n
-      → ((u : CheckState) → left u ≡ left t → Follows (KeepsFrom (k + 1)) u (f u) n)
+      → IsTold (enter_arm k s) t → o ≡ n → ((u : CheckState) → left u ≡ left t → Follows (KeepsFrom (k + 1)) u (f u) n)
       → Follows (KeepsFrom k) s (elim ended [
         | None ↦ mismatched
         | Some e ↦ finished flow.On (leave_arm k b e t)
@@ -114,8 +113,7 @@ module _ (receipts : List PlainReceipt) where
       → ((u : CheckState) → Follows (KeepsFrom (k + 1)) u (f u) (g (left u)))
       → Follows (KeepsFrom k) s ((m >>= λ x t. end_arm k b t) >>= λ x u. f u) (n >>= λ x es. g es)
   arm_then k b s (finished x t) n f g (e, p) q = ends k b s t (ended_as b t.last) f (g (left t)) (n >>= λ x es. g es)
-      refl p (ap (λ z. z >>= λ x es. g es) e)
-      (λ u l. subst (λ es. Follows (KeepsFrom (k + 1)) u (f u) (g es)) l (q u))
+      refl p (ap (λ z. z >>= λ x es. g es) e) (λ u l. subst (λ es. Follows (KeepsFrom (k + 1)) u (f u) (g es)) l (q u))
   arm_then k b s mismatched n f g e q = tt
 
   -- an arm of an outermost coenter
@@ -136,8 +134,7 @@ module _ (receipts : List PlainReceipt) where
   outermost_told k ns (more p ps) (b ∷ bs) s = arm_then k b s
       (run_arm CheckState reply_from_receipts None ns p b (enter_arm k s))
       (run_arm Es reply_from_entries None ns p b (left s)) (check_arms (k + 1) ns ps bs)
-      (run_arms Es reply_from_entries None ns ps bs) (arm_told ns p b (enter_arm k s))
-      (outermost_told (k + 1) ns ps bs)
+      (run_arms Es reply_from_entries None ns ps bs) (arm_told ns p b (enter_arm k s)) (outermost_told (k + 1) ns ps bs)
 
   -- a script's run on the receipts
   script_told : (script : PlainScript) (numbers : List ObjId) (end : CheckState)

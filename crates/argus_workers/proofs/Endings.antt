@@ -165,8 +165,7 @@ none_yet coenter k (c ∷ cs) (e ∷ es) h =
     ap (λ b. later_of (cond b (Some e) None) (last_of_arm n cs es)) (is_new c.arm coenter k h.0)
     ∙ later_none (last_of_arm n cs es) ∙ none_yet coenter k cs es h.1
 
-entries_more : (a b : List PlainReceipt)
-    → entries_of_receipts (a ++ b) ≡ entries_of_receipts a ++ entries_of_receipts b
+entries_more : (a b : List PlainReceipt) → entries_of_receipts (a ++ b) ≡ entries_of_receipts a ++ entries_of_receipts b
 entries_more a b = map-append _ a b
 
 -- the arm with this number of the coenter that runs
@@ -187,8 +186,7 @@ module _ (receipts : List PlainReceipt) where
     before = before_both coenter m calls (made_by p made)
         (before_on coenter k coenter m calls (λ n b. later_arms coenter k m n l b) h.before)
         (before_made coenter m p made f);
-    shown = All-weaker (IsSettled calls told coenter k)
-        (IsSettled (calls ++ made_by p made) (told ++ made) coenter m)
+    shown = All-weaker (IsSettled calls told coenter k) (IsSettled (calls ++ made_by p made) (told ++ made) coenter m)
         (λ x s. (same_shown x s.0 (g (arm_of x) s.1), later_arms coenter k m (arm_of x) l s.1)) outcomes h.shown;
   }
     where

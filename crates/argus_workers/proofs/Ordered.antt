@@ -19,8 +19,7 @@ up_to_more o next calls i d l f (held, order) =
       subst (All (IsBelowBounds next)) (sym e)
           (All-push (IsBelowBounds next) front call (All-weaker (IsBelowBounds o) (IsBelowBounds next) (λ c h.
           (f.0 c h).0) front held) f.1),
-      subst InOrder (sym e)
-          (all_pairs_push InTurn front call order (λ k x b. (f.0 (get_or front k x) (held k x b)).1)),
+      subst InOrder (sym e) (all_pairs_push InTurn front call order (λ k x b. (f.0 (get_or front k x) (held k x b)).1)),
     )
 
 -- all calls

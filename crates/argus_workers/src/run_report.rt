@@ -12,7 +12,7 @@ use argus_sharing::Receipt;
 /// };
 /// let guardian = shared.settle(seats, report.receipts.as_slice())?;
 /// ```
-#[derive(Drop)]
+#[derive(Debug, Drop)]
 pub struct RunReport {
     /// What became of each arm of each outermost coenter that ran, in script order.
     pub outcomes: Vec<ArmOutcome, Room>,

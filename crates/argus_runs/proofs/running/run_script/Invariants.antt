@@ -11,5 +11,4 @@ invariant-loop-step g l =
     × (g.C.Caller.is_determined ≡ true → run_script g.C.Caller.State c h (plain_script l.script)
     (g.C.Caller.state l.initial.caller)
     ≡ run_tops g.C.Caller.State c h (plain_script l.script).objects.shapes l.numbers.items
-    (plain_steps (drop l.step-index l.step-items)) (g.C.Caller.state l.caller))
-    × g.C.Caller.ready l.caller
+    (plain_steps (drop l.step-index l.step-items)) (g.C.Caller.state l.caller)) × g.C.Caller.ready l.caller

@@ -11,8 +11,7 @@ invariant-run_steps-loop-step g l =
     × (g.C.Caller.is_determined ≡ true → run_steps g.C.Caller.State c h l.numbers (plain_steps l.steps)
     l.within (g.C.Caller.state l.initial.caller)
     ≡ run_steps g.C.Caller.State c h l.numbers (plain_steps (drop l.step-index l.steps))
-    l.within (g.C.Caller.state l.caller))
-    × g.C.Caller.ready l.caller
+    l.within (g.C.Caller.state l.caller)) × g.C.Caller.ready l.caller
 
 abbrev pub invariant-run_begun-loop-i : goal.invariant-run_begun-loop-i
 invariant-run_begun-loop-i g l =
@@ -21,5 +20,4 @@ invariant-run_begun-loop-i g l =
     × (g.C.Caller.is_determined ≡ true → run_arms g.C.Caller.State c h l.numbers (plain_steps l.arms)
     l.begun (g.C.Caller.state l.initial.caller)
     ≡ run_arms g.C.Caller.State c h l.numbers (plain_steps (drop l.i l.arms)) (drop l.i l.begun)
-    (g.C.Caller.state l.caller))
-    × g.C.Caller.ready l.caller
+    (g.C.Caller.state l.caller)) × g.C.Caller.ready l.caller
