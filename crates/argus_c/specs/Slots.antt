@@ -19,6 +19,11 @@ Becomes (Some old) None R = ⊥
 Becomes None (Some new) R = ⊥
 Becomes None None R = ⊥
 
+-- the request with these numbers
+abbrev pub request_of : ℕ → ℕ → ℕ → ℤ → ℤ → Request
+request_of kind action object first second =
+    record { kind = kind; action = action; object = object; first = first; second = second }
+
 -- the call that the request stands for was made, and its codes are these
 abbrev pub IsMade : Request → List ℕ → ℕ × ℤ → EmbeddedState → EmbeddedState → Type 0
 IsMade r text codes old new =
@@ -36,8 +41,7 @@ abbrev pub IsListAnswered : Option EmbeddedState → Option EmbeddedState → Li
 IsListAnswered (Some old) (Some new) listed after count status =
     (made : CallsMade) × AreCalled listed after old new made × (count ≡ made.count)
     × (status ≡ end_status made.end)
-IsListAnswered None None listed after count status =
-    (status ≡ 11) × (after ≡ listed) × (count ≡ 0)
+IsListAnswered None None listed after count status = (status ≡ 11) × (after ≡ listed) × (count ≡ 0)
 IsListAnswered (Some old) None listed after count status = ⊥
 IsListAnswered None (Some new) listed after count status = ⊥
 

@@ -10,7 +10,8 @@ ghost use Rattle.std.specs.{Prelude.{◌≤◌, ◌↔◌, ◌⊎◌}, Str.IsUtf
 ghost use Rattle.argus_c.specs.Slots.{Becomes, IsAnswered, IsGiven, IsMade, IsStatusOfFold};
 ghost use Rattle.argus_c.specs.Slots.{AreLinesGiven, IsLineTooLong, IsListAnswered, IsNotThere};
 ghost use Rattle.argus_c.specs.Slots.{IsStatusOfLines, IsStatusOfReply, IsTooLong, IsUncalled};
-ghost use Rattle.argus_c.specs.Slots.{AreTaken, HasText, IsResumed, end_status, version_number};
+ghost use Rattle.argus_c.specs.Slots.{AreTaken, HasText, IsResumed, end_status, request_of};
+ghost use Rattle.argus_c.specs.Slots.{version_number};
 ghost use Rattle.argus_embed.specs.{Codes.error_codes, Embedded.{after_renewal, empty_state}};
 ghost use Rattle.argus_embed.specs.Embedded.{IsAbortedInPart, IsBusy, after_abort_live, after_fold};
 ghost use Rattle.argus_embed.specs.Requests.{IsRead, LacksPart};
@@ -98,40 +99,18 @@ pub extern "C" fn argus_c_call(
     number: &mut i64,
 ) -> u32
     ensures made { result < 10 → Becomes slot.old.held.store slot.new.held.store
-        (IsMade (record {
-          kind = kind;
-          action = action;
-          object = object;
-          first = first;
-          second = second;
-        }) text.now (result, number.new)) }
+        (IsMade (request_of kind action object first second) text.now (result, number.new)) }
     ensures unmade { 10 ≤ result → slot.new.held.store ≡ slot.old.held.store }
     ensures not_utf8 { (result ≡ 12) ↔ (IsUtf8 text.now → ⊥) }
     ensures not_open { (result ≡ 11) ↔ (IsUtf8 text.now × (slot.old.held.store ≡ None)) }
-    ensures unread { 10 ≤ result → result ≢ 11 → result ≢ 12 → IsUncalled (record {
-      kind = kind;
-      action = action;
-      object = object;
-      first = first;
-      second = second;
-    }) text.now (result, number.new) }
+    ensures unread { 10 ≤ result → result ≢ 11 → result ≢ 12 → IsUncalled
+        (request_of kind action object first second) text.now (result, number.new) }
     ensures bad_kind { (result ≡ 16)
         ↔ (IsUtf8 text.now × IsSome slot.old.held.store × (CHANGE_TAG_BOOL < kind)) }
     ensures bad_number { (result ≡ 15)
-        ↔ (IsUtf8 text.now × IsSome slot.old.held.store × LacksPart (record {
-          kind = kind;
-          action = action;
-          object = object;
-          first = first;
-          second = second;
-        })) }
-    ensures read { result < 10 → IsRead (record {
-      kind = kind;
-      action = action;
-      object = object;
-      first = first;
-      second = second;
-    }) text.now }
+        ↔ (IsUtf8 text.now × IsSome slot.old.held.store
+        × LacksPart (request_of kind action object first second)) }
+    ensures read { result < 10 → IsRead (request_of kind action object first second) text.now }
     ensures zero { (result ≡ 11) ⊎ (result ≡ 12) → number.new ≡ pos 0 }
 {
     *number = 0;

@@ -3,7 +3,7 @@
 ghost use Rattle.std.specs.Prelude.{IfErr, IfOk, None, pos, ◌<◌, ◌≡◌, ◌≢◌, ◌≤◌, ◌↔◌, ◌⊎◌};
 ghost use Rattle.std.specs.Str.{IsUtf8};
 ghost use Rattle.argus_c.specs.ParsedSlots.{HasParsed, IsMadeFrom, IsStatusOfDrop};
-ghost use Rattle.argus_c.specs.{ParsedSlots.IsStatusOfParsed, Slots.{Becomes, IsUncalled}};
+ghost use Rattle.argus_c.specs.{ParsedSlots.IsStatusOfParsed, Slots.{Becomes, IsUncalled, request_of}};
 ghost use Rattle.argus_embed.specs.{ParsedCall.IsParsed, Requests.IsUnread};
 
 use crate::parsed_slot::ParsedSlot;
@@ -28,24 +28,14 @@ pub extern "C" fn argus_c_parse(
     text: &[u8],
     number: &mut i64,
 ) -> u32
-    ensures done { result ≡ 0 → HasParsed (record {
-      kind = kind;
-      action = action;
-      object = object;
-      first = first;
-      second = second;
-    }) text.now parsed.new.held.store × (number.new ≡ pos 0) }
+    ensures done { result ≡ 0 → HasParsed (request_of kind action object first second) text.now
+        parsed.new.held.store × (number.new ≡ pos 0) }
     ensures same { result ≢ 0 → parsed.new.held.store ≡ parsed.old.held.store }
     ensures beside { beside.new.held.store ≡ beside.old.held.store }
     ensures not_utf8 { (result ≡ 12) ↔ (IsUtf8 text.now → ⊥) }
     ensures not_open { (result ≡ 11) ↔ (IsUtf8 text.now × (beside.old.held.store ≡ None)) }
-    ensures unread { result ≢ 0 → result ≢ 11 → result ≢ 12 → IsUncalled (record {
-      kind = kind;
-      action = action;
-      object = object;
-      first = first;
-      second = second;
-    }) text.now (result, number.new) }
+    ensures unread { result ≢ 0 → result ≢ 11 → result ≢ 12 → IsUncalled
+        (request_of kind action object first second) text.now (result, number.new) }
     ensures zero { (result ≡ 11) ⊎ (result ≡ 12) → number.new ≡ pos 0 }
 {
     *number = 0;

@@ -18,8 +18,7 @@ replies_more journal [] call = refl
 replies_more journal (first ∷ calls) call =
     ap (λ l. reply_to journal first ∷ l) (replies_more (after journal first) calls call)
 
-pub replies_count : (journal : JournalView) (calls : List PlainCall)
-    → length (replies_to journal calls) ≡ length calls
+pub replies_count : (journal : JournalView) (calls : List PlainCall) → length (replies_to journal calls) ≡ length calls
 replies_count journal [] = refl
 replies_count journal (first ∷ calls) = ap (λ n. suc n) (replies_count (after journal first) calls)
 

@@ -3,7 +3,7 @@ use denote.Struct.Declared.{shape, row as declared_row}
 use denote.Param.Send.{IsSend, recorded_send, sendable, struct_send, view_send}
 use Rattle.argus_embed.specs.contracts.embedded.Embedded.{the_row as embedded_row}
 use Rattle.argus_embed.specs.contracts.embedded.Embedded.TheInside.{the_type as embedded_inside}
-use Rattle.argus_embed.specs.contracts.kept.Kept.{the_field as kept_field}
+use Rattle.argus_embed.specs.contracts.kept_answer.KeptAnswer.{the_field as kept_field}
 use Rattle.argus_embed.specs.contracts.parsed_call.ParsedCall.{the_row as parsed_row}
 use Rattle.argus_embed.specs.contracts.parsed_call.ParsedCall.TheInside.{the_type as parsed_inside}
 use Rattle.argus_embed.specs.contracts.ready_embedded.ReadyEmbedded.{the_row as ready_row}

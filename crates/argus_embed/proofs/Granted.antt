@@ -1,20 +1,12 @@
 -- A test that would return yes, as a truth value.
 use Rattle.std.proofs.{Common.{Bool, IsTrue, ap, false, refl, sym, true, ◌↔◌, ◌≡◌}, lemmas.Bool.false≢true}
-use Rattle.argus_values.specs.Answer.{body, done, flag, num, signal, val}
-use Rattle.argus_journal.specs.{Reply.{PlainReply, answered, begun, object, refused}, Events.says_yes}
+use Rattle.argus_values.specs.Answer.{flag}
+use Rattle.argus_journal.specs.{Reply.{PlainReply, answered}, Events.says_yes}
 
 -- what is no yes isn't
 not_yes : (reply : PlainReply) → (reply ≡ answered (flag true) → IsTrue false) → false ≡ says_yes reply
-not_yes (object o) never = refl
-not_yes (begun a) never = refl
-not_yes (refused why) never = refl
-not_yes (answered done) never = refl
-not_yes (answered (val v)) never = refl
-not_yes (answered (num n)) never = refl
-not_yes (answered (flag false)) never = refl
 not_yes (answered (flag true)) never = absurd (false≢true (never refl))
-not_yes (answered (body c)) never = refl
-not_yes (answered (signal s)) never = refl
+not_yes _ never = refl
 
 -- it says yes exactly where it is granted
 pub yes_where : (b : Bool) (reply : PlainReply) → IsTrue b ↔ (reply ≡ answered (flag true)) → b ≡ says_yes reply

@@ -32,8 +32,7 @@ module _ (journal : JournalView) (from at count : ℕ) (before now : List ℕ) (
 
   -- where the last line is past what fits
   pub line_past : (next most size : ℕ) (text : List ℕ) → size ≡ length before → length before ≤ most → at < next
-      → most < length now → text ≡ now
-      → (size ≡ length (lines_from journal from (at - from))) × (size ≤ most)
+      → most < length now → text ≡ now → (size ≡ length (lines_from journal from (at - from))) × (size ≤ most)
       × (((from + (at - from) ≡ next) × (text ≡ lines_from journal from (at - from)))
       ⊎ ((from + (at - from) < next) × (text ≡ lines_from journal from (at - from + 1)) × (most < length text)))
   line_past next most size text sized fits more past same =
@@ -54,10 +53,8 @@ lines_in journal from next most f fitting =
     let lines = lines_from journal from f.count in
     let last = line_at journal (from + f.count) in
     elim fitting.2 [
-      | inl whole ↦
-          ap (λ (t : List ℕ). take f.size t) whole.1 ∙ ap (λ n. take n lines) fitting.0 ∙ take-length lines
-      | inr more ↦
-          ap (λ (t : List ℕ). take f.size t) (more.1 ∙ lines_more journal from f.count)
+      | inl whole ↦ ap (λ (t : List ℕ). take f.size t) whole.1 ∙ ap (λ n. take n lines) fitting.0 ∙ take-length lines
+      | inr more ↦ ap (λ (t : List ℕ). take f.size t) (more.1 ∙ lines_more journal from f.count)
           ∙ ap (λ n. take n (lines ++ last)) fitting.0 ∙ take-append_seam lines last
     ]
 

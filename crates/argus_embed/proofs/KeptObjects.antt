@@ -1,14 +1,15 @@
 -- The objects of a fold, one after another, and that a guardian may begin with copies of them.
-use Rattle.std.proofs.Common.{List, None, Option, Some, [], ap, arith, cond, length, map, refl, subst, suc, sym, take}
-use Rattle.std.proofs.{Common.{true, zero, ℕ, ◌++◌, ◌+◌, ◌<◌, ◌∙◌, ◌∷◌, ◌≡◌, ◌≤◌}, lemmas.Bool.lt-ltb}
+use Rattle.std.proofs.Common.{List, None, Option, Some, [], ap, arith, length, map, refl, suc, sym, take}
+use Rattle.std.proofs.{Common.{true, zero, ℕ, ◌++◌, ◌+◌, ◌<◌, ◌∷◌, ◌≡◌, ◌≤◌}, lemmas.Bool.Decides.nat_tests}
+use Rattle.std.proofs.lemmas.Bool.{lt-ltb}
 use Rattle.std.proofs.{lemmas.List.{length-map, take_all}, lemmas.Option.slice_get_within}
 use Rattle.std.specs.Prelude.{slice_get}
 use Rattle.argus_values.specs.{Content.PlainContent, Shape.PlainShape, contents_declared.content.Content.Content}
 use Rattle.argus_values.specs.{contents_declared.limits.TheConstants.MAX_OBJECTS, contents_declared.shape.Shape.Shape}
 use Rattle.argus_guardian.specs.Objects.{where_declared}
 use Rattle.argus_journal.specs.{Folding.{fold, next_entry_number, with_contents}, JournalFacts.base_of, Legal.Legal}
-use Rattle.argus_journal.specs.{JournalView.{JournalView, next_entry}, Objects.{declared, shape_of, shapes}}
-use Rattle.argus_journal.specs.Opening.{KeepsNumbers, Opening, is_sound, opening_at, opening_with, plain_object}
+use Rattle.argus_journal.specs.{JournalView.{JournalView, next_entry}, Objects.{declared, shape_of}}
+use Rattle.argus_journal.specs.Opening.{KeepsNumbers, Opening, is_sound, opening_with, plain_object}
 use Rattle.argus_journal.specs.{declared.limits.TheConstants.MAX_FIRST_ENTRY, Entry.PlainEntry}
 use Rattle.argus_journal.proofs.Folded.{fold_numbers, fold_sound}
 
@@ -37,8 +38,7 @@ next_taken (y ∷ ys) zero x found = let same : y ≡ x = cc in ap (λ z. z ∷ 
 next_taken (y ∷ ys) (suc n) x found = ap (λ l. y ∷ l) (next_taken ys n x found)
 
 pub one_more : {A : Type 0} (xs : List A) (n : ℕ) (x : A) → slice_get xs n ≡ Some x → take n xs ++ x ∷ [] ≡ take (n + 1) xs
-one_more xs n x found =
-    let more : suc n ≡ n + 1 = omega arith in next_taken xs n x found ∙ ap (λ m. take m xs) more
+one_more xs n x found = grind (arith, nat_tests, next_taken)
 
 -- there is one at each number below their count
 none_past : {A : Type 0} (xs : List A) (n : ℕ) → None ≡ slice_get xs n → n < length xs → ⊥
@@ -51,74 +51,43 @@ module _ (journal : JournalView) where
   objects_kept = (fold journal.opening journal.entries).objects
 
   pub undeclared : (o : ℕ) → None ≡ shape_of journal.opening journal.entries o → None ≡ slice_get objects_kept o
-  undeclared o none =
-      let s = journal.opening in let j = journal.entries in
-      sym (object_past (base_of s j) (shapes s j) o (sym none))
+  undeclared o none = grind (arith, nat_tests, object_past)
 
   -- what is told of an object with a shape is there
   told_there : (o : ℕ) (shape : PlainShape) (content : Option PlainContent)
-      → Some shape ≡ shape_of journal.opening journal.entries o
-      → where_declared journal o content ≡ Some content
-  told_there o shape content found =
-      let s = journal.opening in let j = journal.entries in
-      ap (λ b. cond b (Some content) None)
-      (lt-ltb o (declared s j) (slice_get_within (shapes s j) o shape (sym found)))
+      → Some shape ≡ shape_of journal.opening journal.entries o → where_declared journal o content ≡ Some content
+  told_there o shape content found = grind (arith, nat_tests, lt-ltb, slice_get_within)
 
   pub declared_without_base : (o : ℕ) (shape : PlainShape) → Some shape ≡ shape_of journal.opening journal.entries o
       → None ≡ where_declared journal o (base_of journal.opening journal.entries o) → ⊥
-  declared_without_base o shape found none =
-      let there = told_there o shape (base_of journal.opening journal.entries o) found in cc
+  declared_without_base o shape found none = grind (arith, nat_tests, told_there)
 
   pub object_copied : (o : ℕ) (shape copy : PlainShape) (content base : Option PlainContent)
       → Some shape ≡ shape_of journal.opening journal.entries o
       → Some content ≡ where_declared journal o (base_of journal.opening journal.entries o)
       → copy ≡ shape → base ≡ content → Some (copy, base) ≡ slice_get objects_kept o
-  object_copied o shape copy content base found told same held =
-      let s = journal.opening in let j = journal.entries in
-      let there = told_there o shape (base_of s j o) found in
-      let is : content ≡ base_of s j o = cc in
-      ap (λ (x : PlainShape). Some (x, base)) same ∙ ap (λ (x : Option PlainContent). Some (shape, x)) (held ∙ is)
-      ∙ sym (object_found (base_of s j) (shapes s j) o shape (sym found))
+  object_copied o shape copy content base found told same held = grind (arith, nat_tests, object_found, told_there)
 
   pub none_left : (o end : ℕ) → None ≡ slice_get objects_kept o → o < end
       → end ≡ declared journal.opening journal.entries → ⊥
-  none_left o end none lt is =
-      let s = journal.opening in let j = journal.entries in
-      let count = count_kept (base_of s j) (shapes s j) in
-      none_past objects_kept o none (omega (arith, lt, is, count))
+  none_left o end none lt is = grind (arith, nat_tests, count_kept, none_past)
 
   pub all_kept : (o end : ℕ) → o ≡ end → end ≡ declared journal.opening journal.entries
       → take o objects_kept ≡ objects_kept
-  all_kept o end all is =
-      let s = journal.opening in let j = journal.entries in
-      let count = count_kept (base_of s j) (shapes s j) in
-      take_all o objects_kept (omega (arith, all, is, count))
+  all_kept o end all is = grind (arith, nat_tests, count_kept, take_all)
 
   -- of the journal as it is read
   module _ (s : Opening) (j : List PlainEntry) (opening : s ≡ journal.opening) (entries : j ≡ journal.entries) where
     pub count_read : (n : ℕ) → n ≡ next_entry_number s j → n ≡ next_entry journal
-    count_read n is =
-        is ∙ ap (λ (x : Opening). next_entry_number x j) opening
-        ∙ ap (λ (x : List PlainEntry). next_entry_number journal.opening x) entries
+    count_read n is = grind (arith, nat_tests)
 
     module _ (sound : is_sound s ≡ true) (legal : Legal s j) where
       legal_read : Legal journal.opening journal.entries
-      legal_read =
-          subst (λ (x : List PlainEntry). Legal journal.opening x) entries
-          (subst (λ (x : Opening). Legal x j) opening legal)
+      legal_read = grind (arith, nat_tests)
 
       module _ (copies : List (Shape × Option Content)) (are : map plain_object copies ≡ objects_kept) where
         pub copies_sound : (n : ℕ) → is_sound (opening_with copies 0 n) ≡ true
-        copies_sound n =
-            ap (λ (os : List (PlainShape × Option PlainContent)). is_sound (opening_at os 0 n)) are
-            ∙ fold_sound journal.opening journal.entries
-            (subst (λ (x : Opening). is_sound x ≡ true) opening sound) legal_read
+        copies_sound n = grind (arith, nat_tests, fold_sound)
 
         pub copies_few : KeepsNumbers s → next_entry journal ≤ MAX_FIRST_ENTRY → length copies ≤ MAX_OBJECTS
-        copies_few keeps within =
-            let folded = fold_numbers journal.opening journal.entries
-            (subst (λ (x : Opening). KeepsNumbers x) opening keeps) legal_read within in
-            let few = folded.objects in
-            let same = ap (λ (os : List (PlainShape × Option PlainContent)). length os) are in
-            let count = length-map copies plain_object in
-            omega (arith, few, same, count)
+        copies_few keeps within = grind (arith, nat_tests, length-map, fold_numbers)

@@ -12,7 +12,7 @@ use Rattle.argus_guardian.specs.resume_declared.taken_end.TakenEnd.TheVariants a
 use Rattle.argus_journal.proofs.Within.{actions_within}
 use Rattle.argus_journal.specs.{Call.{PlainCall, abort}, Events.history, JournalView.{JournalView, after}, Legal.Legal}
 use Rattle.argus_journal.specs.{Numbering.all_in_program, Opening.KeepsNumbers}
-use Rattle.argus_model.specs.Event.{Aborted, Accessed, Began, Committed}
+use Rattle.argus_model.specs.Event.{Began}
 use Rattle.argus_model.specs.History.{History, Opened, begun_actions, next_action, ◌▹◌}
 use Rattle.argus_embed.specs.{Embedded.EmbeddedState, Listed.{CanBeRead, IsNoFault, IsTakenBack, IsWhole}}
 use Rattle.argus_embed.specs.{Resuming.{IsEndOf, IsTextTaken}, declared.text_end.TextEnd.TextEnd}
@@ -67,9 +67,7 @@ begun_below : {V : Type 0} (n : ℕ) (h : History V) → next_action h ≤ n →
 begun_below n (Opened k) le = tt
 begun_below n (Began from ▹ h) le =
     below_append n (begun_actions h) (next_action h ∷ []) (begun_below n h (omega (arith, le))) (omega (arith, le), tt)
-begun_below n (Committed a ▹ h) le = begun_below n h le
-begun_below n (Aborted actions ▹ h) le = begun_below n h le
-begun_below n (Accessed a o v ▹ h) le = begun_below n h le
+begun_below n (_ ▹ h) le = begun_below n h le
 
 aborts_read : (journal : JournalView) (actions : List ℕ) → CanBeRead journal → AreBelow (2 ^ 32) actions
     → CanBeRead (after_aborts journal actions)
@@ -126,8 +124,7 @@ module _ (back : ListingsAreTakenBack) (sound : GuardiansAreWhole) (none : Listi
   parts old new piece rest taken listing is =
       let first = take taken.bytes piece in
       let left = drop taken.bytes piece in
-      listing
-      ∙ ap (λ (x : List ℕ). journal_text old.taken ++ (x ++ rest)) (sym (take-append-drop taken.bytes piece))
+      listing ∙ ap (λ (x : List ℕ). journal_text old.taken ++ (x ++ rest)) (sym (take-append-drop taken.bytes piece))
       ∙ ap (λ (x : List ℕ). journal_text old.taken ++ x) (append_assoc first left rest)
       ∙ sym (append_assoc (journal_text old.taken) first (left ++ rest))
       ∙ ap (λ (x : List ℕ). x ++ (left ++ rest)) (sym is.longer)
@@ -140,12 +137,10 @@ module _ (back : ListingsAreTakenBack) (sound : GuardiansAreWhole) (none : Listi
 
     all : rest ≡ [] → journal_text journal ≡ journal_text new.taken ++ left
     all end =
-        parts old new piece rest taken listing is
-        ∙ ap (λ (x : List ℕ). journal_text new.taken ++ (left ++ x)) end
+        parts old new piece rest taken listing is ∙ ap (λ (x : List ℕ). journal_text new.taken ++ (left ++ x)) end
         ∙ ap (λ (x : List ℕ). journal_text new.taken ++ x) (append-nil left)
 
-    told : Ended taken.end new.taken left
-        → IsNoFault taken.end × (rest ≡ [] → IsWhole journal taken.end new)
+    told : Ended taken.end new.taken left → IsNoFault taken.end × (rest ≡ [] → IsWhole journal taken.end new)
     told (whole end nothing) = (
       inl end,
       λ last.

@@ -12,8 +12,7 @@ use Rattle.argus_embed.proofs.CallEach.{calls_more, met_more, replies_count, rep
 pub next_made : (listed : List ListedCall) (old now new : EmbeddedState) (before behind : List PlainReply)
     (calls : List PlainCall) (index : ℕ) (d : ListedCall) (met : Bool) → SayEach old.journal [] listed calls → now ≡ after_nexts old calls
     → before ≡ replies_to old.journal calls → are_met listed (replies_to old.journal calls) ≡ true
-    → length calls ≡ index → index < length listed
-    → (next : IsNext (get_or listed index d) now new before behind met)
+    → length calls ≡ index → index < length listed → (next : IsNext (get_or listed index d) now new before behind met)
     → SayEach old.journal [] listed (calls ++ next.0 ∷ []) × (new ≡ after_nexts old (calls ++ next.0 ∷ []))
     × (behind ≡ replies_to old.journal (calls ++ next.0 ∷ [])) × (are_met listed behind ≡ met)
 next_made listed old now new before behind calls index d met say state replies are count below next =

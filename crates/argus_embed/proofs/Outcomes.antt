@@ -23,8 +23,7 @@ failed_past (each ∷ listed) (suc at) e past = ap (λ (l : List ListedCall). ea
 
 -- one outcome more, in its place
 pub set_next : (listed : List ListedCall) (replies : List PlainReply) (at : ℕ) (d : ListedCall) (r : PlainReply)
-    → at < length listed → at < length replies
-    → set (with_outcomes listed (take at replies)) at
+    → at < length listed → at < length replies → set (with_outcomes listed (take at replies)) at
     (with_codes (get_or (with_outcomes listed (take at replies)) at d) (outcome_codes (outcome_of (get_or replies at r))))
     ≡ with_outcomes listed (take (suc at) replies)
 set_next [] replies at d r here there = absurd (omega arith)

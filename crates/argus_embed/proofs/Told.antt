@@ -10,23 +10,9 @@ use Rattle.argus_embed.specs.{Embedded.EmbeddedState, Resuming.{EndsText, IsEndO
 -- neither what was taken nor the guardian changes
 pub told_same : (end : TakenEnd) (old new : EmbeddedState) (told : TextEnd) → EndsText end old new told
     → (new.taken ≡ old.taken) × (new.journal ≡ old.journal)
-told_same taken.Whole old new told ends =
-    (ap (λ (s : EmbeddedState). s.taken) ends.1, ap (λ (s : EmbeddedState). s.journal) ends.1)
-told_same taken.Torn old new told ends =
-    (ap (λ (s : EmbeddedState). s.taken) ends.1, ap (λ (s : EmbeddedState). s.journal) ends.1)
-told_same taken.OutOfMemory old new told ends =
-    (ap (λ (s : EmbeddedState). s.taken) ends.1, ap (λ (s : EmbeddedState). s.journal) ends.1)
 told_same (taken.Fault (fault.NoText at)) old new told ends =
     (ap (λ (s : EmbeddedState). s.taken) ends.1, ap (λ (s : EmbeddedState). s.journal) ends.1)
-told_same (taken.Fault fault.NotAnOpening) old new told ends =
-    (ap (λ (s : EmbeddedState). s.taken) ends.1, ap (λ (s : EmbeddedState). s.journal) ends.1)
-told_same (taken.Fault (fault.NoLine at)) old new told ends =
-    (ap (λ (s : EmbeddedState). s.taken) ends.1, ap (λ (s : EmbeddedState). s.journal) ends.1)
-told_same (taken.Fault fault.NotNext) old new told ends =
-    (ap (λ (s : EmbeddedState). s.taken) ends.1, ap (λ (s : EmbeddedState). s.journal) ends.1)
-told_same (taken.Fault fault.NotSound) old new told ends =
-    (ap (λ (s : EmbeddedState). s.taken) ends.1, ap (λ (s : EmbeddedState). s.journal) ends.1)
-told_same (taken.Fault (fault.NotTheReply reply)) old new told ends =
+told_same _ old new told ends =
     (ap (λ (s : EmbeddedState). s.taken) ends.1, ap (λ (s : EmbeddedState). s.journal) ends.1)
 
 -- the line is at fault behind the same journal
@@ -37,29 +23,6 @@ fault_told f old new left same faulty = subst (λ (j : JournalView). IsFaulty j 
 -- the end says what it does of the bytes that are left, and of the text that is kept
 pub told_end : (end : TakenEnd) (before old new : EmbeddedState) (left : List ℕ) (told : TextEnd)
     → EndsText end old new told → EndsTaking end old.taken left → old.text ≡ before.text → IsEndOf told before new left
-told_end taken.Whole before old new left told ends has text =
-    subst (λ (t : TextEnd). IsEndOf t before new left) (sym ends.0)
-    (has, ap (λ (s : EmbeddedState). s.text) ends.1 ∙ text)
-told_end taken.Torn before old new left told ends has text =
-    subst (λ (t : TextEnd). IsEndOf t before new left) (sym ends.0)
-    (has, ap (λ (s : EmbeddedState). s.text) ends.1 ∙ text)
-told_end taken.OutOfMemory before old new left told ends has text =
-    subst (λ (t : TextEnd). IsEndOf t before new left) (sym ends.0) (ap (λ (s : EmbeddedState). s.text) ends.1 ∙ text)
-told_end (taken.Fault (fault.NoText at)) before old new left told ends has text =
-    subst (λ (t : TextEnd). IsEndOf t before new left) (sym ends.0) (
-      fault_told (fault.NoText at) old new left (ap (λ (s : EmbeddedState). s.taken) ends.1) has,
-      ap (λ (s : EmbeddedState). s.text) ends.1 ∙ text,
-    )
-told_end (taken.Fault fault.NotAnOpening) before old new left told ends has text =
-    subst (λ (t : TextEnd). IsEndOf t before new left) (sym ends.0) (
-      fault_told fault.NotAnOpening old new left (ap (λ (s : EmbeddedState). s.taken) ends.1) has,
-      ap (λ (s : EmbeddedState). s.text) ends.1 ∙ text,
-    )
-told_end (taken.Fault (fault.NoLine at)) before old new left told ends has text =
-    subst (λ (t : TextEnd). IsEndOf t before new left) (sym ends.0) (
-      fault_told (fault.NoLine at) old new left (ap (λ (s : EmbeddedState). s.taken) ends.1) has,
-      ap (λ (s : EmbeddedState). s.text) ends.1 ∙ text,
-    )
 told_end (taken.Fault fault.NotNext) before old new left told ends has text =
     subst (λ (t : TextEnd). IsEndOf t before new left) (sym ends.0) (
       record {
@@ -68,14 +31,19 @@ told_end (taken.Fault fault.NotNext) before old new left told ends has text =
       },
       ap (λ (s : EmbeddedState). s.text) ends.1 ∙ text,
     )
-told_end (taken.Fault fault.NotSound) before old new left told ends has text =
-    subst (λ (t : TextEnd). IsEndOf t before new left) (sym ends.0) (
-      fault_told fault.NotSound old new left (ap (λ (s : EmbeddedState). s.taken) ends.1) has,
-      ap (λ (s : EmbeddedState). s.text) ends.1 ∙ text,
-    )
 told_end (taken.Fault (fault.NotTheReply reply)) before old new left told ends has text =
     subst (λ (t : TextEnd). IsEndOf t before new left) (sym ends.0) (record {
       reply = reply;
       faulty = fault_told (fault.NotTheReply reply) old new left (ap (λ (s : EmbeddedState). s.taken) ends.1) has;
       kept = ap (λ (s : EmbeddedState). s.text) ends.1;
     })
+told_end (taken.Fault f) before old new left told ends has text =
+    subst (λ (t : TextEnd). IsEndOf t before new left) (sym ends.0) (
+      fault_told f old new left (ap (λ (s : EmbeddedState). s.taken) ends.1) has,
+      ap (λ (s : EmbeddedState). s.text) ends.1 ∙ text,
+    )
+told_end taken.OutOfMemory before old new left told ends has text =
+    subst (λ (t : TextEnd). IsEndOf t before new left) (sym ends.0) (ap (λ (s : EmbeddedState). s.text) ends.1 ∙ text)
+told_end _ before old new left told ends has text =
+    subst (λ (t : TextEnd). IsEndOf t before new left) (sym ends.0)
+    (has, ap (λ (s : EmbeddedState). s.text) ends.1 ∙ text)

@@ -115,8 +115,7 @@ IsUnreadWith (Some action) each e =
 -- the same after these replies, unless there is no such demand
 abbrev pub IsUnreadAfter : List PlainReply → ListedCall → EmbedError → Type 0
 IsUnreadAfter replies each e =
-    ((demand_of each.demand ≡ None) × (e ≡ error.BadDemand))
-    ⊎ ((demand_of each.demand ≢ None)
+    ((demand_of each.demand ≡ None) × (e ≡ error.BadDemand)) ⊎ ((demand_of each.demand ≢ None)
     × IsUnreadWith (action_by replies each.begun_by each.action) each e)
 
 -- the journal with these calls, made one after another
@@ -172,8 +171,7 @@ IsFailed replies (each ∷ listed) e = IsUnreadAfter replies each e ⊎ IsWithou
 
 -- why no more were made, after these replies
 abbrev pub IsEnd : List ListedCall → List PlainReply → ListEnd → Type 0
-IsEnd listed replies Whole =
-    (length replies ≡ length listed) × (are_met listed replies ≡ true)
+IsEnd listed replies Whole = (length replies ≡ length listed) × (are_met listed replies ≡ true)
 IsEnd listed replies Unmet =
     (met : List PlainReply) × ((last : PlainReply) × (replies ≡ met ++ last ∷ [])
     × (are_met listed met ≡ true) × (are_met listed replies ≡ false))

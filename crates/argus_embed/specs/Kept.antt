@@ -1,12 +1,12 @@
 -- The text that is kept.
 use Rattle.std.specs.Prelude.{Bool, List, None, Option, Some, drop, false, length, map, true, ℕ, ◌++◌, ◌<◌, ◌≡◌, ◌≤◌}
 use Rattle.argus_journal.specs.{EntrySpelling.reply_spelling, Reply.plain_reply}
-use Rattle.argus_embed.specs.{Embedded.{reply_lines, reply_text}, declared.kept.Kept.Kept}
-use Rattle.argus_embed.specs.declared.kept.Kept.TheVariants as kept
+use Rattle.argus_embed.specs.{Embedded.{reply_lines, reply_text}, declared.kept_answer.KeptAnswer.KeptAnswer}
+use Rattle.argus_embed.specs.declared.kept_answer.KeptAnswer.TheVariants as kept
 
 -- the text of the reply, a line for each text of the replies, the text itself, or the reply as its
 -- line has it
-abbrev pub kept_text : Kept → Option (List ℕ)
+abbrev pub kept_text : KeptAnswer → Option (List ℕ)
 kept_text kept.Nothing = None
 kept_text (kept.Reply reply) = reply_text (plain_reply reply)
 kept_text (kept.Replies replies) = Some (reply_lines (map plain_reply replies.items))

@@ -37,8 +37,7 @@ SaysQuery kind first (TagValue t) = (kind ≡ TAG_VALUE) × (first ≡ pos t)
 -- an integer, the second number; or it is a truth value, false if that number is 0
 abbrev pub SaysValue : ℕ → ℕ → ℕ → ℕ → ℤ → List ℕ → PlainValue → Type 0
 SaysValue by_text by_int by_bool kind second text v =
-    ((kind ≡ by_text) × (text ≡ spelling v))
-    ⊎ ((kind ≡ by_int) × (v ≡ value.int second))
+    ((kind ≡ by_text) × (text ≡ spelling v)) ⊎ ((kind ≡ by_int) × (v ≡ value.int second))
     ⊎ ((kind ≡ by_bool) × (v ≡ value.bool (not (int_eq second (pos 0)))))
 
 -- the kind, the numbers and the text are those of the change
@@ -48,10 +47,8 @@ SaysChange kind first second text (set_field i v) =
     (first ≡ pos i) × SaysValue SET_FIELD SET_FIELD_INT SET_FIELD_BOOL kind second text v
 SaysChange kind first second text (store i v) =
     (first ≡ i) × SaysValue STORE STORE_INT STORE_BOOL kind second text v
-SaysChange kind first second text (addh v) =
-    SaysValue ADDH ADDH_INT ADDH_BOOL kind second text v
-SaysChange kind first second text (addl v) =
-    SaysValue ADDL ADDL_INT ADDL_BOOL kind second text v
+SaysChange kind first second text (addh v) = SaysValue ADDH ADDH_INT ADDH_BOOL kind second text v
+SaysChange kind first second text (addl v) = SaysValue ADDL ADDL_INT ADDL_BOOL kind second text v
 SaysChange kind first second text remh = kind ≡ REMH
 SaysChange kind first second text reml = kind ≡ REML
 SaysChange kind first second text (set_low i) = (kind ≡ SET_LOW) × (first ≡ i)
@@ -115,8 +112,7 @@ IsRead r text = HasNumbers r × HasText r text
 -- is read, and there may be no memory for it, only if the numbers are those of a call
 abbrev pub IsUnread : Request → List ℕ → EmbedError → Type 0
 IsUnread r text (error.BadText at) =
-    HasNumbers r
-    × (((r.kind ≡ CREATE) × IsFault IsContentText text at)
+    HasNumbers r × (((r.kind ≡ CREATE) × IsFault IsContentText text at)
     ⊎ (TakesValue r.kind × IsFault IsValueText text at))
 IsUnread r text error.BadShape = (r.kind ≡ DECLARE) × (IsShapeText text → ⊥)
 IsUnread r text error.BadNumber = LacksPart r

@@ -34,8 +34,7 @@ IsEndOf text_end.NotAnOpening old new left =
     IsFaulty new.taken left fault.NotAnOpening × (new.text ≡ old.text)
 IsEndOf (text_end.NoLine at) old new left =
     IsFaulty new.taken left (fault.NoLine at) × (new.text ≡ old.text)
-IsEndOf (text_end.NotNext wanted) old new left =
-    IsNotNext new left wanted × (new.text ≡ old.text)
+IsEndOf (text_end.NotNext wanted) old new left = IsNotNext new left wanted × (new.text ≡ old.text)
 IsEndOf text_end.NotSound old new left =
     IsFaulty new.taken left fault.NotSound × (new.text ≡ old.text)
 IsEndOf text_end.NotTheReply old new left = IsNotTheReply new left
@@ -68,8 +67,7 @@ EndsText taken.Whole old new end = (end ≡ text_end.Whole) × (new ≡ old)
 EndsText taken.Torn old new end = (end ≡ text_end.Torn) × (new ≡ old)
 EndsText taken.OutOfMemory old new end = (end ≡ text_end.OutOfMemory) × (new ≡ old)
 EndsText (taken.Fault (fault.NoText at)) old new end = (end ≡ text_end.NoText at) × (new ≡ old)
-EndsText (taken.Fault fault.NotAnOpening) old new end =
-    (end ≡ text_end.NotAnOpening) × (new ≡ old)
+EndsText (taken.Fault fault.NotAnOpening) old new end = (end ≡ text_end.NotAnOpening) × (new ≡ old)
 EndsText (taken.Fault (fault.NoLine at)) old new end = (end ≡ text_end.NoLine at) × (new ≡ old)
 EndsText (taken.Fault fault.NotNext) old new end =
     (end ≡ text_end.NotNext (next_entry old.taken)) × (new ≡ old)

@@ -13,7 +13,7 @@ use crate::counting::actions_begun;
 use crate::embed_error::EmbedError;
 use crate::embedded::Embedded;
 use crate::journal_writing::{entry_text, listing_text};
-use crate::kept::Kept;
+use crate::kept_answer::KeptAnswer;
 use crate::object_writing::{base_text, readers_text, shape_text, versions_text};
 use crate::outcome::Outcome;
 use crate::question::Question;
@@ -118,7 +118,7 @@ impl Embedded {
     {
         match text {
             Some(text) => {
-                let _before = replace(&mut self.kept, Kept::Text(text));
+                let _before = replace(&mut self.kept, KeptAnswer::Text(text));
                 Ok(Outcome::Text)
             }
             None => Err(EmbedError::NotThere),

@@ -7,7 +7,7 @@ ghost use Rattle.argus_journal.specs.Reply.{plain_reply};
 
 use crate::embed_error::EmbedError;
 use crate::embedded::Embedded;
-use crate::kept::Kept;
+use crate::kept_answer::KeptAnswer;
 use crate::outcome::Outcome;
 use crate::reporting::outcome_of;
 use crate::request::Request;
@@ -49,7 +49,7 @@ impl Embedded {
         ensures kept { self.new ≡ with_reply self.old (plain_reply reply) }
     {
         let outcome = outcome_of(&reply);
-        let _before = replace(&mut self.kept, Kept::Reply(reply));
+        let _before = replace(&mut self.kept, KeptAnswer::Reply(reply));
         outcome
     }
 }

@@ -11,7 +11,7 @@ use crate::calls_made::CallsMade;
 use crate::demand::Demand;
 use crate::embed_error::EmbedError;
 use crate::embedded::Embedded;
-use crate::kept::Kept;
+use crate::kept_answer::KeptAnswer;
 use crate::list_end::ListEnd;
 use crate::listed_call::ListedCall;
 use crate::listed_reading::listed_call_of;
@@ -105,7 +105,7 @@ impl Embedded {
         if replies.is_empty() {
             return;
         }
-        let _before = replace(&mut self.kept, Kept::Replies(replies));
+        let _before = replace(&mut self.kept, KeptAnswer::Replies(replies));
     }
 }
 

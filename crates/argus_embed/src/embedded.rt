@@ -3,7 +3,7 @@
 ghost use Rattle.std.specs.Prelude.{◌≡◌};
 ghost use Rattle.argus_embed.specs.Embedded.{empty_state};
 
-use crate::kept::Kept;
+use crate::kept_answer::KeptAnswer;
 use argus_guardian::{Guardian, Resuming};
 use argus_values::Heap;
 use std::marker::Model;
@@ -22,7 +22,7 @@ use std::marker::Model;
 pub struct Embedded {
     pub(crate) heap: Heap,
     pub(crate) guardian: Guardian,
-    pub(crate) kept: Kept,
+    pub(crate) kept: KeptAnswer,
     pub(crate) taken: Resuming,
 }
 
@@ -52,7 +52,7 @@ impl Embedded {
         Embedded {
             heap,
             guardian: Guardian::new(heap),
-            kept: Kept::Nothing,
+            kept: KeptAnswer::Nothing,
             taken: Resuming::new(heap),
         }
     }

@@ -20,7 +20,7 @@ mod demand;
 mod embed_error;
 mod embedded;
 mod journal_writing;
-mod kept;
+mod kept_answer;
 pub mod kinds;
 pub mod laws;
 mod lines;

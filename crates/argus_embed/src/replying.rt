@@ -8,7 +8,7 @@ ghost use Rattle.argus_embed.specs.Embedded.{answer_text, reply_lines, reply_tex
 ghost use Rattle.argus_journal.specs.{EntrySpelling.reply_spelling, Reply.plain_reply};
 
 use crate::embedded::Embedded;
-use crate::kept::Kept;
+use crate::kept_answer::KeptAnswer;
 use argus_journal::{Reply, write_reply};
 use argus_values::{Answer, Heap, OutOfMemory, Room, Value, write_content, write_value};
 
@@ -27,17 +27,17 @@ impl Embedded {
         ensures there { OnErr result (self.now.text ≢ None) }
     {
         match &self.kept {
-            Kept::Nothing => Ok(None),
-            Kept::Text(text) => Ok(Some(put(room, text.as_slice()))),
-            Kept::Reply(reply) => match reply_bytes(self.heap, reply)? {
+            KeptAnswer::Nothing => Ok(None),
+            KeptAnswer::Text(text) => Ok(Some(put(room, text.as_slice()))),
+            KeptAnswer::Reply(reply) => match reply_bytes(self.heap, reply)? {
                 Some(text) => Ok(Some(put(room, text.as_slice()))),
                 None => Ok(None),
             },
-            Kept::Given(reply) => {
+            KeptAnswer::Given(reply) => {
                 let text = given_bytes(self.heap, reply)?;
                 Ok(Some(put(room, text.as_slice())))
             }
-            Kept::Replies(replies) => {
+            KeptAnswer::Replies(replies) => {
                 let lines = lines_bytes(self.heap, replies.as_slice())?;
                 Ok(Some(put(room, lines.as_slice())))
             }

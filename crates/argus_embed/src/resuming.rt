@@ -7,7 +7,7 @@ ghost use Rattle.argus_embed.specs.declared.embed_error.EmbedError.TheVariants.{
 
 use crate::embed_error::EmbedError;
 use crate::embedded::Embedded;
-use crate::kept::Kept;
+use crate::kept_answer::KeptAnswer;
 use crate::text_end::TextEnd;
 use crate::text_taken::TextTaken;
 use argus_guardian::{LineFault, Opened, Resuming, Taken, TakenEnd};
@@ -49,7 +49,7 @@ impl Embedded {
         match replace(&mut self.taken, Resuming::new(self.heap)).into_guardian() {
             Ok(Opened { guardian, dropped }) => {
                 let _before = replace(&mut self.guardian, guardian);
-                let _text = replace(&mut self.kept, Kept::Nothing);
+                let _text = replace(&mut self.kept, KeptAnswer::Nothing);
                 Ok(dropped)
             }
             Err(taken) => {
@@ -80,7 +80,7 @@ impl Embedded {
             TakenEnd::Fault(LineFault::NotNext) => TextEnd::NotNext(self.taken.next_entry()),
             TakenEnd::Fault(LineFault::NotSound) => TextEnd::NotSound,
             TakenEnd::Fault(LineFault::NotTheReply(reply)) => {
-                let _before = replace(&mut self.kept, Kept::Given(reply));
+                let _before = replace(&mut self.kept, KeptAnswer::Given(reply));
                 TextEnd::NotTheReply
             }
         }

@@ -23,6 +23,5 @@ loop-o-preserved c =
 
 pub returns : goal.returns
 returns c =
-    c.loop-o.invariant
-    ∙ all_kept c.args.guardian.now c.loop-o.o c.objects-o-end.result
+    c.loop-o.invariant ∙ all_kept c.args.guardian.now c.loop-o.o c.objects-o-end.result
     (omega (arith, c.loop-o-test.false, c.loop-o.auto.o-end)) c.objects-o-end.ensures

@@ -4,5 +4,4 @@ use Rattle.argus_journal.specs.{Folding.fold, Opening.plain_object}
 use Rattle.argus_embed.proofs.renewing.kept_objects.Given as goal
 
 abbrev pub invariant-loop-o : goal.invariant-loop-o
-invariant-loop-o l =
-    map plain_object l.objects.items ≡ take l.o (fold l.guardian.opening l.guardian.entries).objects
+invariant-loop-o l = map plain_object l.objects.items ≡ take l.o (fold l.guardian.opening l.guardian.entries).objects

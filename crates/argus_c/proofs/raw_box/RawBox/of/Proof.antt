@@ -114,8 +114,7 @@ module _ (E : Bx) (dx : Dict) where
         move ! (3 ∷ []) $ fsplit ! $ box_in E ! d b' o' v.value refl refl $
         use1 𝓛 (‵ (To.own_val made (word E hw b' o' ∷ []))) (id⊢ 𝓤 _) $ move ! (1 ∷ []) $ drop ! $
         suffices ! _ (ends_at 𝓛 ended stayed held z (word E hw b' o') made ((tt, (tt, tt)), tt) (tt, tt)) $
-        says ! refl $
-        nothing ! $ nothing ! $ fjoin ! $ join ! $ move ! (1 ∷ 0 ∷ []) $ join ! $ done !)))))))))))))
+        says ! refl $ nothing ! $ nothing ! $ fjoin ! $ join ! $ move ! (1 ∷ 0 ∷ []) $ join ! $ done !)))))))))))))
 
 pub of_spec : {M : Type 1} → stated.statement M
 unfolding tables_of

@@ -9,5 +9,4 @@ pub returns-clause-resumed : goal.returns-clause-resumed
 returns-clause-resumed c =
     let seen = ap (λ (s : EmbeddedState). s.journal) c.self.view_is in
     taken_back c.listings_are_taken_back.ensures.taken c.listings_are_taken_back.ensures.whole
-    c.listings_have_no_fault.ensures c.args.self.now.journal
-    (subst IsListable seen c.guardians_are_listable.ensures)
+    c.listings_have_no_fault.ensures c.args.self.now.journal (subst IsListable seen c.guardians_are_listable.ensures)

@@ -1,4 +1,4 @@
-//! `Kept`: what an embedded guardian keeps of the last call, or of the last question.
+//! `KeptAnswer`: what an embedded guardian keeps of the last call, or of the last question.
 
 use argus_journal::Reply;
 use argus_values::Room;
@@ -7,7 +7,7 @@ use argus_values::Room;
 /// are made when they are asked for, so that no memory is needed between a call and its reply; or
 /// the text of a question's answer.
 #[derive(Drop)]
-pub(crate) enum Kept {
+pub(crate) enum KeptAnswer {
     Nothing,
     Reply(Reply),
     Replies(Vec<Reply, Room>),
