@@ -90,9 +90,7 @@ impl<K: Callee> Client<K> {
 
     /// Declares a record of one integer, the next object, which a topaction of its own creates as 0.
     pub(crate) fn declare_record(&mut self, o: ObjId) -> Result<(), BenchError> {
-        let Some(shape) = read_shape(self.heap, "atomic_record[n:int]")? else {
-            return Err(BenchError::OtherReply);
-        };
+        let shape = read_shape(self.heap, "atomic_record[n:int]")?.ok_or(BenchError::OtherReply)?;
         self.callee.answer(Call::Declare(shape))?;
         let Ok(zero) = read_content(self.heap, "{0}") else {
             return Err(BenchError::OutOfMemory);

@@ -88,9 +88,7 @@ fn time_parts<N: Sharing + Send + Sync, R: Threads + Wait + Clock + Drop + Send 
         mut seats,
         lookers,
     } = parts;
-    let Some(last) = seats.pop() else {
-        return Err(BenchError::BadCount);
-    };
+    let last = seats.pop().ok_or(BenchError::BadCount)?;
     match work {
         Work::Alone(turn, _) | Work::Seat(turn) => time_seat(rt, heap, &shared, last, turn, turns),
         Work::Threads(manner, _) => time_threads(rt, heap, &shared, last, seats, manner, turns),

@@ -39,8 +39,7 @@ some_is_not_none t is =
 -- an entry that is an argument's, and its first value
 read_of : (c : Command) (f : Found) (id t : Text) (x : MatchedArg) (e : Entry) → groups_of c ≡ [] → (id ≡ [] → ⊥)
     → e.1 ≡ x → e.0.now ≡ id → EntryPasses c e → option_map (λ s. read_as x.reading s.now)
-    (slice_get x.vals.items 0) ≡ Some t
-    → IsRead c id t
+    (slice_get x.vals.items 0) ≡ Some t → IsRead c id t
 read_of c f id t x e no_groups named same key pass first =
     let no_group : e.1.is_group ≡ true → ⊥ = λ g. elim (pass.3 g) [
       | inl empty ↦ named (sym key ∙ empty)
@@ -127,15 +126,13 @@ module _ (c : Command) (p : IsProgram c) (m : ArgMatches) (parsed : IsParsedFrom
   same_rules : (k j : ℕ) (d x : Arg) → k < 4 → IsAlone k → (id_at k ≡ codes "help" → ⊥)
       → (id_at k ≡ codes "version" → ⊥)
       → j < length (args_of parsed.built) → slice_index_or (args_of parsed.built) j x ≡ x
-      → bytes_eq x.id.now (id_at k) ≡ true
-      → SameRules (slice_index_or (args_of c) k d) x
+      → bytes_eq x.id.now (id_at k) ≡ true → SameRules (slice_index_or (args_of c) k d) x
   same_rules k j d x lt alone no_help no_version below at same =
       let four = are_four c p m parsed in
       let id = id_is k d lt in
       same_rules_by_id c m parsed k d (omega (arith, four))
       (λ i e under eq. alone i (omega (arith, four)) (rw (id_is i e (omega (arith, four)), id) at eq))
-      (λ auto. elim auto [ inl h ↦ no_help (sym id ∙ h) | inr h ↦ no_version (sym id ∙ h) ])
-      j x below at (rw id same)
+      (λ auto. elim auto [ inl h ↦ no_help (sym id ∙ h) | inr h ↦ no_version (sym id ∙ h) ]) j x below at (rw id same)
 
   accepted : (k : ℕ) (q : ValueParser) (t : Text) → k < 4 → IsAlone k → (id_at k ≡ codes "help" → ⊥)
       → (id_at k ≡ codes "version" → ⊥)
@@ -166,8 +163,7 @@ pub record IsWithin (least most other n : ℕ) (text : Option Text) : Type 0 whe
 
 module _ (E : Type 0) (G : Text → Result ℕ E → Type 0) (only : (u : Text) (x : Result ℕ E) → G u x
     → ParsesUnsigned 32 10 u x) where
-  pub number_read : (low high other n : ℕ) (o : Option Text) (r : Option ℕ) → low ≤ other → other ≤ high
-      → high < 2 ^ 32
+  pub number_read : (low high other n : ℕ) (o : Option Text) (r : Option ℕ) → low ≤ other → other ≤ high → high < 2 ^ 32
       → (o ≡ None → r ≡ None) → ((t : Text) → o ≡ Some t → ReadsOne G t r)
       → ((t : Text) → o ≡ Some t → (v : Text) × (t ≡ without_minus v) × IsSignedIn (pos low) (pos high) v)
       → n ≡ unwrap_or r other → IsWithin low high other n o
@@ -195,8 +191,7 @@ module _ (c : Command) (p : IsProgram c) (m : ArgMatches) (parsed : IsParsedFrom
 
   pub patience_accepted : (t : Text) → one_text (found_of m) (codes "patience") ≡ Some t
       → (v : Text) × (t ≡ without_minus v) × IsSignedIn (pos 0) (pos MAX_PATIENCE) v
-  patience_accepted t is = accepted c p m parsed 1 (vp.Signed (pos 0) (pos MAX_PATIENCE)) t
-      (omega arith) patience_alone
+  patience_accepted t is = accepted c p m parsed 1 (vp.Signed (pos 0) (pos MAX_PATIENCE)) t (omega arith) patience_alone
       (λ e. let bad : 112 ≡ 104 = ap (λ (l : Text). slice_index_or l 0 0) e in absurd (omega arith))
       (λ e. let bad : 112 ≡ 118 = ap (λ (l : Text). slice_index_or l 0 0) e in absurd (omega arith))
       (λ e. let bad : 112 ≡ 0 = ap (λ (l : Text). slice_index_or l 0 0) e in absurd (omega arith))

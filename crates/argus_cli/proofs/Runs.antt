@@ -76,8 +76,7 @@ module _ (options : Options) (limit : ℕ) (before after : RunStreams) (bytes : 
   -- the listing was cut short
   pub partly_listed : {T : Type 0} (result : Result T CliFault) (text : List ℕ) → ListsRun bytes options text
       → after.input_failed ≡ false → OnErr result ((n : ℕ) × Appends before.output after.output (take n text))
-      → IfErr result (λ e. IsListingFault e after.output_failed)
-      → IfErr result (RunFailed options limit before after)
+      → IfErr result (λ e. IsListingFault e after.output_failed) → IfErr result (RunFailed options limit before after)
   partly_listed (Ok done) text lists fine written failed = tt
   partly_listed (Err (fault.Script f)) text lists fine written failed = absurd failed
   partly_listed (Err fault.Memory) text lists fine written failed =

@@ -28,8 +28,7 @@ checkpointed true j = if may_fold j then after_checkpoint j else j
 -- The bytes spell the script without a faulty line, and its run after a new journal, with the
 -- options, leaves this one: with one worker the arms of a coenter run one after another.
 pub record RunsTo (bytes : List ℕ) (options : Options) (script : PlainScript)
-    (journal : JournalView)
-    : Type 0 where
+    (journal : JournalView) : Type 0 where
   pub spelled : Spells (lines_of bytes) script
   pub fine : NoFault (lines_of bytes)
   pub left : JournalView
@@ -77,8 +76,7 @@ pub record Unlisted (limit : ℕ) (before after : RunStreams) : Type 0 where
 
 -- what a run that failed like this has read and written
 abbrev pub RunFailed : Options → ℕ → RunStreams → RunStreams → CliFault → Type 0
-RunFailed options limit before after (fault.Script f) =
-    AreFine after × Refused limit before after f
+RunFailed options limit before after (fault.Script f) = AreFine after × Refused limit before after f
 RunFailed options limit before after fault.Memory =
     AreFine after × (Unlisted limit before after ⊎ CutShort options limit before after)
 RunFailed options limit before after fault.Read =

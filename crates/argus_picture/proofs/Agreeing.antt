@@ -63,6 +63,5 @@ module _ (there named : List PlainShape) (n : ℕ) (same : take n there ≡ take
     -- the journal has it with the same shape
     pub next_agrees : other ≡ shape → take (n + 1) there ≡ take (n + 1) named
     next_agrees e =
-        take_more there n other within
-        ∙ ap₂ (λ x y. x ++ y ∷ []) same (sym here ∙ e ∙ at)
+        take_more there n other within ∙ ap₂ (λ x y. x ++ y ∷ []) same (sym here ∙ e ∙ at)
         ∙ sym (take_more named n shape below)

@@ -13,5 +13,4 @@ escaped_step out text rest c u e =
 pub escaped_end : (out text : List ℕ) → length text ≡ 0 → out ++ escaped text ≡ out
 escaped_end out text e =
     ap (λ (x : List ℕ). out ++ escaped x) (nil_from_length text e)
-    ∙ ap (λ (cs : List ℕ). out ++ flat_map escape cs) chars-nil
-    ∙ append-nil out
+    ∙ ap (λ (cs : List ℕ). out ++ flat_map escape cs) chars-nil ∙ append-nil out

@@ -87,14 +87,12 @@ opens at next rest actions e f o n = inl (record {
   none = e;
   form = f;
   is = refl;
-  to = place_is next next.first 0 0 refl (o ∙ ap (λ (p : Place). p.objects) e)
-      (n ∙ ap (λ (p : Place). p.entries) e);
+  to = place_is next next.first 0 0 refl (o ∙ ap (λ (p : Place). p.objects) e) (n ∙ ap (λ (p : Place). p.entries) e);
 })
 
 -- the text is that of the opening's next object
 pub adds : (at next : Place) (rest : List ℕ) (o : ℕ) (shape : PlainShape) (content : Option PlainContent)
-    → at.entries ≡ 0 → 0 < at.first
-    → (o ≡ at.objects) × (o < MAX_OBJECTS) × (may_fit shape content ≡ true)
+    → at.entries ≡ 0 → 0 < at.first → (o ≡ at.objects) × (o < MAX_OBJECTS) × (may_fit shape content ≡ true)
     → IsForm ObjectLines (o, (shape, content)) rest
     → next ≡ record { first = at.first; objects = at.objects + 1; entries = at.entries }
     → IsNextOfOpening at next (codes "opening " ++ rest)

@@ -89,8 +89,7 @@ read_whole at line rest listing most e r = record {
 }
 
 pub read_torn : (at : Place) (line : ℕ) (rest listing : List ℕ) → length listing ≤ MAX_BYTES → 0 < length rest
-    → parts rest ≡ rest ∷ [] → ReadTo at line rest listing
-    → IsTorn listing (record { line = line; kind = kind.Torn })
+    → parts rest ≡ rest ∷ [] → ReadTo at line rest listing → IsTorn listing (record { line = line; kind = kind.Torn })
 read_torn at line rest listing most n e r = record {
   line = rest;
   place = at;

@@ -29,11 +29,9 @@ SaysOf kind.TooLong at line = (MAX_ENTRIES ≤ at.entries) × IsEntryLine line
 SaysOf kind.Torn at line = ⊥
 SaysOf (kind.NoText b) at line = (IsUtf8 line → ⊥) × IsValidUpTo line b
 SaysOf kind.NotAnOpening at line = IsOfOpening line × IsNoOpening at line
-SaysOf (kind.NoLine b) at line =
-    (IsOfOpening line → ⊥) × (IsNoLine line b ⊎ LacksShape line b)
+SaysOf (kind.NoLine b) at line = (IsOfOpening line → ⊥) × (IsNoLine line b ⊎ LacksShape line b)
 SaysOf kind.NotNext at line = (at.entries < MAX_ENTRIES) × HasOtherNumber at line
-SaysOf kind.Unlawful at line =
-    (at.entries < MAX_ENTRIES) × IsNumbered (at.first + at.entries) line
+SaysOf kind.Unlawful at line = (at.entries < MAX_ENTRIES) × IsNumbered (at.first + at.entries) line
 
 -- what an error says about such a line; `OutOfMemory` says nothing
 abbrev pub SaysOfLine : LineError → Place → List ℕ → Type 0
@@ -54,8 +52,7 @@ pub record IsTooLarge (listing : List ℕ) (fault : ListingFault) : Type 0 where
 -- listing's, which has come to this place; the fault's number counts lines from 1; `behind` are the
 -- parts after the line
 pub record IsAt (fault : ListingFault) (at : Place) (line : List ℕ) (behind : List (List ℕ))
-    (text : List ℕ)
-    : Type 0 where
+    (text : List ℕ) : Type 0 where
   pub most : length text ≤ MAX_BYTES
   pub front : List (List ℕ)
   pub number : fault.line ≡ length front + 1

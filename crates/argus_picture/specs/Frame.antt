@@ -43,12 +43,8 @@ table_line frame line = lane_top frame frame.lanes + 28 + 16 * line
 -- is one for how many more there are
 abbrev pub lines_for : ℕ → ℕ
 lines_for commits =
-    if nat_lt commits 1 then 0
-    else if nat_lt commits 6 then 1
-    else if nat_lt commits 11 then 2
-    else if nat_lt commits 16 then 3
-    else if nat_lt commits 21 then 4
-    else 5
+    if nat_lt commits 1 then 0 else if nat_lt commits 6 then 1 else if nat_lt commits 11 then 2
+    else if nat_lt commits 16 then 3 else if nat_lt commits 21 then 4 else 5
 
 -- the width of the picture
 abbrev pub width_of : Frame → ℕ

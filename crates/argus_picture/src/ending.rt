@@ -34,9 +34,9 @@ impl<'a> Run<'a> {
 
     // Takes the first strip of the object's lane in which no lock is held.
     fn take_strip(&mut self, object: usize) -> Option<u32> {
-        let told = self.objects.get_mut(object)?;
-        let strip = first_free(&told.strips, 0);
-        mark(&mut told.strips, strip, true);
+        let drawn = self.objects.get_mut(object)?;
+        let strip = first_free(&drawn.strips, 0);
+        mark(&mut drawn.strips, strip, true);
         if strip.is_none() {
             self.without_strip = self.without_strip.saturating_add(1);
         }
@@ -71,8 +71,8 @@ impl<'a> Run<'a> {
         self.live.held.remove(&lock_key(action, asked));
         self.live.locks.remove(action, at);
         self.live.holders.remove(object, at);
-        if let Some(told) = self.objects.get_mut(object) {
-            mark(&mut told.strips, strip, false);
+        if let Some(drawn) = self.objects.get_mut(object) {
+            mark(&mut drawn.strips, strip, false);
         }
         if asked.object >= MAX_LANES {
             self.live.spare.push(at)?;
@@ -204,15 +204,15 @@ impl<'a> Run<'a> {
         let Some(hold) = self.holds.get(at) else {
             return;
         };
-        let Some(told) = self.objects.get_mut(hold.asked.object as usize) else {
+        let Some(drawn) = self.objects.get_mut(hold.asked.object as usize) else {
             return;
         };
-        for _ in 0..told.writes.len() {
-            let Some((action, _)) = told.writes.last() else {
+        for _ in 0..drawn.writes.len() {
+            let Some((action, _)) = drawn.writes.last() else {
                 return;
             };
             match self.actions.get(*action) {
-                Some(action) if action.fate.is_aborted() => told.writes.pop(),
+                Some(action) if action.fate.is_aborted() => drawn.writes.pop(),
                 Some(_) | None => return,
             };
         }

@@ -101,7 +101,7 @@ fn draw_access(pen: &mut Pen, run: &Run<'_>, access: &Access<'_>) {
     pen.put_action(run.number(access.action));
     if access.asked.writes {
         let (owner, fate) = run.owner(access.action);
-        let (class, sign, before, behind) = told(fate);
+        let (class, sign, before, behind) = mark_of(fate);
         pen.put(" writes ");
         pen.put_name(lane);
         pen.put(before);
@@ -120,9 +120,9 @@ fn draw_access(pen: &mut Pen, run: &Run<'_>, access: &Access<'_>) {
     pen.put("</g>\n");
 }
 
-// How a change is told that an action of this fate has: the class of its sign, the sign's shape, and
-// what the title says before and behind the action.
-fn told(fate: Fate) -> (&'static str, &'static str, &'static str, &'static str) {
+// The mark of a change by an action of this fate: the class of its sign, the sign's shape, and what
+// the title says before and behind the action.
+fn mark_of(fate: Fate) -> (&'static str, &'static str, &'static str, &'static str) {
     match fate {
         Fate::Committed => ("kept", SQUARE, ", for good since ", " committed"),
         Fate::Live => ("version", SQUARE, ", in a version of ", ""),

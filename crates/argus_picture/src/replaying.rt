@@ -20,8 +20,8 @@ impl Run<'_> {
         object: u32,
         change: Change,
     ) -> Result<(), OutOfMemory> {
-        if let Some(told) = self.objects.get_mut(object as usize) {
-            told.writes.push((action, change))?;
+        if let Some(drawn) = self.objects.get_mut(object as usize) {
+            drawn.writes.push((action, change))?;
         }
         Ok(())
     }
@@ -29,10 +29,10 @@ impl Run<'_> {
     /// Applies the changes that the action has made, or got, to the object's base, and records the
     /// commit.
     pub(crate) fn settle(&mut self, place: usize, object: u32) -> Result<(), CallError> {
-        let Some(told) = self.objects.get_mut(object as usize) else {
+        let Some(drawn) = self.objects.get_mut(object as usize) else {
             return Ok(());
         };
-        for (action, change) in replace(&mut told.writes, Vec::new(self.heap.room())) {
+        for (action, change) in replace(&mut drawn.writes, Vec::new(self.heap.room())) {
             self.settle_change(action, change, place, object)?;
         }
         Ok(self.note_settling(object)?)
@@ -49,12 +49,12 @@ impl Run<'_> {
     ) -> Result<(), CallError> {
         let declared = self.objects.len().min(65_535) as u32;
         let (owner, fate) = self.owner(action);
-        let Some(told) = self.objects.get_mut(object as usize) else {
+        let Some(drawn) = self.objects.get_mut(object as usize) else {
             return Ok(());
         };
         match fate {
-            Fate::Live if owner == place => told.make_for_good(self.heap, declared, &change),
-            Fate::Live => Ok(told.writes.push((action, change))?),
+            Fate::Live if owner == place => drawn.make_for_good(self.heap, declared, &change),
+            Fate::Live => Ok(drawn.writes.push((action, change))?),
             Fate::Committed
             | Fate::AbortedAlone
             | Fate::AbortedWithAncestor
@@ -64,13 +64,13 @@ impl Run<'_> {
 
     // Records what the commit leaves in the object's base, as far as it is shown.
     fn note_settling(&mut self, lane: u32) -> Result<(), OutOfMemory> {
-        let Some(told) = self.objects.get(lane as usize) else {
+        let Some(drawn) = self.objects.get(lane as usize) else {
             return Ok(());
         };
         if lane >= MAX_LANES {
             return Ok(());
         }
-        let base = beginning_of(self.heap, &told.base, title_letters(self.entries))?;
+        let base = beginning_of(self.heap, &drawn.base, title_letters(self.entries))?;
         self.settlings.push(Settling {
             lane,
             at: self.entries,

@@ -1,6 +1,6 @@
 //! Lines of entries: read, copied, and written again.
 
-use crate::row_fault::RowFault;
+use crate::row_fault::{Result, RowFault};
 use crate::setting::Setting;
 use crate::telling::{tell_number, tell_word};
 use argus_guardian::{ReadEntryError, read_entry};
@@ -12,11 +12,7 @@ const BEFORE: &str = "before ";
 
 /// `same` if the line is read, and its copy is written again as it was; the place of the fault; or
 /// the place where a shape had to begin.
-pub(crate) fn tell_line(
-    setting: Setting,
-    text: &str,
-    out: &mut String<Room>,
-) -> Result<(), RowFault> {
+pub(crate) fn tell_line(setting: Setting, text: &str, out: &mut String<Room>) -> Result<()> {
     setting.limit();
     let (word, fault) = match read_entry(setting.heap, text) {
         Ok((number, entry)) => return tell_written(setting, text, number, &entry, out),
@@ -35,7 +31,7 @@ fn tell_written(
     number: u64,
     entry: &Entry,
     out: &mut String<Room>,
-) -> Result<(), RowFault> {
+) -> Result<()> {
     let copy = entry.duplicate(setting.heap)?;
     let mut written = String::from_str(setting.heap.room(), BEFORE)?;
     match write_entry(number, &copy, &mut written) {

@@ -22,6 +22,9 @@ pub(crate) enum RowFault {
     NeverAnswered,
 }
 
+/// What comes of a row, or why it has no answer.
+pub(crate) type Result<T> = std::result::Result<T, RowFault>;
+
 impl RowFault {
     /// What is printed in place of an answer.
     pub(crate) fn as_str(self) -> &'static str {

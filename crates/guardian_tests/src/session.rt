@@ -2,7 +2,7 @@
 
 use crate::call_reading::{call_of, reply_of};
 use crate::each_call::{calls_of, push_receipts};
-use crate::row_fault::RowFault;
+use crate::row_fault::{Result, RowFault};
 use crate::setting::Setting;
 use crate::sharing::budgets;
 use crate::telling::{tell_checkpoint, tell_content, tell_number, tell_reply, tell_word};
@@ -59,7 +59,7 @@ impl<N: Sharing + Send + Sync, R: Threads + Wait + Copy + Drop + Send + Sync> Se
         setting: Setting,
         is_tight: bool,
         asked: &str,
-    ) -> Result<String<Room>, RowFault> {
+    ) -> Result<String<Room>> {
         let seen = self.seen(setting.texts)?;
         self.before = self.receipts.len();
         for allowed in budgets(is_tight) {
@@ -80,7 +80,7 @@ impl<N: Sharing + Send + Sync, R: Threads + Wait + Copy + Drop + Send + Sync> Se
     }
 
     // What all lookers see of the first three objects.
-    fn seen(&mut self, texts: Heap) -> Result<String<Room>, RowFault> {
+    fn seen(&mut self, texts: Heap) -> Result<String<Room>> {
         let mut out = String::new(texts.room());
         for looker in self.lookers.iter_mut() {
             tell_look(looker, texts, &[ObjId(0), ObjId(1), ObjId(2)], &mut out)?;
@@ -94,7 +94,7 @@ impl<N: Sharing + Send + Sync, R: Threads + Wait + Copy + Drop + Send + Sync> Se
         setting: Setting,
         asked: &str,
         out: &mut String<Room>,
-    ) -> Result<(), RowFault> {
+    ) -> Result<()> {
         let (word, rest) = first_word(asked);
         match word {
             "look" => self.look(setting, rest, out),
@@ -122,10 +122,8 @@ impl<N: Sharing + Send + Sync, R: Threads + Wait + Copy + Drop + Send + Sync> Se
         setting: Setting,
         asked: &str,
         out: &mut String<Room>,
-    ) -> Result<(), RowFault> {
-        let Some(shared) = &self.shared else {
-            return Err(RowFault::NotSpelled);
-        };
+    ) -> Result<()> {
+        let shared = self.shared.as_ref().ok_or(RowFault::NotSpelled)?;
         let (word, rest) = first_word(asked);
         setting.limit();
         let is_shown = match word {
@@ -150,7 +148,7 @@ impl<N: Sharing + Send + Sync, R: Threads + Wait + Copy + Drop + Send + Sync> Se
         setting: Setting,
         asked: &str,
         out: &mut String<Room>,
-    ) -> Result<(), RowFault> {
+    ) -> Result<()> {
         let Session {
             shared,
             seats,
@@ -158,18 +156,15 @@ impl<N: Sharing + Send + Sync, R: Threads + Wait + Copy + Drop + Send + Sync> Se
             before,
             ..
         } = self;
-        let Some(shared) = shared else {
-            return Err(RowFault::NotSpelled);
-        };
+        let shared = shared.as_ref().ok_or(RowFault::NotSpelled)?;
         let (word, rest) = first_word(asked);
         let (number, call) = if word == "seat" {
             first_word(rest)
         } else {
             ("0", asked)
         };
-        let Some(seat) = seats.get_mut(number.parse::<usize>()?) else {
-            return Err(RowFault::NotSpelled);
-        };
+        let number = number.parse::<usize>()?;
+        let seat = seats.get_mut(number).ok_or(RowFault::NotSpelled)?;
         match call.strip_prefix("each ") {
             Some(list) => call_each(&rt, setting, shared, seat, receipts, *before, list, out),
             None => make_call(&rt, setting, shared, seat, receipts, call, out),
@@ -177,36 +172,24 @@ impl<N: Sharing + Send + Sync, R: Threads + Wait + Copy + Drop + Send + Sync> Se
     }
 
     // `0 o0 o7`
-    fn look(
-        &mut self,
-        setting: Setting,
-        text: &str,
-        out: &mut String<Room>,
-    ) -> Result<(), RowFault> {
+    fn look(&mut self, setting: Setting, text: &str, out: &mut String<Room>) -> Result<()> {
         let (looker, rest) = first_word(text);
         let mut objects = Vec::new(setting.texts.room());
         for word in rest.split(' ') {
             objects.push(object(word)?)?;
         }
-        let Some(looker) = self.lookers.get_mut(looker.parse::<usize>()?) else {
-            return Err(RowFault::NotSpelled);
-        };
+        let number = looker.parse::<usize>()?;
+        let looker = self.lookers.get_mut(number).ok_or(RowFault::NotSpelled)?;
         setting.limit();
         tell_look(looker, setting.heap, objects.as_slice(), out)
     }
 
     // `0 o5`: puts this reply into receipt 0.
-    fn forge(
-        &mut self,
-        setting: Setting,
-        text: &str,
-        out: &mut String<Room>,
-    ) -> Result<(), RowFault> {
+    fn forge(&mut self, setting: Setting, text: &str, out: &mut String<Room>) -> Result<()> {
         let (receipt, rest) = first_word(text);
         let reply = reply_of(setting.texts, rest)?;
-        let Some(receipt) = self.receipts.get_mut(receipt.parse::<usize>()?) else {
-            return Err(RowFault::NotSpelled);
-        };
+        let number = receipt.parse::<usize>()?;
+        let receipt = self.receipts.get_mut(number).ok_or(RowFault::NotSpelled)?;
         receipt.reply = reply;
         Ok(tell_word("done", out)?)
     }
@@ -218,11 +201,9 @@ impl<N: Sharing + Send + Sync, R: Threads + Wait + Copy + Drop + Send + Sync> Se
         is_short: bool,
         words: &str,
         out: &mut String<Room>,
-    ) -> Result<(), RowFault> {
+    ) -> Result<()> {
         let named = named(setting.texts, self.receipts.as_slice(), words)?;
-        let Some(shared) = self.shared.take() else {
-            return Err(RowFault::NotSpelled);
-        };
+        let shared = self.shared.take().ok_or(RowFault::NotSpelled)?;
         let none = Vec::new(setting.texts.room());
         let mut seats = replace(&mut self.seats, none);
         let left_out = if is_short { seats.pop() } else { None };
@@ -248,7 +229,7 @@ impl<N: Sharing + Send + Sync, R: Threads + Wait + Copy + Drop + Send + Sync> Se
         unsettled: Unsettled<N, R>,
         left_out: Option<Seat<N>>,
         out: &mut String<Room>,
-    ) -> Result<(), RowFault> {
+    ) -> Result<()> {
         let Unsettled {
             fault,
             shared,
@@ -270,13 +251,7 @@ impl<N: Sharing + Send + Sync, R: Threads + Wait + Copy + Drop + Send + Sync> Se
     }
 
     // `commit a3, abort a4: wait 3 CALL`: seat 1 waits, and seat 0 makes the others.
-    fn wait(
-        &mut self,
-        rt: R,
-        setting: Setting,
-        text: &str,
-        out: &mut String<Room>,
-    ) -> Result<(), RowFault> {
+    fn wait(&mut self, rt: R, setting: Setting, text: &str, out: &mut String<Room>) -> Result<()> {
         let (Some((others, waiting)), Some(second), Some(first)) = (
             text.split_once(": wait "),
             self.seats.pop(),
@@ -293,9 +268,7 @@ impl<N: Sharing + Send + Sync, R: Threads + Wait + Copy + Drop + Send + Sync> Se
             heap: setting.heap,
             text: others,
         };
-        let Some(shared) = &self.shared else {
-            return Err(RowFault::NotSpelled);
-        };
+        let shared = self.shared.as_ref().ok_or(RowFault::NotSpelled)?;
         let meanwhile = wait_meanwhile(&rt, shared, first, second, patience, others)?;
         self.seats.push(meanwhile.first)?;
         self.seats.push(meanwhile.second)?;
@@ -316,7 +289,7 @@ fn make_call<N: Sharing, R: Wait + Drop>(
     receipts: &mut Vec<Receipt, Room>,
     text: &str,
     out: &mut String<Room>,
-) -> Result<(), RowFault> {
+) -> Result<()> {
     let (is_bare, text) = match text.strip_prefix("answer ") {
         Some(rest) => (true, rest),
         None => (false, text),
@@ -359,7 +332,7 @@ fn call_each<N: Sharing, R: Wait + Drop>(
     before: usize,
     text: &str,
     out: &mut String<Room>,
-) -> Result<(), RowFault> {
+) -> Result<()> {
     let calls = calls_of(setting.heap, text, receipts.len().saturating_sub(before))?;
     setting.limit();
     let made = shared.call_each(rt, seat, calls.as_slice());
@@ -382,7 +355,7 @@ fn tell_look<N: Sharing>(
     heap: Heap,
     objects: &[ObjId],
     out: &mut String<Room>,
-) -> Result<(), RowFault> {
+) -> Result<()> {
     match looker.look(heap, objects) {
         Ok(found) => {
             for content in &found {
@@ -396,7 +369,7 @@ fn tell_look<N: Sharing>(
 }
 
 // Copies of the receipts of these numbers; none for `all`.
-fn named(texts: Heap, receipts: &[Receipt], words: &str) -> Result<Vec<Receipt, Room>, RowFault> {
+fn named(texts: Heap, receipts: &[Receipt], words: &str) -> Result<Vec<Receipt, Room>> {
     let mut named = Vec::new(texts.room());
     for word in words.split(' ') {
         if word != "all" && !word.is_empty() {
@@ -406,10 +379,8 @@ fn named(texts: Heap, receipts: &[Receipt], words: &str) -> Result<Vec<Receipt, 
     Ok(named)
 }
 
-fn copy_of(texts: Heap, receipt: Option<&Receipt>) -> Result<Receipt, RowFault> {
-    let Some(receipt) = receipt else {
-        return Err(RowFault::NotSpelled);
-    };
+fn copy_of(texts: Heap, receipt: Option<&Receipt>) -> Result<Receipt> {
+    let receipt = receipt.ok_or(RowFault::NotSpelled)?;
     let call = receipt.call.duplicate(texts)?;
     let reply = receipt.reply.duplicate(texts)?;
     Ok(Receipt {

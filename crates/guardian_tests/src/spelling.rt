@@ -2,12 +2,12 @@
 //! is `NotSpelled`; after that and after `OutOfMemory` some of the bytes may have been added.
 
 use crate::counting::{Counted, counted_of};
-use crate::row_fault::RowFault;
+use crate::row_fault::{Result, RowFault};
 use argus_values::{Heap, Room};
 use std::str::from_utf8;
 
 /// The row that the text stands for.
-pub(crate) fn spelled_row(texts: Heap, text: &str) -> Result<String<Room>, RowFault> {
+pub(crate) fn spelled_row(texts: Heap, text: &str) -> Result<String<Room>> {
     let mut bytes = Vec::new(texts.room());
     spell(text, &mut bytes)?;
     match from_utf8(bytes.as_slice()) {
@@ -17,7 +17,7 @@ pub(crate) fn spelled_row(texts: Heap, text: &str) -> Result<String<Room>, RowFa
 }
 
 /// Adds the bytes that the text stands for, and a line feed, unless the text ends with `<cut>`.
-pub(crate) fn spell_line(text: &str, out: &mut Vec<u8, Room>) -> Result<(), RowFault> {
+pub(crate) fn spell_line(text: &str, out: &mut Vec<u8, Room>) -> Result<()> {
     match text.strip_suffix("<cut>") {
         Some(text) => spell(text, out),
         None => {
@@ -29,7 +29,7 @@ pub(crate) fn spell_line(text: &str, out: &mut Vec<u8, Room>) -> Result<(), RowF
 }
 
 // Adds the bytes that the text stands for.
-fn spell(text: &str, out: &mut Vec<u8, Room>) -> Result<(), RowFault> {
+fn spell(text: &str, out: &mut Vec<u8, Room>) -> Result<()> {
     for (place, piece) in text.split('<').enumerate() {
         match piece.split_once('>') {
             Some((mark, plain)) if place > 0 && is_mark(mark) => {
@@ -50,7 +50,7 @@ fn is_mark(mark: &str) -> bool {
     mark.contains(" times ") || mark.starts_with(|first: char| first.is_ascii_lowercase())
 }
 
-fn spell_mark(mark: &str, out: &mut Vec<u8, Room>) -> Result<(), RowFault> {
+fn spell_mark(mark: &str, out: &mut Vec<u8, Room>) -> Result<()> {
     match mark {
         "tab" => return add("\t", out),
         "space" => return add(" ", out),
@@ -68,7 +68,7 @@ fn spell_mark(mark: &str, out: &mut Vec<u8, Room>) -> Result<(), RowFault> {
     }
 }
 
-fn add_counted(counted: Counted<'_>, out: &mut Vec<u8, Room>) -> Result<(), RowFault> {
+fn add_counted(counted: Counted<'_>, out: &mut Vec<u8, Room>) -> Result<()> {
     for step in 0..=counted.steps() {
         let text = counted.row_at(out.allocator().heap(), step)?;
         add(text.as_str(), out)?;
@@ -77,7 +77,7 @@ fn add_counted(counted: Counted<'_>, out: &mut Vec<u8, Room>) -> Result<(), RowF
 }
 
 // `128 times TEXT`.
-fn add_times(mark: &str, out: &mut Vec<u8, Room>) -> Result<(), RowFault> {
+fn add_times(mark: &str, out: &mut Vec<u8, Room>) -> Result<()> {
     let (times, text) = mark.split_once(" times ").ok_or(RowFault::NotSpelled)?;
     for _ in 0..times.parse::<u32>()? {
         add(text, out)?;
@@ -85,7 +85,7 @@ fn add_times(mark: &str, out: &mut Vec<u8, Room>) -> Result<(), RowFault> {
     Ok(())
 }
 
-fn add(text: &str, out: &mut Vec<u8, Room>) -> Result<(), RowFault> {
+fn add(text: &str, out: &mut Vec<u8, Room>) -> Result<()> {
     out.extend_from_slice(text.as_bytes())?;
     Ok(())
 }

@@ -1,6 +1,6 @@
 //! `Tally`: how many tests there were, and how many wrong answers.
 
-use crate::row_fault::RowFault;
+use crate::row_fault::Result;
 use argus_values::Room;
 use std::io;
 use std::io::Print;
@@ -33,7 +33,7 @@ impl Tally {
         &mut self,
         rt: &impl Print,
         row: &str,
-        answer: Result<String<Room>, RowFault>,
+        answer: Result<String<Room>>,
     ) -> io::Result<()> {
         self.rows = self.rows.saturating_add(1);
         let (_, wanted) = row.split_once(" -> ").unwrap_or((row, ""));

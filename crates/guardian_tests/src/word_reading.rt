@@ -1,6 +1,6 @@
 //! The words of rows. A text that isn't such a word is `NotSpelled`.
 
-use crate::row_fault::RowFault;
+use crate::row_fault::{Result, RowFault};
 use argus_actions::ActionId;
 use argus_values::ObjId;
 
@@ -10,7 +10,7 @@ pub(crate) fn first_word<'a>(text: &'a str) -> (&'a str, &'a str) {
 }
 
 // The number after this letter.
-fn number(letter: &str, text: &str) -> Result<u32, RowFault> {
+fn number(letter: &str, text: &str) -> Result<u32> {
     match text.strip_prefix(letter) {
         Some(digits) => Ok(digits.parse::<u32>()?),
         None => Err(RowFault::NotSpelled),
@@ -18,11 +18,11 @@ fn number(letter: &str, text: &str) -> Result<u32, RowFault> {
 }
 
 /// An action, as `a0`.
-pub(crate) fn action(text: &str) -> Result<ActionId, RowFault> {
+pub(crate) fn action(text: &str) -> Result<ActionId> {
     Ok(ActionId(number("a", text)?))
 }
 
 /// An object, as `o0`.
-pub(crate) fn object(text: &str) -> Result<ObjId, RowFault> {
+pub(crate) fn object(text: &str) -> Result<ObjId> {
     Ok(ObjId(number("o", text)?))
 }

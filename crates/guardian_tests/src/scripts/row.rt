@@ -2,7 +2,7 @@
 
 use crate::block::{Block, block_of};
 use crate::counting::counted_of;
-use crate::row_fault::RowFault;
+use crate::row_fault::{Result, RowFault};
 use crate::scripts::workers::hold::Hold;
 use crate::spelling::{spell_line, spelled_row};
 use crate::word_reading::first_word;
@@ -33,7 +33,7 @@ pub(crate) struct Row<'a> {
 
 impl<'a> Row<'a> {
     /// The row in a block of text; `None` if the block isn't a row.
-    pub(crate) fn of_block(texts: Heap, block: &'a str) -> Result<Option<Row<'a>>, RowFault> {
+    pub(crate) fn of_block(texts: Heap, block: &'a str) -> Result<Option<Row<'a>>> {
         match block_of(block) {
             Block::Test {
                 name,
@@ -66,7 +66,7 @@ impl<'a> Row<'a> {
     }
 
     // Each of the lines that a line stands for.
-    fn add_counted(&mut self, texts: Heap, line: &str) -> Result<(), RowFault> {
+    fn add_counted(&mut self, texts: Heap, line: &str) -> Result<()> {
         let Some(counted) = counted_of(line) else {
             return self.add(line);
         };
@@ -77,7 +77,7 @@ impl<'a> Row<'a> {
         Ok(())
     }
 
-    fn add(&mut self, line: &str) -> Result<(), RowFault> {
+    fn add(&mut self, line: &str) -> Result<()> {
         let (word, rest) = first_word(line);
         match word {
             "#" => {}
@@ -94,7 +94,7 @@ impl<'a> Row<'a> {
 }
 
 // Adds what the line stands for, and a line feed.
-fn append_line(line: &str, out: &mut String<Room>) -> Result<(), RowFault> {
+fn append_line(line: &str, out: &mut String<Room>) -> Result<()> {
     let spelled = spelled_row(out.allocator().heap(), line)?;
     out.push_str(spelled.as_str())?;
     out.push_str("\n")?;

@@ -47,6 +47,5 @@ returns-clause-asked c =
       listing = c.listing_named.ensures ∙ ap (λ s. listing_named s.now) c.unwrap_or.ensures
           ∙ listing_or c.get_str.result _ (search rules) ∙ ap listing_or_bases name;
       prefix = flag_read _ (one_text (found_of m) (codes "prefix")) c.get_one.result c.unwrap_or-2.result
-          c.get_one.ensures.none c.get_one.ensures.value c.unwrap_or-2.ensures
-          ∙ ap is_given (text (codes "prefix"));
+          c.get_one.ensures.none c.get_one.ensures.value c.unwrap_or-2.ensures ∙ ap is_given (text (codes "prefix"));
     }

@@ -11,6 +11,5 @@ returns c = λ none.
     ap (λ s. s.first_entry) (sym same) ∙ sym c.first_entry.ensures.first ∙ (omega arith) in
     let action : journal.opening.first_action ≡ 0 =
     ap (λ s. s.first_action) (sym same) ∙ sym c.first_action.ensures.first ∙ (omega arith) in
-    is_empty journal.opening entry action
-    (ap (λ s. slice_get s.objects 0) (sym same) ∙ sym c.opening.ensures.object
+    is_empty journal.opening entry action (ap (λ s. slice_get s.objects 0) (sym same) ∙ sym c.opening.ensures.object
     ∙ unopened c.opening.result c.is_none.result c.is_none.ensures none)

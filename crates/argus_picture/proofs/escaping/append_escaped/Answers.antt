@@ -13,12 +13,10 @@ loop-character-preserved c =
       utf8 = IsUtf8-past_char _ _ c.in-Some.character held.utf8 parts;
       completes = ap (λ x. x ++ escaped (chars_rest c.next.new.self)) c.in_ok-append_character.ensures
           ∙ escaped_step (string_bytes c.loop-character.out) (chars_rest c.loop-character.rest)
-          (chars_rest c.next.new.self) c.in-Some.character held.utf8 parts
-          ∙ held.completes;
+          (chars_rest c.next.new.self) c.in-Some.character held.utf8 parts ∙ held.completes;
     }
 
 pub returns : goal.returns
 returns c =
     sym (escaped_end (string_bytes c.loop-character.out) (chars_rest c.loop-character.rest)
-    c.in_default.ensures.steps.0.0)
-    ∙ c.loop-character.invariant.completes
+    c.in_default.ensures.steps.0.0) ∙ c.loop-character.invariant.completes

@@ -7,6 +7,5 @@ use Rattle.argus_picture.proofs.escaping.append_escaped.Given as goal
 abbrev pub invariant-loop-character : goal.invariant-loop-character
 invariant-loop-character l = record {
   utf8 : IsUtf8 (chars_rest l.rest);
-  completes : string_bytes l.out ++ escaped (chars_rest l.rest)
-      ≡ string_bytes l.fn.out ++ escaped l.fn.text;
+  completes : string_bytes l.out ++ escaped (chars_rest l.rest) ≡ string_bytes l.fn.out ++ escaped l.fn.text;
 }

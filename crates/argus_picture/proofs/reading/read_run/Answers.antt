@@ -29,8 +29,7 @@ pub returns-then-rest-gt0-clause-fault : goal.returns-then-rest-gt0-clause-fault
 returns-then-rest-gt0-clause-fault c =
     rw c.fault_at-then-rest-gt0.ensures
     (inr (inl (read_torn (place_of c.loop-text.run) c.loop-text.line c.loop-text.rest.now c.args.listing.now
-    (omega arith) c.if-rest-gt0.true
-    c.in_default.ensures.none c.loop-text.invariant.read)))
+    (omega arith) c.if-rest-gt0.true c.in_default.ensures.none c.loop-text.invariant.read)))
 
 pub returns-clause-lines : goal.returns-clause-lines
 returns-clause-lines c =

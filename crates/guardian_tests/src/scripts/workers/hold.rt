@@ -1,6 +1,6 @@
 //! `Hold`: what happens when an arm comes to a step.
 
-use crate::row_fault::RowFault;
+use crate::row_fault::{Result, RowFault};
 use crate::scripts::workers::place::Place;
 
 /// What happens when an arm comes to a step.
@@ -22,7 +22,7 @@ pub(crate) enum Hold {
 
 impl Hold {
     /// As `hold 1 0 until 0 1`, `slow 0 1000`, `refuse 0 1`, `allow 2 0`.
-    pub(crate) fn of_words(word: &str, rest: &str) -> Result<Hold, RowFault> {
+    pub(crate) fn of_words(word: &str, rest: &str) -> Result<Hold> {
         match word {
             "hold" => {
                 let (at, other) = rest.split_once(" until ").ok_or(RowFault::NotSpelled)?;

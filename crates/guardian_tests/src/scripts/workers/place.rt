@@ -1,6 +1,6 @@
 //! `Place`: a step of an arm.
 
-use crate::row_fault::RowFault;
+use crate::row_fault::Result;
 use crate::word_reading::first_word;
 
 /// A step that is directly in an arm. Both are counted from 0.
@@ -15,7 +15,7 @@ pub(crate) struct Place {
 }
 
 impl Place {
-    pub(crate) fn of_words(words: &str) -> Result<Place, RowFault> {
+    pub(crate) fn of_words(words: &str) -> Result<Place> {
         let (arm, step) = first_word(words);
         Ok(Place {
             arm: arm.parse::<u32>()?,

@@ -6,8 +6,7 @@ use Rattle.argus_picture.proofs.run.Run.take_folded.Goals as goal
 
 pub returns-in-Ok-clause-line : goal.returns-in-Ok-clause-line
 returns-in-Ok-clause-line c =
-    opens (place_of c.args.self.now)
-    (record {
+    opens (place_of c.args.self.now) (record {
       first = c.in-Ok.entries;
       objects = length c.args.self.now.objects.items;
       entries = c.args.self.now.entries;
