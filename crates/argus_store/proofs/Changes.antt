@@ -151,7 +151,7 @@ outputs all j e b next log =
     each true false u = refl
     each false t u = refl
 
-one_or_none : (t : Bool) (o : Output) (kept ordered : List Output) → kept ≡ cond t (o ∷ []) []
+pub one_or_none : (t : Bool) (o : Output) (kept ordered : List Output) → kept ≡ cond t (o ∷ []) []
     → IsPermutation kept ordered → ordered ≡ cond t (o ∷ []) []
 one_or_none true o kept ordered is same = one_permutation o ordered (subst (λ k. IsPermutation k ordered) is same)
 one_or_none false o kept [] is same = refl

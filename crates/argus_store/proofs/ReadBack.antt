@@ -1,5 +1,5 @@
 -- What reading the batches shows: all of them, in the order of their entries.
-use Rattle.std.proofs.Common.{◌≡◌, List, [], ◌∷◌, map, refl, ap, subst, ◌∙◌, Less, IsPermutation, int_cmp}
+use Rattle.std.proofs.Common.{true, ◌≡◌, List, [], ◌∷◌, map, refl, ap, subst, ◌∙◌, Less, IsPermutation, int_cmp}
 use Rattle.std.specs.List.{flat_map}
 use Rattle.sqlite.specs.{declared.types.Value.TheVariants.{Null, Int}, Order.{Row, value_cmp}, Program.overlay}
 use Rattle.sqlite.specs.Query.{inner, end, IsAnswer, output, output_cmp, Output, matches_as, page}
@@ -8,7 +8,10 @@ use Rattle.sqlite.proofs.Callers.{reads_as}
 use Rattle.sqlite_sql.proofs.QueryLemmas.{output_cmp_total}
 use Rattle.sqlite_value.proofs.OrderLemmas.{value_cmp-Int, then-Equal}
 use Rattle.sqlite_keyed.proofs.{ListLemmas.{ascending-map, all_weaker}, SortLemmas.sorted_unique}
-use Rattle.argus_store.specs.{Tables.log_schema, Journal.{Batch, Journal, batch_row, shown_batch, HoldsLog, AreRising}}
+use Rattle.argus_store.specs.Tables.{log_schema}
+use Rattle.argus_store.specs.Journal.{Batch, Journal, batch_row, shown_batch, shown_end, HoldsLog, AreRising}
+use Rattle.argus_store.proofs.Changes.{one_or_none}
+use Rattle.argus_store.proofs.Statements.{end_text, end_query, end_is, end_plain, end_unlisted}
 use Rattle.argus_store.proofs.Statements.{read_text, read_query, read_is, read_plain, read_unlisted}
 
 -- what a batch is sorted by, and what it shows
@@ -50,3 +53,16 @@ reads old new j rows has holds h =
     let ordered = sorted_unique (output_cmp read_query) (output_cmp_total read_query) (map shown_output j.batches)
     a.ordered rises (subst (λ k. IsPermutation k a.ordered) kept a.same) a.sorted in
     a.shown ∙ ap (λ os. page read_query [] (map (λ (o : Output). o.1) os)) ordered ∙ shown_rows j.batches
+
+-- and reading the log's end shows its row
+pub reads_end : (old new : State) (j : Journal) (rows : List Row) → old.now.schema ≡ log_schema
+    → HoldsLog old.now.trees j → Shown end_text [] old new rows → rows ≡ shown_end j ∷ []
+reads_end old new j rows has holds h =
+    let all = overlay old.now.trees [] in
+    let a : IsAnswer end_query all [] rows = (reads_as end_text [] old new log_schema has _ end_is end_plain
+    end_unlisted rows h).answer Null in
+    let one : map (output end_query) (matches_as Null all [] (inner 0 end) ([] ∷ [])) ≡ ([], shown_end j) ∷ [] =
+    rw holds.rows.log refl in
+    let kept : a.kept ≡ ([], shown_end j) ∷ [] = a.distinct ∙ ap (map (output end_query)) a.grouped ∙ one in
+    let ordered = one_or_none true ([], shown_end j) a.kept a.ordered kept a.same in
+    a.shown ∙ ap (λ os. page end_query [] (map (λ (o : Output). o.1) os)) ordered

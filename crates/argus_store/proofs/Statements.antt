@@ -49,6 +49,30 @@ pub put_plain : IsPlain (understood log_schema put_text)
 unfolding understood everything
 put_plain = (refl, refl)
 
+-- ---- the log's end is read
+
+abbrev pub end_text : List ℕ
+end_text = codes "SELECT name, next_entry, sum FROM log"
+
+abbrev pub end_query : Query
+end_query = record move_query { filter = []; project = col 1 2 ∷ col 1 6 ∷ col 1 7 ∷ [] }
+
+abbrev pub end_program : Program
+end_program = record { lets = []; body = end_query }
+
+pub end_is : command_of (understood log_schema end_text)
+    ≡ Select end_program (codes "name" ∷ codes "next_entry" ∷ codes "sum" ∷ [])
+unfolding understood everything
+end_is = refl
+
+pub end_unlisted : reads_listing log_schema end_text ≡ false
+unfolding understood everything
+end_unlisted = refl
+
+pub end_plain : IsPlain (understood log_schema end_text)
+unfolding understood everything
+end_plain = (refl, refl)
+
 -- ---- the batches are read
 
 abbrev pub read_text : List ℕ

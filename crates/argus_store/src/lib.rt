@@ -4,6 +4,7 @@
 
 mod appending;
 mod end;
+mod ending;
 mod making;
 mod store;
 mod summing;

@@ -9,6 +9,7 @@ ghost use Rattle.argus_store.specs.End.{EndsAt, end_after, end_of_new, with_line
 ghost use Rattle.argus_store.specs.Store.{HasLog, Leaves, LeavesEither, FilesHold, Keeps};
 
 use crate::end::End;
+use crate::ending::end_in;
 use crate::{appending, making};
 use sqlite::{Alter, Connection, Error, FileFrom, FileStore, Row, Start};
 use sqlite_disk::Disk;
@@ -97,6 +98,21 @@ impl<S: Alter> Store<S> {
         } else {
             Ok(None)
         }
+    }
+
+    /// Where the log of this name ends, for the next append. `None`: the database's log has another
+    /// name.
+    pub fn end(&mut self, name: &str) -> Result<Option<End>, Error>
+        ensures at { (j : Journal) → HasLog (state S.Store self.old) j
+            → HasCleanDisk (state S.Store self.new)
+            → IfOk result (λ end. IfSome end (EndsAt j name.now)) }
+        ensures other { (j : Journal) → HasLog (state S.Store self.old) j
+            → HasCleanDisk (state S.Store self.new) → result ≡ Ok None → j.name ≢ name.now }
+    {
+        let rows = self
+            .conn
+            .query_all("SELECT name, next_entry, sum FROM log", &[])?;
+        end_in(rows.as_slice(), name)
     }
 
     /// The batches in the order of their entries, each as its number, its lines and its sum.

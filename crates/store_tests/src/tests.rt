@@ -29,7 +29,13 @@ fn fill<S: Alter>(store: &mut Store<S>) -> Result<bool, Error> {
     };
     let is_last = store.append(NAME, end, REST)? == end.after(NAME, REST);
     let is_refused = store.append(NAME, end, REST)?.is_none();
-    Ok(end.sum == 0xf401_020e && is_last && is_refused && has_both(store.batches()?.as_slice())?)
+    let is_done = is_last && is_refused && ends_at(store, end.after(NAME, REST))?;
+    Ok(end.sum == 0xf401_020e && is_done && has_both(store.batches()?.as_slice())?)
+}
+
+// Whether the log ends there, and no other log does.
+fn ends_at<S: Alter>(store: &mut Store<S>, end: Option<End>) -> Result<bool, Error> {
+    Ok(store.end(NAME)? == end && store.end("4567")?.is_none())
 }
 
 fn has_both(rows: &[Row]) -> Result<bool, Error> {
