@@ -2,13 +2,16 @@
 
 use crate::batching::count_in_lists;
 use crate::bench_error::BenchError;
+use crate::callee::Callee;
 use crate::circle::Circle;
 use crate::client::Client;
 use crate::draws::Draws;
 use crate::figure::Figure;
+use crate::latencies::Latencies;
 use crate::manner::Manner;
 use crate::outcome::Outcome;
 use crate::seated::Seated;
+use crate::timed::Timed;
 use crate::turning::{RECORDS, turn_counts};
 use crate::working::read_records;
 use argus_guardian::{Seat, Shared, Sharing};
@@ -17,7 +20,7 @@ use std::alloc::AllocError;
 use std::rt::Clock;
 use std::sync::Wait;
 use std::thread::{Threads, map_vec};
-use std::time::Instant;
+use std::time::{Duration, Instant};
 
 // A thread's number, how many turns it makes, and how.
 #[derive(Clone, Copy)]
@@ -25,6 +28,13 @@ struct Job {
     number: u32,
     turns: u32,
     manner: Manner,
+}
+
+// How many turns a thread has made, and what 99 of 100 of its calls took at most, if they were timed.
+#[derive(Clone, Copy)]
+struct Counted {
+    turns: u32,
+    slow: Duration,
 }
 
 /// This many turns in all, by a thread for each of the seats. What is in the records then is read
@@ -46,11 +56,12 @@ pub(crate) fn time_threads<
     let jobs = jobs_for(heap, seats, each, manner)?;
     let start = Instant::now(rt)?;
     let made = count_all(rt, heap, shared, jobs)?;
-    let first = Figure::since(rt, start, "turns", added_up(made.as_slice()))?;
+    let counted = added_up(made.as_slice());
+    let first = Figure::since(rt, start, "turns", counted.turns)?;
     let mut client = Client::of(heap, Seated::new(rt, shared, last));
     Ok(Outcome {
         first,
-        second: None,
+        second: slow_calls(manner, counted.slow),
         sum: read_records(&mut client, RECORDS, false)?,
     })
 }
@@ -76,42 +87,82 @@ fn jobs_for<N: Sharing>(
     Ok(jobs)
 }
 
-// How many turns each thread has made.
-fn count_all<N: Sharing + Send + Sync, R: Threads + Wait + Drop + Send + Sync>(
+// What 99 of 100 calls took at most, in the thread where it is most.
+fn slow_calls(manner: Manner, taken: Duration) -> Option<Figure> {
+    match manner {
+        Manner::Own | Manner::Hot | Manner::Batch => None,
+        Manner::Timed => Some(Figure {
+            part: "p99",
+            count: 1,
+            taken,
+        }),
+    }
+}
+
+// What each thread has counted.
+fn count_all<N: Sharing + Send + Sync, R: Threads + Wait + Clock + Drop + Send + Sync>(
     rt: &R,
     heap: Heap,
     shared: &Shared<N, R>,
     jobs: Vec<(Job, Seat<N>), Room>,
-) -> Result<Vec<u32, Room>, AllocError> {
+) -> Result<Vec<Counted, Room>, AllocError> {
     map_vec(rt, jobs, &|job| count_often(rt, heap, shared, job))
 }
 
 // How many turns were made: fewer, if a call doesn't get the reply that it should.
-fn count_often<N: Sharing, R: Wait + Drop>(
+fn count_often<N: Sharing, R: Wait + Clock + Drop>(
     rt: &R,
     heap: Heap,
     shared: &Shared<N, R>,
     (job, seat): (Job, Seat<N>),
-) -> u32 {
+) -> Counted {
     let Job {
         number,
         turns,
         manner,
     } = job;
-    let mut client = Client::of(heap, Seated::new(rt, shared, seat));
+    let seated = Seated::new(rt, shared, seat);
     let mut draws = Draws::seeded(u64::from(number) + 42);
-    match manner {
-        Manner::Own => count_by_calls(&mut client, Circle::own(number), &mut draws, turns),
+    if let Manner::Timed = manner {
+        let counted = count_timed(heap, seated, Circle::own(number), &mut draws, turns);
+        return counted.unwrap_or(Counted {
+            turns: 0,
+            slow: Duration::ZERO,
+        });
+    }
+    let mut client = Client::of(heap, seated);
+    let turns = match manner {
+        Manner::Own | Manner::Timed => {
+            count_by_calls(&mut client, Circle::own(number), &mut draws, turns)
+        }
         Manner::Hot => count_by_calls(&mut client, Circle::hot(), &mut draws, turns),
         Manner::Batch => {
             let made = count_in_lists(&mut client, Circle::own(number), &mut draws, turns);
             made.unwrap_or(0)
         }
+    };
+    Counted {
+        turns,
+        slow: Duration::ZERO,
     }
 }
 
-fn count_by_calls<N: Sharing, R: Wait + Drop>(
-    client: &mut Client<Seated<'_, N, R>>,
+fn count_timed<N: Sharing, R: Wait + Clock + Drop>(
+    heap: Heap,
+    seated: Seated<'_, N, R>,
+    circle: Circle,
+    draws: &mut Draws,
+    turns: u32,
+) -> Result<Counted, BenchError> {
+    let latencies = Latencies::new(heap)?;
+    let mut client = Client::of(heap, Timed { seated, latencies });
+    let turns = count_by_calls(&mut client, circle, draws, turns);
+    let slow = client.callee.latencies.most_of_99();
+    Ok(Counted { turns, slow })
+}
+
+fn count_by_calls<K: Callee>(
+    client: &mut Client<K>,
     circle: Circle,
     draws: &mut Draws,
     turns: u32,
@@ -125,10 +176,11 @@ fn count_by_calls<N: Sharing, R: Wait + Drop>(
     turns
 }
 
-fn added_up(numbers: &[u32]) -> u32 {
-    let mut sum = 0u32;
-    for number in numbers {
-        sum = sum.saturating_add(*number);
+fn added_up(counted: &[Counted]) -> Counted {
+    let (mut turns, mut slow) = (0u32, Duration::ZERO);
+    for each in counted {
+        turns = turns.saturating_add(each.turns);
+        slow = slow.max(each.slow);
     }
-    sum
+    Counted { turns, slow }
 }

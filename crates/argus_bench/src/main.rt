@@ -13,6 +13,7 @@ mod client;
 mod counting;
 mod draws;
 mod figure;
+mod latencies;
 mod looking;
 mod looks;
 mod manner;
@@ -20,6 +21,7 @@ mod outcome;
 mod reply_summary;
 mod seated;
 mod sharing;
+mod timed;
 mod turn;
 mod turning;
 mod work;
@@ -58,13 +60,14 @@ or one of these, on a shared guardian of 1,000 records:
   hot:N      the same, all on the same 10 records
   batch:N    that of own, of which each topaction is begun, and then makes its 13 other calls
              under one lock
+  timed:N    that of own, where each call is timed: also what 99 of 100 calls take at most
   busy:N     N lookers look at 2 records again and again, for so many milliseconds, while a
              topaction after the other sets 2 records: 4 calls; the looks, and the commits
   idle:N     the same, while nothing happens
 
 It prints WORK PART n=N ns_each=NANOSECONDS sum=SUM for each part that is timed. The sum is
-that of what was read and of what the objects then hold, each times its place; of own, hot and
-batch that of what the records hold; of busy and idle the looks that didn't show one number twice.";
+that of what was read and of what the objects then hold, each times its place; of own, hot,
+batch and timed that of what the records hold; of busy and idle the looks that didn't show one number twice.";
 
 // The small runs, and their turns. Eight threads lock the same ten records so often that most of
 // them wait.
@@ -79,6 +82,7 @@ const WORKS: &[(&str, u32)] = &[
     ("own:2", 20),
     ("hot:8", 8000),
     ("batch:2", 20),
+    ("timed:2", 20),
     ("busy:4", 200),
     ("idle:1", 20),
 ];

@@ -18,7 +18,7 @@ const PATIENCE: u32 = u32::MAX;
 /// ```
 #[derive(Drop)]
 pub(crate) struct Seated<'a, N: Sharing, R: Wait + Drop> {
-    rt: &'a R,
+    pub(crate) rt: &'a R,
     shared: &'a Shared<N, R>,
     seat: Seat<N>,
 }

@@ -41,6 +41,7 @@ impl FromStr for Work {
             ("own", _) => Ok(Work::Threads(Manner::Own, count_of(rest)?)),
             ("hot", _) => Ok(Work::Threads(Manner::Hot, count_of(rest)?)),
             ("batch", _) => Ok(Work::Threads(Manner::Batch, count_of(rest)?)),
+            ("timed", _) => Ok(Work::Threads(Manner::Timed, count_of(rest)?)),
             ("busy", _) => Ok(Work::Busy(count_of(rest)?)),
             ("idle", _) => Ok(Work::Idle(count_of(rest)?)),
             _ => Err(BenchError::UnknownWork),
