@@ -10,7 +10,7 @@ use crate::embedded::Embedded;
 use crate::kept_answer::KeptAnswer;
 use crate::text_end::TextEnd;
 use crate::text_taken::TextTaken;
-use argus_guardian::{LineFault, Opened, Resuming, Taken, TakenEnd};
+use argus_guardian::{LineFault, LinesTaken, ResumedGuardian, Resuming, TakenEnd};
 use std::mem::replace;
 
 impl Embedded {
@@ -29,7 +29,7 @@ impl Embedded {
     pub fn resume(&mut self, text: &[u8]) -> TextTaken
         ensures { IsTextTaken self.old self.new text.now result }
     {
-        let Taken { bytes, lines, end } = self.taken.take(text);
+        let LinesTaken { bytes, lines, end } = self.taken.take(text);
         let end = self.text_end(end);
         self.taken_is_readable();
         TextTaken { bytes, lines, end }
@@ -47,7 +47,7 @@ impl Embedded {
         ensures err { OnErr result (self.new ≡ self.old) }
     {
         match replace(&mut self.taken, Resuming::new(self.heap)).into_guardian() {
-            Ok(Opened { guardian, dropped }) => {
+            Ok(ResumedGuardian { guardian, dropped }) => {
                 let _before = replace(&mut self.guardian, guardian);
                 let _text = replace(&mut self.kept, KeptAnswer::Nothing);
                 Ok(dropped)

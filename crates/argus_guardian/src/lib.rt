@@ -20,8 +20,8 @@ pub use argus_core::{CheckpointError, Guardian, ReadyCommit};
 pub use argus_listings::{ListError, Listing, numbered_names, write_listing};
 pub use argus_reading::{ReadEntryError, laws as reading_laws, read_entry};
 pub use argus_resume::{
-    LineError, LineFault, Opened, ReadEnd, Resumed, Resuming, Taken, TakenEnd, TakenFrom,
-    laws as resume_laws, resume,
+    LineError, LineFault, LinesTaken, ReadEnd, Resumed, ResumedGuardian, Resuming, TakenEnd,
+    TakenFrom, laws as resume_laws, resume,
 };
 pub use argus_sharing::{
     Answered, CallsEnd, CallsMade, Demand, DemandedCall, NotShared, Parts, Receipt, Seat,

@@ -23,6 +23,11 @@ pub record IsFirstLine (count : ℕ) (text : List ℕ) : Type 0 where
   pub within : count ≤ length text
   pub one : line_count (take count text) ≡ 1
 
+-- that line was taken: the journal's listing became longer by it
+abbrev pub TakesLine : ℕ → JournalView → JournalView → List ℕ → Type 0
+TakesLine count was now text = IsFirstLine count text
+    × (journal_text now ≡ journal_text was ++ take count text)
+
 -- the text is torn: bytes without a line feed
 abbrev pub IsTorn : List ℕ → Type 0
 IsTorn text = (text ≢ []) × HasNoFeed text

@@ -6,11 +6,11 @@ ghost use Rattle.argus_resume.specs.Taking.{EndsChunk, HasNoFeed, TakesFrom, ear
 ghost use Rattle.argus_resume.specs.Taking.{line_count};
 ghost use Rattle.argus_streams.specs.FailStop.{has_failed, inner_of};
 
-use crate::opened::Opened;
+use crate::lines_taken::LinesTaken;
 use crate::read_end::ReadEnd;
 use crate::resumed::Resumed;
+use crate::resumed_guardian::ResumedGuardian;
 use crate::resuming::{Resuming, line_length};
-use crate::taken::Taken;
 use crate::taken_end::TakenEnd;
 use crate::taken_from::TakenFrom;
 use argus_memory::{Heap, OutOfMemory, Room};
@@ -45,7 +45,7 @@ pub fn resume<R: Read + Drop>(heap: Heap, reader: &mut FailStop<R>) -> Result<Re
     let mut resuming = Resuming::new(heap);
     let TakenFrom { bytes, lines, end } = resuming.take_from(reader);
     match resuming.into_guardian() {
-        Ok(Opened { guardian, dropped }) => Ok(Resumed {
+        Ok(ResumedGuardian { guardian, dropped }) => Ok(Resumed {
             guardian,
             bytes,
             lines,
@@ -96,7 +96,7 @@ impl Resuming {
     }
 
     /// Takes what is pending and the chunk as far as whole lines go; the rest is pending then.
-    fn take_chunk(&mut self, pending: &mut Vec<u8, Room>, chunk: &[u8]) -> Taken
+    fn take_chunk(&mut self, pending: &mut Vec<u8, Room>, chunk: &[u8]) -> LinesTaken
         requires { HasNoFeed pending.old.items }
         ensures within { result.bytes ≤ length (pending.old.items ++ chunk.now) }
         ensures text { journal_text self.new
@@ -107,14 +107,14 @@ impl Resuming {
             (drop result.bytes (pending.old.items ++ chunk.now)) }
     {
         if pending.extend_from_slice(chunk).is_err() {
-            return Taken {
+            return LinesTaken {
                 bytes: 0,
                 lines: 0,
                 end: TakenEnd::OutOfMemory,
             };
         }
         if line_length(chunk).is_none() {
-            return Taken {
+            return LinesTaken {
                 bytes: 0,
                 lines: 0,
                 end: TakenEnd::Torn,

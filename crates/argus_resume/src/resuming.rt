@@ -7,17 +7,17 @@ ghost use Rattle.argus_resume.specs.{FrontLine.end_of_error, Laws.IsListable, Li
 ghost use Rattle.argus_resume.specs.JournalText.{IsReadableJournal, journal_text, no_journal};
 ghost use Rattle.argus_resume.specs.SoundFront.{sound_front};
 ghost use Rattle.argus_resume.specs.Stage.{IsCounted, lines_of, opened_alone, opening_read};
-ghost use Rattle.argus_resume.specs.Taking.{EndsTaking, IsFirstLine, line_count};
+ghost use Rattle.argus_resume.specs.Taking.{EndsTaking, TakesLine, line_count};
 
 use crate::entry_lines::EntryLines;
 use crate::laws::guardians_are_listable;
 use crate::line_error::LineError;
 use crate::line_fault::LineFault;
-use crate::opened::Opened;
+use crate::lines_taken::LinesTaken;
 use crate::opening_lines::OpeningLines;
+use crate::resumed_guardian::ResumedGuardian;
 use crate::stage::Stage;
 use crate::staging::{next_number, take_frequent, take_text};
-use crate::taken::Taken;
 use crate::taken_end::TakenEnd;
 use argus_core::Guardian;
 use argus_memory::{Heap, OutOfMemory};
@@ -36,7 +36,7 @@ use std::str;
 /// ```text
 /// let mut resuming = Resuming::new(heap);
 /// resuming.take(b"0 begin_top -> a0\n1 commit a0 -> done\n");
-/// let Ok(Opened { guardian, .. }) = resuming.into_guardian() else { .. };
+/// let Ok(ResumedGuardian { guardian, .. }) = resuming.into_guardian() else { .. };
 /// ```
 #[derive(Drop)]
 pub struct Resuming {
@@ -125,7 +125,7 @@ impl Resuming {
     /// resuming.take(b"0 begin_top -> a0\n1 com");     // 18 bytes, 1 line, Torn
     /// resuming.take(b"1 commit a0 -> done\n");        // 20 bytes, 1 line, Whole
     /// ```
-    pub fn take(&mut self, text: &[u8]) -> Taken
+    pub fn take(&mut self, text: &[u8]) -> LinesTaken
         ensures within { result.bytes ≤ length text.now }
         ensures text { journal_text self.new
             ≡ journal_text self.old ++ take result.bytes text.now }
@@ -140,10 +140,10 @@ impl Resuming {
                     bytes += count;
                     lines += 1;
                 }
-                Err(end) => return Taken { bytes, lines, end },
+                Err(end) => return LinesTaken { bytes, lines, end },
             }
         }
-        Taken {
+        LinesTaken {
             bytes,
             lines,
             end: TakenEnd::Whole,
@@ -153,9 +153,7 @@ impl Resuming {
     /// Takes the first line of the text, and returns how many bytes it has, with its line feed.
     fn take_next(&mut self, text: &[u8]) -> Result<usize, TakenEnd>
         requires { text.now ≢ [] }
-        ensures some { IfOk result (λ count. IsFirstLine count text.now) }
-        ensures text { IfOk result (λ count. journal_text self.new
-            ≡ journal_text self.old ++ take count text.now) }
+        ensures taken { IfOk result (λ count. TakesLine count self.old self.new text.now) }
         ensures end { IfErr result (λ end. EndsTaking end self.new text.now) }
         ensures err { OnErr result (self.new ≡ self.old) }
     {
@@ -171,9 +169,7 @@ impl Resuming {
     #[inline(never)]
     fn take_any(&mut self, text: &[u8]) -> Result<usize, TakenEnd>
         requires { text.now ≢ [] }
-        ensures some { IfOk result (λ count. IsFirstLine count text.now) }
-        ensures text { IfOk result (λ count. journal_text self.new
-            ≡ journal_text self.old ++ take count text.now) }
+        ensures taken { IfOk result (λ count. TakesLine count self.old self.new text.now) }
         ensures end { IfErr result (λ end. EndsTaking end self.new text.now) }
         ensures err { OnErr result (self.new ≡ self.old) }
     {
@@ -193,9 +189,9 @@ impl Resuming {
     /// `Err` is out of memory: it has what was passed in, unchanged.
     ///
     /// ```text
-    /// let Ok(Opened { guardian, dropped: 0 }) = resuming.into_guardian() else { .. };
+    /// let Ok(ResumedGuardian { guardian, dropped: 0 }) = resuming.into_guardian() else { .. };
     /// ```
-    pub fn into_guardian(self) -> Result<Opened, Resuming>
+    pub fn into_guardian(self) -> Result<ResumedGuardian, Resuming>
         ensures guardian { IfOk result (λ opened. opened.guardian ≡ sound_front self) }
         ensures front { IfOk result (λ opened. journal_text opened.guardian
             ≡ take (length (journal_text self) - opened.dropped) (journal_text self)) }
@@ -225,7 +221,7 @@ impl Resuming {
                         is_ahead: _,
                     } = entries;
                     guardians_are_listable(&guardian);
-                    Ok(Opened {
+                    Ok(ResumedGuardian {
                         guardian,
                         dropped: 0,
                     })
@@ -240,7 +236,7 @@ impl Resuming {
 }
 
 /// The guardian of an opening.
-fn guardian_of(heap: Heap, lines: &OpeningLines) -> Result<Opened, OutOfMemory>
+fn guardian_of(heap: Heap, lines: &OpeningLines) -> Result<ResumedGuardian, OutOfMemory>
     requires { IsCounted lines.now }
     ensures guardian { IfOk result (λ opened. opened.guardian
         ≡ sound_front (opened_alone (opening_read lines.now))) }
@@ -250,7 +246,7 @@ fn guardian_of(heap: Heap, lines: &OpeningLines) -> Result<Opened, OutOfMemory>
 {
     let count = lines.sound_count();
     let guardian = lines.guardian(heap, count)?;
-    Ok(Opened {
+    Ok(ResumedGuardian {
         guardian,
         dropped: lines.end() - lines.end_of(count),
     })

@@ -8,8 +8,8 @@ pub loop-bytes-preserved : goal.loop-bytes-preserved
 loop-bytes-preserved c =
     let text = c.args.text.now in
     let from = c.loop-bytes.bytes in
-    let some = rw (take_rest text from) at c.in-Ok.ensures.some in
-    let longer = rw (take_rest text from) at c.in-Ok.ensures.text in
+    let some = rw (take_rest text from) at c.in-Ok.ensures.taken.0 in
+    let longer = rw (take_rest text from) at c.in-Ok.ensures.taken.1 in
     record {
       within = omega (arith, some.within, length-drop from text, c.loop-bytes-test.true);
       text = text_more (journal_text c.args.self.now) (journal_text c.loop-bytes.self)

@@ -8,14 +8,12 @@ use Rattle.argus_resume.proofs.resuming.Resuming.take_any.Goals as goal
 pub returns-in_default-clause-end : goal.returns-in_default-clause-end
 returns-in_default-clause-end c = (c.requires, none_there c.args.text.now (sym c.in_default.ensures))
 
-pub returns-in-Ok-clause-some : goal.returns-in-Ok-clause-some
-returns-in-Ok-clause-some c =
-    first_line c.args.text.now c.in-Some.length (feed_there c.args.text.now c.in-Some.length (sym c.in-Some.ensures))
-
-pub returns-in-Ok-clause-text : goal.returns-in-Ok-clause-text
-returns-in-Ok-clause-text c =
-    let f = feed_there c.args.text.now c.in-Some.length (sym c.in-Some.ensures) in
-    c.in-Ok.ensures.text ∙ ap (λ (t : List ℕ). journal_text c.args.self.now ++ t) (sym f.line)
+pub returns-in-Ok-clause-taken : goal.returns-in-Ok-clause-taken
+returns-in-Ok-clause-taken c =
+    let f = feed_there c.args.text.now c.in-Some.length (sym c.in-Some.ensures) in (
+      first_line c.args.text.now c.in-Some.length f,
+      c.in-Ok.ensures.text ∙ ap (λ (t : List ℕ). journal_text c.args.self.now ++ t) (sym f.line),
+    )
 
 pub returns-in-Err-clause-end : goal.returns-in-Err-clause-end
 returns-in-Err-clause-end c =

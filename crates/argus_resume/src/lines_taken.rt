@@ -1,4 +1,4 @@
-//! `Taken`: how much of a text was taken.
+//! `LinesTaken`: how much of a text was taken.
 
 use crate::taken_end::TakenEnd;
 
@@ -6,10 +6,10 @@ use crate::taken_end::TakenEnd;
 ///
 /// ```text
 /// let taken = resuming.take(b"0 begin_top -> a0\n1 commit");
-/// // Taken { bytes: 18, lines: 1, end: TakenEnd::Torn }
+/// // LinesTaken { bytes: 18, lines: 1, end: TakenEnd::Torn }
 /// ```
 #[derive(Debug, Drop)]
-pub struct Taken {
+pub struct LinesTaken {
     /// How many bytes, from the first one on.
     pub bytes: usize,
     /// How many lines these are.
