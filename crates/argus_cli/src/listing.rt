@@ -1,8 +1,7 @@
 //! `list`: what is asked of a guardian, written.
 
-ghost use Rattle.std.specs.Prelude.{IfErr, OnErr, OnOk, false, take, ℕ, ◌≡◌};
-ghost use Rattle.std.specs.Io.KnownBytes.{Appends};
-ghost use Rattle.argus_guardian.specs.Listing.{listing_of};
+ghost use Rattle.std.specs.Prelude.{IfErr, OnOk, false, ◌≡◌};
+ghost use Rattle.argus_guardian.specs.Listing.{Writes, listing_of};
 ghost use Rattle.argus_cli.specs.Status.{IsListingFault};
 ghost use Rattle.argus_commands.specs.FailStop.{has_failed, inner_of};
 
@@ -34,11 +33,9 @@ pub fn list<W: Write + Drop>(
     writer: &mut FailStop<W>,
 ) -> Result<(), CliFault>
     requires { has_failed writer.old ≡ false }
-    ensures written { OnOk result (Appends (W.contents (inner_of writer.old))
-        (W.contents (inner_of writer.new)) (listing_of listing names.now guardian.now)) }
+    ensures written { Writes result (W.contents (inner_of writer.old))
+        (W.contents (inner_of writer.new)) (listing_of listing names.now guardian.now) }
     ensures fine { OnOk result (has_failed writer.new ≡ false) }
-    ensures cut { OnErr result ((n : ℕ) × Appends (W.contents (inner_of writer.old))
-        (W.contents (inner_of writer.new)) (take n (listing_of listing names.now guardian.now))) }
     ensures failed { IfErr result (λ e. IsListingFault e (has_failed writer.new)) }
 {
     match argus_guardian::write_listing(heap, guardian, names, listing, writer) {

@@ -1,12 +1,12 @@
 //! `replay`: from the bytes of a journal's listing to a listing of its guardian.
 
-ghost use Rattle.std.specs.Prelude.{IfErr, IfOk, OnErr, OnOk, false, take, true, ℕ, ◌↔◌, ◌≡◌, ◌≢◌};
-ghost use Rattle.std.specs.{Prelude.{◌⊎◌}, Io.KnownBytes.Appends};
+ghost use Rattle.std.specs.Prelude.{IfErr, IfOk, OnOk, false, true, ◌↔◌, ◌≡◌, ◌≢◌, ◌⊎◌};
 ghost use Rattle.argus_cli.specs.Streams.{streams};
 ghost use Rattle.argus_cli.specs.Replayed.{IsFaultBehind, ReplayFailed, Replayed, numbered_listing};
 ghost use Rattle.argus_cli.specs.declared.replay_error.ReplayError.TheVariants as error;
 ghost use Rattle.argus_guardian.specs.resume_declared.read_end.ReadEnd.TheVariants as ends;
 ghost use Rattle.argus_commands.specs.FailStop.{has_failed, inner_of};
+ghost use Rattle.argus_guardian.specs.Listing.{Writes};
 ghost use Rattle.argus_guardian.specs.listings_declared.list_error.ListError.TheVariants as list_error;
 
 use crate::faulty_line::FaultyLine;
@@ -120,11 +120,9 @@ fn list_numbered<W: Write + Drop>(
     writer: &mut FailStop<W>,
 ) -> Result<(), ListError>
     requires { has_failed writer.old ≡ false }
-    ensures written { OnOk result (Appends (W.contents (inner_of writer.old))
-        (W.contents (inner_of writer.new)) (numbered_listing listing guardian.now)) }
+    ensures written { Writes result (W.contents (inner_of writer.old))
+        (W.contents (inner_of writer.new)) (numbered_listing listing guardian.now) }
     ensures fine { OnOk result (has_failed writer.new ≡ false) }
-    ensures cut { OnErr result ((n : ℕ) × Appends (W.contents (inner_of writer.old))
-        (W.contents (inner_of writer.new)) (take n (numbered_listing listing guardian.now))) }
     ensures failed { IfErr result (λ e. (e ≡ list_error.Write) ↔ (has_failed writer.new ≡ true)) }
 {
     let names = numbered_names(heap, guardian)?;

@@ -1,12 +1,11 @@
 //! `run`: from the bytes of a script to the listing of the guardian on which it was run.
 
-ghost use Rattle.std.specs.Prelude.{IfErr, OnErr, OnOk, false, take, ℕ, ◌+◌, ◌≡◌};
-ghost use Rattle.std.specs.Io.KnownBytes.{Appends};
+ghost use Rattle.std.specs.Prelude.{IfErr, OnOk, false, ◌+◌, ◌≡◌};
 ghost use Rattle.argus_commands.specs.language_declared.limits.TheConstants.{MAX_SCRIPT_BYTES};
 ghost use Rattle.argus_commands.specs.FailStop.{has_failed, inner_of};
 ghost use Rattle.argus_cli.specs.{Ran.{Ran, RunFailed, checkpointed}, Streams.streams};
 ghost use Rattle.argus_cli.specs.{Ranges.KeepsRanges, Status.IsListingFault};
-ghost use Rattle.argus_guardian.specs.Listing.{listing_of};
+ghost use Rattle.argus_guardian.specs.Listing.{Writes, listing_of};
 
 use crate::cli_fault::CliFault;
 use crate::listing::list;
@@ -94,13 +93,10 @@ fn fold_and_list<W: Write + Drop>(
     writer: &mut FailStop<W>,
 ) -> Result<(), CliFault>
     requires { has_failed writer.old ≡ false }
-    ensures written { OnOk result (Appends (W.contents (inner_of writer.old))
+    ensures written { Writes result (W.contents (inner_of writer.old))
         (W.contents (inner_of writer.new))
-        (listing_of options.listing names.now (checkpointed options.checkpoint guardian.old))) }
+        (listing_of options.listing names.now (checkpointed options.checkpoint guardian.old)) }
     ensures fine { OnOk result (has_failed writer.new ≡ false) }
-    ensures cut { OnErr result ((n : ℕ) × Appends (W.contents (inner_of writer.old))
-        (W.contents (inner_of writer.new)) (take n
-        (listing_of options.listing names.now (checkpointed options.checkpoint guardian.old)))) }
     ensures failed { IfErr result (λ e. IsListingFault e (has_failed writer.new)) }
 {
     fold_if(options.checkpoint, guardian)?;

@@ -2,7 +2,7 @@
 -- to come.
 use Rattle.std.proofs.Common.{List, None, Option, Some, [], ap, append_assoc, length, refl, subst, suc, sym, take, ℕ}
 use Rattle.std.proofs.{Common.{◌+◌, ◌++◌, zero, ◌∙◌, ◌∷◌, ◌≡◌}, Math.Seq.take-append-add, lemmas.List.append-nil}
-use Rattle.std.specs.Io.KnownBytes.{Appends}
+use Rattle.std.specs.{Io.KnownBytes.Appends, Prelude.{Err, Ok, OnOk, Result}}
 pub use Rattle.argus_core.proofs.AbortingLive.{on_err}
 use Rattle.argus_listings.specs.Flushing.{Added, Cut}
 
@@ -93,6 +93,17 @@ stops_then a s c t x y added = left_stops a s c t (x ++ y) y (left_after a s c t
 pub front_written : (a : Option (List ℕ)) (s : List ℕ) (c : Option (List ℕ)) (x : List ℕ) → s ≡ [] → Cut a s c x
     → (n : ℕ) × Appends a c (take n x)
 front_written a s c x e (n, p) = (n, subst (λ k. Appends a c (take n (k ++ x))) e p)
+
+-- what is still pending is written, too
+pub poured : {A B : Type 0} (r : Result A B) (a : Option (List ℕ)) (s : List ℕ) (c : Option (List ℕ)) (t : List ℕ)
+    (d : Option (List ℕ)) (u x : List ℕ) → s ≡ [] → Added a s c t x → OnOk r (Added c t d u []) → OnOk r (u ≡ [])
+    → OnOk r (Appends a d x)
+poured (Ok k) a s c t d u x e added rest none =
+    let (w, p, f) = added_then a s c t d u x [] added rest in
+    let same : w ≡ x = sym (append-nil w) ∙ ap (λ k. w ++ k) (sym none) ∙ sym f ∙ ap (λ k. k ++ (x ++ [])) e
+    ∙ append-nil x in
+    subst (Appends a d) same p
+poured (Err k) a s c t d u x e added rest none = tt
 
 pub front_poured : (a : Option (List ℕ)) (s : List ℕ) (c : Option (List ℕ)) (t : List ℕ) (d : Option (List ℕ))
     (x : List ℕ) → s ≡ [] → Added a s c t x → Cut c t d [] → (n : ℕ) × Appends a d (take n x)

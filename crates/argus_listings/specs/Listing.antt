@@ -1,5 +1,6 @@
 -- What each listing of a guardian is, to the byte.
-use Rattle.std.specs.{Fmt.decimal, List.{enumerate_from, flat_map, range_with_len}, Prelude.{◌∷◌}}
+use Rattle.std.specs.{Fmt.decimal, Io.KnownBytes.Appends, List.{enumerate_from, flat_map, range_with_len}}
+use Rattle.std.specs.{Prelude.{OnErr, OnOk, ◌∷◌}, declared.result.Result.Result}
 use Rattle.std.specs.Prelude.{List, None, Option, Some, [], codes, if◌then◌else◌, map, reverse, take, ℕ, ◌++◌, ◌==◌}
 use Rattle.argus_contents.specs.{Content.PlainContent, Shape.PlainShape}
 use Rattle.argus_entries.specs.{Entry.PlainEntry, EntrySpelling.entry_line}
@@ -131,3 +132,8 @@ listing_of Stacks names journal = objects_text Stacks names journal
 listing_of Journal names journal =
     opening_text journal.opening ++ entries_text journal.opening journal.entries
 listing_of Audit names journal = objects_text Audit names journal ++ length_line journal
+
+-- the text was written; or, behind an error, a front of it
+abbrev pub Writes : {T E : Type 0} → Result T E → Option (List ℕ) → Option (List ℕ) → List ℕ → Type 0
+Writes result old new text = OnOk result (Appends old new text)
+    × OnErr result ((n : ℕ) × Appends old new (take n text))

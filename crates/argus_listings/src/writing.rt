@@ -1,8 +1,7 @@
 //! `write_listing`: a listing of a guardian, written.
 
-ghost use Rattle.std.specs.{Io.KnownBytes.Appends, Prelude.{◌≡◌}};
-ghost use Rattle.std.specs.Prelude.{IfErr, OnErr, OnOk, false, string_bytes, take, true, ℕ, ◌↔◌};
-ghost use Rattle.argus_listings.specs.{Listing.listing_of, Flushing.{Added, Cut}};
+ghost use Rattle.std.specs.Prelude.{IfErr, OnErr, OnOk, false, string_bytes, true, ◌↔◌, ◌≡◌};
+ghost use Rattle.argus_listings.specs.{Listing.{Writes, listing_of}, Flushing.{Added, Cut}};
 ghost use Rattle.argus_listings.specs.declared.list_error.ListError.TheVariants.{Write};
 ghost use Rattle.argus_streams.specs.FailStop.{has_failed, inner_of};
 
@@ -45,11 +44,9 @@ pub fn write_listing<W: Write + Drop>(
     writer: &mut FailStop<W>,
 ) -> Result<(), ListError>
     requires { has_failed writer.old ≡ false }
-    ensures written { OnOk result (Appends (W.contents (inner_of writer.old))
-        (W.contents (inner_of writer.new)) (listing_of listing names.now guardian.now)) }
+    ensures written { Writes result (W.contents (inner_of writer.old))
+        (W.contents (inner_of writer.new)) (listing_of listing names.now guardian.now) }
     ensures fine { OnOk result (has_failed writer.new ≡ false) }
-    ensures cut { OnErr result ((n : ℕ) × Appends (W.contents (inner_of writer.old))
-        (W.contents (inner_of writer.new)) (take n (listing_of listing names.now guardian.now))) }
     ensures failed { IfErr result (λ e. (e ≡ Write) ↔ (has_failed writer.new ≡ true)) }
 {
     let mut text = String::new(heap.room());

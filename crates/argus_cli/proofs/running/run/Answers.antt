@@ -55,7 +55,7 @@ returns-then-options-gt1-clause-ran g c =
     listed c.args.options (MAX_SCRIPT_BYTES + 1)
     (streams g.R.Read.remaining g.W.Write.contents c.args.reader.now c.args.writer.now)
     (streams g.R.Read.remaining g.W.Write.contents c.read_up_to.new.reader c.fold_and_list.new.writer)
-    bytes c.in-Ok.ensures.read c.fold_and_list.result _ lists c.in-Ok.ensures.fine c.fold_and_list.ensures.written
+    bytes c.in-Ok.ensures.read c.fold_and_list.result _ lists c.in-Ok.ensures.fine c.fold_and_list.ensures.written.0
     c.fold_and_list.ensures.fine
 
 pub returns-then-options-gt1-clause-failed : goal.returns-then-options-gt1-clause-failed
@@ -68,7 +68,7 @@ returns-then-options-gt1-clause-failed g c =
     partly_listed c.args.options (MAX_SCRIPT_BYTES + 1)
     (streams g.R.Read.remaining g.W.Write.contents c.args.reader.now c.args.writer.now)
     (streams g.R.Read.remaining g.W.Write.contents c.read_up_to.new.reader c.fold_and_list.new.writer)
-    bytes c.in-Ok.ensures.read c.fold_and_list.result _ lists c.in-Ok.ensures.fine c.fold_and_list.ensures.cut
+    bytes c.in-Ok.ensures.read c.fold_and_list.result _ lists c.in-Ok.ensures.fine c.fold_and_list.ensures.written.1
     c.fold_and_list.ensures.failed
 
 pub returns-clause-ran : goal.returns-clause-ran
@@ -83,7 +83,7 @@ returns-clause-ran g c =
     listed c.args.options (MAX_SCRIPT_BYTES + 1)
     (streams g.R.Read.remaining g.W.Write.contents c.args.reader.now c.args.writer.now)
     (streams g.R.Read.remaining g.W.Write.contents c.read_up_to.new.reader c.fold_and_list-2.new.writer)
-    bytes c.in-Ok.ensures.read c.fold_and_list-2.result _ lists c.in-Ok.ensures.fine c.fold_and_list-2.ensures.written
+    bytes c.in-Ok.ensures.read c.fold_and_list-2.result _ lists c.in-Ok.ensures.fine c.fold_and_list-2.ensures.written.0
     c.fold_and_list-2.ensures.fine
 
 pub returns-clause-failed : goal.returns-clause-failed
@@ -98,5 +98,5 @@ returns-clause-failed g c =
     partly_listed c.args.options (MAX_SCRIPT_BYTES + 1)
     (streams g.R.Read.remaining g.W.Write.contents c.args.reader.now c.args.writer.now)
     (streams g.R.Read.remaining g.W.Write.contents c.read_up_to.new.reader c.fold_and_list-2.new.writer)
-    bytes c.in-Ok.ensures.read c.fold_and_list-2.result _ lists c.in-Ok.ensures.fine c.fold_and_list-2.ensures.cut
+    bytes c.in-Ok.ensures.read c.fold_and_list-2.result _ lists c.in-Ok.ensures.fine c.fold_and_list-2.ensures.written.1
     c.fold_and_list-2.ensures.failed
