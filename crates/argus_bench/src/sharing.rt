@@ -1,9 +1,7 @@
 //! Work on a shared guardian.
 
 ghost use Rattle.std.specs.Prelude.{◌≡◌};
-ghost use Rattle.argus_guardian.specs.Keeper.{StartsHistory};
-ghost use Rattle.argus_guardian.specs.Following.{journal_bases, journal_effects};
-ghost use Rattle.argus_journal.specs.{Opening.content_in, JournalView.next_entry};
+ghost use Rattle.argus_guardian.specs.Starting.{StartsWith};
 
 use crate::bench_error::BenchError;
 use crate::client::Client;
@@ -63,11 +61,7 @@ fn time_shared<N: Sharing + Send + Sync, R: Threads + Wait + Clock + Copy + Drop
     requires name { blank.name ≡ N.name }
     requires parts { (blank.parts ≡ N.parts) × (blank.parts ≡ seats) }
     requires places { N.places ≡ lookers }
-    requires keeper { StartsHistory N.history N.root keeper }
-    requires start { N.start ≡ next_entry guardian }
-    requires before { N.before ≡ journal_effects guardian }
-    requires opening { N.opening_contents ≡ content_in guardian.opening.objects }
-    requires first { N.first ≡ journal_bases guardian }
+    requires starts { StartsWith N.Board N.start guardian keeper }
 {
     let (seats, lookers) = (u32::from(seats), u32::from(lookers));
     match Shared::<N, R>::new(rt, heap, guardian, seats, lookers, blank, keeper) {

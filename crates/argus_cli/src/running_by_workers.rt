@@ -1,11 +1,10 @@
 //! A run by several workers, which share a new guardian.
 
 ghost use Rattle.std.specs.Prelude.{All, IfOk, [], length, true, ◌+◌, ◌≡◌, ◌≤◌};
-ghost use Rattle.argus_guardian.specs.Keeper.{StartsHistory};
-ghost use Rattle.argus_guardian.specs.Following.{journal_bases, journal_effects};
+ghost use Rattle.argus_guardian.specs.Starting.{StartsWith};
 ghost use Rattle.argus_cli.specs.{ByWorkers.IsLeftByWorkers, Ranges.IsTeam};
 ghost use Rattle.argus_commands.specs.Script.{plain_script};
-ghost use Rattle.argus_journal.specs.{Opening.{content_in, empty}, JournalView.next_entry};
+ghost use Rattle.argus_journal.specs.Opening.{empty};
 
 use argus_commands::{NoGate, Script, checked_runs_are_runs, run_shared};
 use argus_guardian::{Guardian, Keeper, Parts, Shared, Sharing};
@@ -60,11 +59,7 @@ fn share<N: Sharing + Send + Sync, T: Threads + Wait + Copy + Drop + Send + Sync
     requires name { blank.name ≡ N.name }
     requires parts { (blank.parts ≡ N.parts) × (blank.parts ≡ workers + 1) }
     requires places { N.places ≡ 0 }
-    requires keeper { StartsHistory N.history N.root keeper }
-    requires start { N.start ≡ next_entry guardian }
-    requires before { N.before ≡ journal_effects guardian }
-    requires opening { N.opening_contents ≡ content_in guardian.opening.objects }
-    requires first { N.first ≡ journal_bases guardian }
+    requires starts { StartsWith N.Board N.start guardian keeper }
     ensures { IfOk result (λ left. IsLeftByWorkers (plain_script script.now) left) }
 {
     match Shared::<N, T>::new(*rt, heap, guardian, workers + 1, 0, blank, keeper) {

@@ -2,9 +2,7 @@
 #![tactic(auto)]
 
 ghost use Rattle.std.specs.Prelude.{◌≡◌};
-ghost use Rattle.argus_guardian.specs.Keeper.{StartsHistory};
-ghost use Rattle.argus_guardian.specs.Following.{journal_bases, journal_effects};
-ghost use Rattle.argus_journal.specs.{Opening.content_in, JournalView.next_entry};
+ghost use Rattle.argus_guardian.specs.Starting.{StartsWith};
 
 use anyhow::{Result, anyhow};
 use argus_actions::ActionId;
@@ -47,11 +45,7 @@ fn pay_from_threads<N: Sharing + Send + Sync, R: Threads + Wait + Copy + Drop + 
     requires name { blank.name ≡ N.name }
     requires parts { (blank.parts ≡ N.parts) × (blank.parts ≡ 2) }
     requires places { N.places ≡ 0 }
-    requires keeper { StartsHistory N.history N.root keeper }
-    requires start { N.start ≡ next_entry guardian }
-    requires before { N.before ≡ journal_effects guardian }
-    requires opening { N.opening_contents ≡ content_in guardian.opening.objects }
-    requires first { N.first ≡ journal_bases guardian }
+    requires starts { StartsWith N.Board N.start guardian keeper }
 {
     let parts = Shared::<N, R>::new(rt, heap, guardian, 2, 0, blank, keeper);
     let Parts {

@@ -14,6 +14,7 @@ pub use Rattle.argus_sharing.specs.Following
 pub use Rattle.argus_sharing.specs.Locked
 pub use Rattle.argus_sharing.specs.Receipt
 pub use Rattle.argus_sharing.specs.Seat
+pub use Rattle.argus_sharing.specs.Starting
 pub use Rattle.argus_sharing.specs.Waking
 pub use Rattle.argus_listings.specs.Listing
 pub use Rattle.argus_reading.specs.Calls

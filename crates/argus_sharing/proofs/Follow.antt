@@ -126,10 +126,11 @@ goes_on_other journal call board other = (
 )
 
 -- so it does if the call was made
-pub goes_on_if : {A B : Type 0} (r : Result A B) (journal : JournalView) (call : PlainCall) (board : BoardView)
-    → IsNoCommit call → OnOk r (GoesOn board board (added_by_call journal call))
-goes_on_if (Ok a) journal call board other = goes_on_other journal call board other
-goes_on_if (Err b) journal call board other = tt
+pub goes_on_if : {A B : Type 0} (r : Result A B) (journal next : JournalView) (call : PlainCall) (board : BoardView)
+    → IsNoCommit call → OnOk r (next ≡ after journal call)
+    → OnOk r ((next ≡ after journal call) × GoesOn board board (added_by_call journal call))
+goes_on_if (Ok a) journal next call board other made = (made, goes_on_other journal call board other)
+goes_on_if (Err b) journal next call board other made = tt
 
 -- what was published stays, behind a publish
 published_on : {A B : Type 0} (r : Result A B) (was pending now : BoardView) → pending.published ≡ was.published

@@ -10,7 +10,7 @@ use Rattle.argus_journal.specs.{Legal.Legal, Objects.declared, Opening.{KeepsNum
 use Rattle.argus_journal.specs.JournalFacts.{base_of, effects_of}
 use Rattle.argus_journal.specs.JournalView.{JournalView, after, next_entry, reply_to}
 use Rattle.argus_model.specs.Effects.{table}
-use Rattle.argus_sharing.specs.Locked.{LockedState}
+use Rattle.argus_sharing.specs.{Locked.LockedState, declared.publishing_guardian.PublishingGuardian.PublishingGuardian}
 
 -- the effects of the journal's entries
 abbrev pub journal_effects : JournalView → List Effect
@@ -48,6 +48,11 @@ GoesOn was now added = IsPrefix was.published now.published
 abbrev pub IsMade : LockedState → LockedState → PlainCall → Type 0
 IsMade was now call = (now.journal ≡ after was.journal call)
     × GoesOn was.board now.board (added_by_call was.journal call)
+
+-- the same of a guardian with its board
+abbrev pub IsPublished : {N R : Type 0} → PublishingGuardian N R → PublishingGuardian N R → PlainCall → Type 0
+IsPublished was now call = (now.guardian ≡ after was.guardian call)
+    × GoesOn was.board now.board (added_by_call was.guardian call)
 
 -- before, a shared guardian may have the journal, and after it the board follows the journal
 abbrev pub GoesFrom : (ℕ → Option PlainContent) → ℕ → LockedState → LockedState → Type 0

@@ -1,6 +1,7 @@
 pub mod CallEach
 pub mod Locked
 pub mod Following
+pub mod Starting
 pub mod Waking
 pub mod Checkpoint
 pub mod Seat

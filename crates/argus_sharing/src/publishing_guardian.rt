@@ -4,7 +4,7 @@ ghost use Rattle.std.specs.Prelude.{◌++◌, ◌≡◌, IfOk, OnErr, OnOk};
 ghost use Rattle.argus_entries.specs.{Call.{commit, plain_call}, Reply.plain_reply};
 ghost use Rattle.argus_core.specs.ReadyCommit.{added_by_call};
 ghost use Rattle.argus_journal.specs.JournalView.{after, reply_to};
-ghost use Rattle.argus_sharing.specs.Following.{GoesOn, IsNoCommit};
+ghost use Rattle.argus_sharing.specs.Following.{IsNoCommit, IsPublished};
 
 use crate::ghost_commit::{Added, GhostCommit};
 use crate::sharing::Sharing;
@@ -31,10 +31,7 @@ impl<N: Sharing, R: Wait + Drop> PublishingGuardian<N, R> {
     pub(crate) fn answer(&mut self, call: Call) -> Result<Reply, OutOfMemory>
         ensures reply { IfOk result (λ reply. plain_reply reply
             ≡ reply_to self.old.guardian (plain_call call)) }
-        ensures journal { OnOk result (self.new.guardian
-            ≡ after self.old.guardian (plain_call call)) }
-        ensures goes_on { OnOk result (GoesOn self.old.board self.new.board
-            (added_by_call self.old.guardian (plain_call call))) }
+        ensures made { OnOk result (IsPublished self.old self.new (plain_call call)) }
         ensures err { OnErr result ((self.new.guardian ≡ self.old.guardian)
             × (self.new.board ≡ self.old.board)) }
     {
@@ -59,10 +56,7 @@ impl<N: Sharing, R: Wait + Drop> PublishingGuardian<N, R> {
         requires { IsNoCommit (plain_call call) }
         ensures reply { IfOk result (λ reply. plain_reply reply
             ≡ reply_to self.old.guardian (plain_call call)) }
-        ensures journal { OnOk result (self.new.guardian
-            ≡ after self.old.guardian (plain_call call)) }
-        ensures goes_on { OnOk result (GoesOn self.old.board self.new.board
-            (added_by_call self.old.guardian (plain_call call))) }
+        ensures made { OnOk result (IsPublished self.old self.new (plain_call call)) }
         ensures err { OnErr result ((self.new.guardian ≡ self.old.guardian)
             × (self.new.board ≡ self.old.board)) }
     {
@@ -73,9 +67,7 @@ impl<N: Sharing, R: Wait + Drop> PublishingGuardian<N, R> {
     fn commit_and_publish(&mut self, a: ActionId) -> Result<Reply, OutOfMemory>
         ensures reply { IfOk result (λ reply. plain_reply reply
             ≡ reply_to self.old.guardian (commit a.0)) }
-        ensures journal { OnOk result (self.new.guardian ≡ after self.old.guardian (commit a.0)) }
-        ensures goes_on { OnOk result (GoesOn self.old.board self.new.board
-            (added_by_call self.old.guardian (commit a.0))) }
+        ensures made { OnOk result (IsPublished self.old self.new (commit a.0)) }
         ensures err { OnErr result ((self.new.guardian ≡ self.old.guardian)
             × (self.new.board ≡ self.old.board)) }
     {

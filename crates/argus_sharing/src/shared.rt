@@ -3,14 +3,13 @@
 ghost use Rattle.std.specs.Prelude.{All, IfErr, IfOk, OnErr, OnOk, [], false, length, map, sum_by};
 ghost use Rattle.std.specs.{Prelude.{true, ◌++◌, ◌+◌, ◌<◌, ◌≡◌, ◌≢◌}, Result.result_err};
 ghost use mathlib.Core.List.{IsPrefix};
-ghost use Rattle.argus_board.specs.Keeper.{StartsHistory};
 ghost use Rattle.argus_entries.specs.{Call.plain_call, Reply.plain_reply};
-ghost use Rattle.argus_journal.specs.{Opening.content_in, JournalView.{JournalView, next_entry}};
+ghost use Rattle.argus_journal.specs.JournalView.{JournalView, next_entry};
 ghost use Rattle.argus_sharing.specs.Checking.{AreApart, IsSettleAnswer, Stands, settle_fault};
 ghost use Rattle.argus_sharing.specs.{Receipt.plain_receipt, CallEach.{end_of, replies_of}};
 ghost use Rattle.argus_sharing.specs.{Checkpoint.IsCheckpointAnswer, Locked.LockedState};
 ghost use Rattle.argus_sharing.specs.Following.{FollowsJournal, IsFollowed, IsNextEntry};
-ghost use Rattle.argus_sharing.specs.Following.{IsSharedJournal, journal_bases, journal_effects};
+ghost use Rattle.argus_sharing.specs.{Following.{IsSharedJournal, journal_effects}, Starting.StartsWith};
 ghost use Rattle.argus_sharing.specs.declared.calls_end.CallsEnd.TheVariants as calls_end;
 
 use crate::answered::Answered;
@@ -77,11 +76,7 @@ impl<N: Sharing, R: Wait + Drop> Shared<N, R> {
         requires places { N.places ≡ lookers }
         requires name { blank.name ≡ N.name }
         requires parts { (blank.parts ≡ N.parts) × (blank.parts ≡ seats) }
-        requires keeper { StartsHistory N.history N.root keeper }
-        requires start { N.start ≡ next_entry guardian }
-        requires before { N.before ≡ journal_effects guardian }
-        requires opening { N.opening_contents ≡ content_in guardian.opening.objects }
-        requires first { N.first ≡ journal_bases guardian }
+        requires starts { StartsWith N.Board N.start guardian keeper }
         ensures seats { IfOk result (λ p. All (λ seat. seat.made ≡ 0) p.seats.items
             × (length p.seats.items ≡ seats)) }
         ensures lookers { IfOk result (λ p. All (λ looker. looker ≡ journal_effects guardian)

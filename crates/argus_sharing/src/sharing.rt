@@ -18,11 +18,7 @@ use std::sync::ledger::Ledger;
 ///     requires name { blank.name ≡ N.name }
 ///     requires parts { (blank.parts ≡ N.parts) × (blank.parts ≡ 2) }
 ///     requires places { N.places ≡ 0 }
-///     requires keeper { StartsHistory N.history N.root keeper }
-///     requires start { N.start ≡ next_entry guardian }
-///     requires before { N.before ≡ journal_effects guardian }
-///     requires opening { N.opening_contents ≡ content_in guardian.opening.objects }
-///     requires first { N.first ≡ journal_bases guardian }
+///     requires starts { StartsWith N.Board N.start guardian keeper }
 /// {
 ///     let parts = Shared::<N, R>::new(rt, heap, guardian, 2, 0, blank, keeper)?;
 ///     ..                                          // two seats call, and settle

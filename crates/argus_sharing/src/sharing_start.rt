@@ -1,10 +1,10 @@
 //! What a sharing begins with: seats, lookers, and the contents of its board.
 
 ghost use Rattle.std.specs.Prelude.{◌<◌, ◌≡◌, [], All, IfOk, length};
-ghost use Rattle.argus_board.specs.{Effects.plain_contents, Keeper.StartsHistory};
+ghost use Rattle.argus_board.specs.Effects.{plain_contents};
 ghost use Rattle.argus_contents.specs.Content.{plain_option};
-ghost use Rattle.argus_journal.specs.{Objects.declared, Opening.content_in, JournalFacts.base_of};
-ghost use Rattle.argus_sharing.specs.Following.{journal_bases, journal_effects};
+ghost use Rattle.argus_journal.specs.{Objects.declared, JournalFacts.base_of};
+ghost use Rattle.argus_sharing.specs.{Following.journal_bases, Starting.StartsWith};
 
 use crate::seat::Seat;
 use crate::sharing::Sharing;
@@ -60,10 +60,7 @@ pub(crate) fn board_of<N: Sharing, R: Wait + Drop>(
 ) -> Result<BoardWriter<N, R>, OutOfMemory>
     requires lookers { lookers < 4294967295 }
     requires places { N.places ≡ lookers }
-    requires keeper { StartsHistory N.history N.root keeper }
-    requires before { N.before ≡ journal_effects guardian.now }
-    requires opening { N.opening_contents ≡ content_in guardian.now.opening.objects }
-    requires first { N.first ≡ journal_bases guardian.now }
+    requires starts { StartsWith N.Board N.start guardian.now keeper }
     ensures published { IfOk result (λ board. board.published ≡ N.before) }
     ensures pending { IfOk result (λ board. board.pending ≡ []) }
 {

@@ -5,4 +5,4 @@ use Rattle.argus_cli.proofs.running_by_workers.share.Goals as goal
 
 pub run_and_settle-requires-clause-start : goal.run_and_settle-requires-clause-start
 run_and_settle-requires-clause-start g c κs within =
-    c.requires.start ∙ starts_at_none c.args.guardian c.requires.fresh.0 c.requires.fresh.1
+    c.requires.starts.1 ∙ starts_at_none c.args.guardian c.requires.fresh.0 c.requires.fresh.1

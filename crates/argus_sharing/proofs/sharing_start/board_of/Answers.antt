@@ -6,10 +6,10 @@ pub without_places-requires-clause-first : goal.without_places-requires-clause-f
 without_places-requires-clause-first g c =
     bases_lead c.args.guardian.now c.contents_fit.ensures.base g.N.Board.opening_contents g.N.Board.before
     g.N.Board.first
-    c.journal_is_legal.ensures.legal c.requires.opening c.requires.before c.requires.first
+    c.journal_is_legal.ensures.legal c.requires.starts.3 c.requires.starts.2 c.requires.starts.4
 
 pub new-requires-clause-first : goal.new-requires-clause-first
 new-requires-clause-first g c =
     bases_lead c.args.guardian.now c.contents_fit.ensures.base g.N.Board.opening_contents g.N.Board.before
     g.N.Board.first
-    c.journal_is_legal.ensures.legal c.requires.opening c.requires.before c.requires.first
+    c.journal_is_legal.ensures.legal c.requires.starts.3 c.requires.starts.2 c.requires.starts.4

@@ -13,12 +13,12 @@ returns-clause-shared g c =
       c.journal.ensures.shared,
       follows_call g.N.Board.opening_contents was.guardian now.guardian (plain_call c.args.call)
           (was.board.published ++ was.board.pending) (now.board.published ++ now.board.pending)
-          c.journal_is_legal.ensures.legal inv.2 c.in_ok-reply.ensures.journal c.in_ok-reply.ensures.goes_on.1,
+          c.journal_is_legal.ensures.legal inv.2 c.in_ok-reply.ensures.made.0 c.in_ok-reply.ensures.made.1.1,
     )
 
 pub invariant_of-self-2 : goal.invariant_of-self-2
 invariant_of-self-2 g c =
     let inv = c.self.invariant in
     let made : next_entry c.answer.new.self.guardian ≡ next_entry c.self.inside.publishing.guardian + 1 =
-    ap next_entry c.in_ok-reply.ensures.journal ∙ omega arith in
+    ap next_entry c.in_ok-reply.ensures.made.0 ∙ omega arith in
     (inv.0, omega (arith, made, inv.1, c.counted-at.ensures.total), (returns-clause-shared g c).1)

@@ -5,4 +5,4 @@ use Rattle.argus_sharing.proofs.shared.Shared.new.Goals as goal
 pub returns-clause-lookers : goal.returns-clause-lookers
 returns-clause-lookers g c =
     let all = c.in-Ok-lookers_at.ensures.lookers in
-    ((λ k d lt. all.0 k d lt ∙ c.requires.before), all.1)
+    ((λ k d lt. all.0 k d lt ∙ c.requires.starts.2), all.1)
