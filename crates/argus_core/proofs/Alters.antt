@@ -5,12 +5,12 @@ use Rattle.argus_actions.specs.declared.action_id.ActionId.{ActionId}
 use Rattle.argus_contents.specs.{Fitting.change_suits, Change.{PlainChange, outcome}, Answer.PlainAnswer}
 use Rattle.argus_contents.specs.{declared.obj_id.ObjId.ObjId, Shape.PlainShape}
 use Rattle.argus_entries.specs.{Call.alter, Entry.PlainEntry, Reply.answered}
-use Rattle.argus_core.specs.Accessing.{IsAccessed, IsAltered, IsFree, access_refusal, seen_at}
+use Rattle.argus_core.specs.Accessing.{CanAlter, CanAsk, IsAccessed, IsAltered, IsFree, access_refusal, seen_at}
 use Rattle.argus_core.specs.{StateRefinement.StateRefinesJournal, GuardianState.{StateInvariant, journal_view_of}}
 use Rattle.argus_core.specs.declared.engine.atomic_object.AtomicObject.{AtomicObject}
 use Rattle.argus_core.{specs.declared.engine.guardian_state.GuardianState.GuardianState, proofs.Accesses.IsAccess}
 use Rattle.argus_core.proofs.Accesses.{access_free, access_granted, access_is, acts, count, seen_is, writes_agree}
-use Rattle.argus_core.proofs.{Ends.some_object, FreeLocks.writer_reads, MadeAccesses.made_change}
+use Rattle.argus_core.proofs.{Ends.some_object, FreeLocks.{can_alter, can_ask, writer_reads}, MadeAccesses.made_change}
 use Rattle.argus_journal.specs.{JournalView.{entry_with, reply_to}, LegalJournal.{entries_in, opening_in}}
 use Rattle.argus_journal.specs.Opening.{Opening}
 use Rattle.argus_objects.specs.{Rules.{may_read, may_write}, declared.holdings.Holdings.Holdings}
@@ -30,8 +30,14 @@ module _ (p : GuardianState) (k : StateInvariant p) (a : ActionId) (o : ObjId) (
     pub alter_free : IsFree p.tree p.objects.items a o (λ c. may_write p.tree c a)
     alter_free = access_free alters e
 
-    pub alter_reads : IsFree p.tree p.objects.items a o (λ c. may_read p.tree c a)
+    alter_reads : IsFree p.tree p.objects.items a o (λ c. may_read p.tree c a)
     alter_reads = writer_reads p k a o alter_free
+
+    pub alter_ready : CanAlter p.tree p.objects.items p.holdings a o
+    alter_ready = can_alter p k a o alter_free
+
+    pub removal_ready : CanAsk p.tree p.objects.items a o
+    removal_ready = can_ask p k a o alter_reads
 
     -- what was read at any object is the answer
     pub alter_told : (x : PlainAnswer)

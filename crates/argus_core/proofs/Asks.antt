@@ -4,12 +4,12 @@ use Rattle.argus_actions.specs.declared.action_id.ActionId.{ActionId}
 use Rattle.argus_contents.specs.{Fitting.query_suits, Query.reply, Answer.PlainAnswer, declared.obj_id.ObjId.ObjId}
 use Rattle.argus_contents.specs.declared.query.Query.{Query}
 use Rattle.argus_entries.specs.{Call.ask, Reply.answered}
-use Rattle.argus_core.specs.{Accessing.{IsAccessed, IsFree, seen_at}, Moving.IsRead}
+use Rattle.argus_core.specs.{Accessing.{CanAsk, IsAccessed, IsFree, seen_at}, Moving.IsRead}
 use Rattle.argus_core.specs.{StateRefinement.StateRefinesJournal, GuardianState.{StateInvariant, journal_view_of}}
 use Rattle.argus_core.specs.declared.engine.atomic_object.AtomicObject.{AtomicObject}
 use Rattle.argus_core.{specs.declared.engine.guardian_state.GuardianState.GuardianState, proofs.Accesses.IsAccess}
 use Rattle.argus_core.proofs.Accesses.{access_free, access_granted, access_is, acts, reads_agree, seen_is}
-use Rattle.argus_core.proofs.{Ends.some_object, MadeAccesses.made_read}
+use Rattle.argus_core.proofs.{Ends.some_object, FreeLocks.can_ask, MadeAccesses.made_read}
 use Rattle.argus_journal.specs.{JournalView.{entry_with, refusal_to, reply_to}, LegalJournal.{entries_in, opening_in}}
 use Rattle.argus_objects.specs.{Rules.may_read, declared.holdings.Holdings.Holdings}
 
@@ -23,6 +23,9 @@ module _ (p : GuardianState) (k : StateInvariant p) (a : ActionId) (o : ObjId) (
   module _ (granted : refusal_to (journal_view_of p) (ask a.0 o.0 query) ≡ None) where
     pub ask_free : IsFree p.tree p.objects.items a o (λ c. may_read p.tree c a)
     ask_free = access_free asks (asks.refuses ∙ granted)
+
+    pub ask_ready : CanAsk p.tree p.objects.items a o
+    ask_ready = can_ask p k a o ask_free
 
     -- what was read at any object is the answer
     pub ask_told : (x : PlainAnswer) → ((d : AtomicObject) → x ≡ reply query (seen_at p.tree a p.objects.items o.0 d))

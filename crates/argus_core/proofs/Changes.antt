@@ -6,7 +6,7 @@ use Rattle.std.proofs.lemmas.{List.{Folds.{list_any_at, list_any_more}, get_or_d
 use Rattle.std.specs.List.{IsDistinct}
 use Rattle.argus_contents.specs.declared.obj_id.ObjId.{ObjId}
 use Rattle.argus_actions.specs.Tree.{Tree}
-use Rattle.argus_core.specs.Moving.{AreChanged, AreLawful, AreThere, ChangedIf, IsChanged, is_listed}
+use Rattle.argus_core.specs.Moving.{AreChanged, CanVisit, ChangedIf, IsChanged, is_listed}
 use Rattle.argus_core.specs.declared.engine.atomic_object.AtomicObject.{AtomicObject}
 use Rattle.argus_objects.specs.{Object.Object, Rules.is_lawful}
 
@@ -37,34 +37,33 @@ unchanged : (R : Object → Object → Type 0) (b : Bool) (old new : Object) →
 unchanged R b old new is changed = subst (λ b. ChangedIf b R old new) is changed
 
 -- the next object of the list is there
-pub is_within : (R : Object → Object → Type 0) (list : List ObjId) (place : ℕ) (default : ObjId)
-    (old now : List AtomicObject) → place < length list → AreThere list (length old)
+pub is_within : {t : Tree} {old : List AtomicObject} {list : List ObjId} → CanVisit t old list
+    → {R : Object → Object → Type 0} (place : ℕ) (default : ObjId) (now : List AtomicObject) → place < length list
     → AreChanged R (take place list) old now → (get_or list place default).0 < length now
-is_within R list place default old now comes there so_far =
+is_within {list = list} ready place default now comes so_far =
     let number = (get_or list place default).0 in
-    subst (λ n. number < n) (sym so_far.count) (there number (listed_at list place default comes))
+    subst (λ n. number < n) (sym so_far.count) (ready.there number (listed_at list place default comes))
 
 -- In the midst of a loop over the list: those before this place are changed so far, and the next object is `object`.
-module _ (R : Object → Object → Type 0) (list : List ObjId) (place : ℕ) (default : ObjId)
-    (old now : List AtomicObject) (object : AtomicObject) (once : IsDistinct (λ x y. eqb x.0 y.0) list)
-    (comes : place < length list) (there : AreThere list (length old))
-    (so_far : AreChanged R (take place list) old now) where
+module _ {t : Tree} {old : List AtomicObject} {list : List ObjId} (ready : CanVisit t old list)
+    (R : Object → Object → Type 0) (place : ℕ) (default : ObjId) (now : List AtomicObject) (object : AtomicObject)
+    (comes : place < length list) (so_far : AreChanged R (take place list) old now) where
   abbrev number : ℕ
   number = (get_or list place default).0
 
   was_there : number < length old
-  was_there = there number (listed_at list place default comes)
+  was_there = ready.there number (listed_at list place default comes)
 
   within : number < length now
-  within = is_within R list place default old now comes there so_far
+  within = is_within ready place default now comes so_far
 
   -- the next object hasn't been changed yet
-  pub same_yet : (get_or now number object).cell ≡ (get_or old number object).cell
+  same_yet : (get_or now number object).cell ≡ (get_or old number object).cell
   same_yet = grind (arith, nat_tests, unchanged, not_before, was_there)
 
   -- so it is lawful, as all were at first
-  pub lawful_yet : (t : Tree) → AreLawful t old → is_lawful t (get_or now number object).cell ≡ true
-  lawful_yet t lawful = ap (is_lawful t) same_yet ∙ lawful number object was_there
+  pub lawful_yet : is_lawful t (get_or now number object).cell ≡ true
+  lawful_yet = ap (is_lawful t) same_yet ∙ ready.lawful number object was_there
 
   module _ (new : Object) (changed : R (get_or now number object).cell new) where
     abbrev put : AtomicObject

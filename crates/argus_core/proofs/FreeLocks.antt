@@ -2,10 +2,10 @@
 use Rattle.std.proofs.Common.{Bool, None, Option, length, sym, true, ◌<◌, ◌∙◌, ◌≡◌, arith}
 use Rattle.std.proofs.lemmas.Bool.Decides.{nat_tests}
 use Rattle.argus_actions.specs.declared.action_id.ActionId.{ActionId}
-use Rattle.argus_contents.specs.{Answer.{PlainAnswer, flag}, Content.KeepsLimits, declared.obj_id.ObjId.ObjId}
+use Rattle.argus_contents.specs.{Answer.{PlainAnswer, flag}, declared.obj_id.ObjId.ObjId}
 use Rattle.argus_entries.specs.{Call.PlainCall, Reply.{PlainReply, answered}, declared.refusal.Refusal.Refusal}
-use Rattle.argus_core.specs.{Accessing.{IsFree, IsListedIfHeld, seen_at}, GuardianState.StateInvariant}
-use Rattle.argus_core.specs.{GuardianState.journal_view_of, declared.engine.atomic_object.AtomicObject.AtomicObject}
+use Rattle.argus_core.specs.{Accessing.{CanAlter, CanAsk, IsFree, IsListedIfHeld}, GuardianState.StateInvariant}
+use Rattle.argus_core.specs.GuardianState.{journal_view_of}
 use Rattle.argus_core.{specs.declared.engine.guardian_state.GuardianState.GuardianState, proofs.Accesses.acts}
 use Rattle.argus_core.proofs.{Accesses.{granted_to, seen_limits}, EndedState.listed_if_held, Tests.{IsTest, test_free}}
 use Rattle.argus_core.proofs.Tests.{test_lock, tests}
@@ -37,16 +37,30 @@ module _ (p : GuardianState) (k : StateInvariant p) (a : ActionId) (o : ObjId) w
   pub listed_held : o.0 < length p.objects.items → IsListedIfHeld p.objects.items p.holdings a o
   listed_held low d = grind (arith, nat_tests, listed_if_held _ _ _ _ _ k.state a o.0 d low)
 
-  -- what is seen keeps the limits
-  pub reader_limits : IsFree p.tree p.objects.items a o (λ cell. may_read p.tree cell a) → (d : AtomicObject)
-      → KeepsLimits (seen_at p.tree a p.objects.items o.0 d)
-  reader_limits f d =
-      grind (arith, nat_tests, seen_limits _ _ _ _ _ k a o.0 (acts _ _ _ _ _ k a o.0 f.accepted) d f.low (f.opens d))
+  -- what may be read may be asked, since what is seen keeps the limits
+  pub can_ask : IsFree p.tree p.objects.items a o (λ cell. may_read p.tree cell a)
+      → CanAsk p.tree p.objects.items a o
+  can_ask f = record {
+    free = f;
+    limits = λ d.
+        grind (
+          arith,
+          nat_tests,
+          seen_limits _ _ _ _ _ k a o.0 (acts _ _ _ _ _ k a o.0 f.accepted) d f.low
+              (f.opens d),
+        );
+  }
 
-  -- who may write may read
   module _ (f : IsFree p.tree p.objects.items a o (λ cell. may_write p.tree cell a)) where
+    -- who may write may read
     pub writer_reads : IsFree p.tree p.objects.items a o (λ cell. may_read p.tree cell a)
     writer_reads = grind (arith, nat_tests)
 
-    pub writer_limits : (d : AtomicObject) → KeepsLimits (seen_at p.tree a p.objects.items o.0 d)
-    writer_limits = reader_limits writer_reads
+    -- what may be written may be altered
+    pub can_alter : CanAlter p.tree p.objects.items p.holdings a o
+    can_alter = record {
+      lawful = λ o d low. (k.state.each o d low).lawful;
+      free = f;
+      limits = (can_ask writer_reads).limits;
+      listed = listed_held f.low;
+    }

@@ -3,12 +3,12 @@ use Rattle.std.proofs.{Common.{None, Option, Some, refl, ℕ, ◌∷◌, ◌≡�
 use Rattle.argus_actions.specs.Refusals.{abort_others_refusal, abort_refusal, begin_nested_refusal, begin_sub_refusal}
 use Rattle.argus_actions.specs.{Refusals.{begin_top_refusal, commit_refusal}, declared.action_id.ActionId.ActionId}
 use Rattle.argus_actions.specs.{declared.action_refusal.ActionRefusal.ActionRefusal, Tree.{SameActions, Tree}}
-use Rattle.argus_actions.specs.Tree.{after_begin, next}
+use Rattle.argus_actions.specs.{Nodes.AreLinked, Tree.{after_begin, next}}
 use Rattle.argus_contents.specs.Answer.{done}
 use Rattle.argus_entries.specs.Call.{PlainCall, abort, abort_others, begin_nested, begin_sub, begin_top, commit}
 use Rattle.argus_entries.specs.Reply.{answered, begun, refused}
 use Rattle.argus_core.specs.{StateRefinement.StateRefinesJournal, GuardianState.{StateInvariant, journal_view_of}}
-use Rattle.argus_core.specs.{Sweeping.AreCovered, declared.engine.guardian_state.GuardianState.GuardianState}
+use Rattle.argus_core.specs.{Sweeping.CanSweep, declared.engine.guardian_state.GuardianState.GuardianState}
 use Rattle.argus_core.proofs.{EndedState.parts_cover, Begun.{IsBegin, begun_right, kept_begun, parts_room}}
 use Rattle.argus_core.proofs.{Begun.{refused_reply, kept_orderly}, Ends.{abort_refused, commit_refused, others_refused}}
 use Rattle.argus_journal.specs.{JournalView.{entry_with, refusal_to, reply_to}, Answers.granted, Events.history}
@@ -77,9 +77,14 @@ module _ (p : GuardianState) (k : StateInvariant p) where
       → StateRefinesJournal t p.objects.items p.holdings (opening_in p.journal) (entries_in p.journal)
   keeps_with t same = grind (arith, nat_tests, parts_room)
 
-  -- what an action holds is in its list
-  pub covers : AreCovered p.objects.items p.holdings
-  covers = grind (arith, nat_tests, parts_cover _ _ _ _ _ k.state)
+  -- what ended actions hold can be discarded
+  pub can_sweep : AreLinked p.tree.folded p.tree.rows → CanSweep p.tree p.objects.items p.holdings
+  can_sweep linked = record {
+    linked = linked;
+    lawful = λ o d low. (k.state.each o d low).lawful;
+    there = k.state.there;
+    covered = grind (arith, nat_tests, parts_cover _ _ _ _ _ k.state);
+  }
 
   module _ {call : PlainCall} {from : act_origin.Origin} {q : Tree → Option ActionRefusal}
       (b : Begins call from q) where

@@ -9,7 +9,7 @@ use Rattle.argus_actions.specs.{Row.is_live, declared.{status.Status.Status, act
 use Rattle.argus_actions.specs.Tree.{is_ancestor, named, newest_sub_of, next, older_sub_of, status_of}
 use Rattle.argus_contents.specs.declared.obj_id.ObjId.{ObjId}
 use Rattle.argus_core.specs.{Moving.{AreChanged, AreLawful, IsEnded, is_listed}, Sweeping.{AreAllThere, AreCovered}}
-use Rattle.argus_core.specs.{Sweeping.AreEnded, declared.engine.atomic_object.AtomicObject.AtomicObject}
+use Rattle.argus_core.specs.{Sweeping.{AreEnded, CanSweep}, declared.engine.atomic_object.AtomicObject.AtomicObject}
 use Rattle.argus_objects.{proofs.Later.{filter_all, filter_twice}, specs.Holdings.{Lists, objects_held_by}}
 use Rattle.argus_objects.specs.{CellChanges.{has_version, is_reader}, Object.{Object, PlainVersion}}
 use Rattle.argus_objects.specs.declared.holdings.Holdings.{Holdings}
@@ -46,11 +46,11 @@ all_both {t} {p} {q} both split {old} {mid} {new} {held} {hm} {hn} k m = record 
 module _ {t : Tree} {ended : ℕ → Bool} {old new : List AtomicObject} {held held' : Holdings}
     (k : AreEnded t ended old new held held') where
   -- all objects stay lawful
-  pub ended_lawful : AreLawful t new
+  ended_lawful : AreLawful t new
   ended_lawful = λ o d lt. (k.cell o d (subst (λ n. o < n) k.count lt)).lawful
 
   -- what is on a list is there
-  pub there_less : AreAllThere held (length old) → AreAllThere held' (length new)
+  there_less : AreAllThere held (length old) → AreAllThere held' (length new)
   there_less there = grind (arith, nat_tests, cleared_less)
 
 -- a reader after an ending was one before, and isn't ended
@@ -67,12 +67,22 @@ held_before t ended was now x c e =
     grind (arith, nat_tests, reader_filtered ended x was.readers, has_filtered (λ n. not (ended n)) was.versions x)
 
 -- who holds an object after an ending has it on its list
-pub covered_more : {t : Tree} {ended : ℕ → Bool} {old new : List AtomicObject} {held held' : Holdings}
+covered_more : {t : Tree} {ended : ℕ → Bool} {old new : List AtomicObject} {held held' : Holdings}
     → AreEnded t ended old new held held' → AreCovered old held → AreCovered new held'
 covered_more {t} {ended} {old} {new} {held} k cover = λ x o d lt e.
     let low : o < length old = subst (λ n. o < n) k.count lt in
     let h = held_before t ended _ _ x (k.cell o d low) e in
     ap (λ list. is_listed list o) (k.lists x ∙ ap (λ b. cond b [] (objects_held_by held x)) h.1) ∙ cover x o d low h.0
+
+-- and so the others can be swept
+pub can_sweep_more : {t : Tree} {ended : ℕ → Bool} {old new : List AtomicObject} {held held' : Holdings}
+    → AreEnded t ended old new held held' → CanSweep t old held → CanSweep t new held'
+can_sweep_more k ready = record {
+  linked = ready.linked;
+  lawful = ended_lawful k;
+  there = there_less k ready.there;
+  covered = covered_more k ready.covered;
+}
 
 -- readers and versions of whom none is ended stay
 readers_spared : (ended : ℕ → Bool) (rs : List ActionId) → ((x : ActionId) → is_reader x rs ≡ true → ended x.0 ≡ false)

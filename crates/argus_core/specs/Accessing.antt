@@ -2,11 +2,11 @@
 use Rattle.std.specs.{Option.option_or, Prelude.{◌<◌, ◌||◌, ◌∷◌, ◌≡◌}}
 use Rattle.std.specs.Prelude.{Bool, List, None, Option, Some, [], length, not, slice_get, slice_index_or, true, ℕ, ◌+◌}
 use Rattle.argus_actions.specs.{Refusals.commit_refusal, Tree.Tree, declared.action_id.ActionId.ActionId}
-use Rattle.argus_contents.specs.{Change.PlainChange, Content.PlainContent, Shape.PlainShape}
+use Rattle.argus_contents.specs.{Change.PlainChange, Content.{KeepsLimits, PlainContent}, Shape.PlainShape}
 use Rattle.argus_contents.specs.declared.obj_id.ObjId.{ObjId}
 use Rattle.argus_entries.specs.{Entry.PlainEntry, declared.refusal.Refusal.Refusal}
 use Rattle.argus_entries.specs.declared.refusal.Refusal.TheVariants.{Conflict, IllTyped, NoObject}
-use Rattle.argus_core.specs.Moving.{AreChanged, IsWritten, is_listed}
+use Rattle.argus_core.specs.Moving.{AreChanged, AreLawful, IsWritten, is_listed}
 use Rattle.argus_core.specs.declared.engine.atomic_object.AtomicObject.{AtomicObject}
 use Rattle.argus_core.specs.declared.engine.guardian_state.GuardianState.{GuardianState}
 use Rattle.argus_journal.specs.{Answers.unless, Entries.is_write, Events.happens, LegalJournal.{entries_in, opening_in}}
@@ -15,7 +15,7 @@ use Rattle.argus_model.specs.Event.{Accessed}
 use Rattle.argus_refinement.specs.TreeRefinement.{journal_refusal_if_any}
 use Rattle.argus_objects.specs.Holdings.{Lists, SameLists, holdings_room_of, noted, objects_held_by}
 use Rattle.argus_objects.specs.{CellChanges.{changed, has_version, is_reader}, Object.{Object, SameLocks}}
-use Rattle.argus_objects.specs.{Rules.visible_content, declared.holdings.Holdings.Holdings}
+use Rattle.argus_objects.specs.{Rules.{may_read, may_write, visible_content}, declared.holdings.Holdings.Holdings}
 
 -- why the object that was found refuses an access: its shape doesn't suit, or the lock isn't free
 abbrev pub refused_at : Option AtomicObject → (PlainShape → Bool) → (Object → Bool) → Option Refusal
@@ -56,6 +56,26 @@ pub record IsFree (tree : Tree) (objects : List AtomicObject) (a : ActionId) (o 
   pub low : o.0 < length objects
   pub opens : (d : AtomicObject) → free (slice_index_or objects o.0 d).cell ≡ true
 
+-- what the action sees in the object of this number
+abbrev pub seen_at : Tree → ActionId → List AtomicObject → ℕ → AtomicObject → Option PlainContent
+seen_at t a objects o d =
+    visible_content t a (slice_index_or objects o d).cell.base
+    (slice_index_or objects o d).cell.versions
+
+-- the action may read the object, and what it sees there keeps the limits
+pub record CanAsk (tree : Tree) (objects : List AtomicObject) (a : ActionId) (o : ObjId) : Type 0 where
+  pub free : IsFree tree objects a o (λ cell. may_read tree cell a)
+  pub limits : (d : AtomicObject) → KeepsLimits (seen_at tree a objects o.0 d)
+
+-- each cell is lawful, the action may write the object, what it sees there keeps the limits, and its
+-- list has the object exactly if it holds it
+pub record CanAlter (tree : Tree) (objects : List AtomicObject) (holdings : Holdings)
+    (a : ActionId) (o : ObjId) : Type 0 where
+  pub lawful : AreLawful tree objects
+  pub free : IsFree tree objects a o (λ cell. may_write tree cell a)
+  pub limits : (d : AtomicObject) → KeepsLimits (seen_at tree a objects o.0 d)
+  pub listed : IsListedIfHeld objects holdings a o
+
 -- the entry is an access of a at o, which needs a write lock or not
 pub record IsAccessEntry (state : GuardianState) (e : PlainEntry) (a : ActionId) (o : ObjId)
     (writes : Bool) : Type 0 where
@@ -63,12 +83,6 @@ pub record IsAccessEntry (state : GuardianState) (e : PlainEntry) (a : ActionId)
       ≡ Some (Accessed (a.0 + 1) o.0 e)
   pub object : declared_by e.call e.reply ≡ []
   pub write : is_write e.call ≡ writes
-
--- what the action sees in the object of this number
-abbrev pub seen_at : Tree → ActionId → List AtomicObject → ℕ → AtomicObject → Option PlainContent
-seen_at t a objects o d =
-    visible_content t a (slice_index_or objects o d).cell.base
-    (slice_index_or objects o d).cell.versions
 
 -- a's version has what the change leaves of what a sees
 abbrev pub IsAltered : Tree → ActionId → PlainChange → Object → Object → Type 0

@@ -1,5 +1,5 @@
 -- What a call does to the objects on a list, and to the others.
-use Rattle.std.specs.{List.list_any, Option.unwrap_or}
+use Rattle.std.specs.{List.{IsDistinct, list_any}, Option.unwrap_or}
 use Rattle.std.specs.Prelude.{Bool, List, Option, false, filter, length, not, slice_index_or, true, ℕ, ◌<◌, ◌==◌, ◌≡◌}
 use Rattle.argus_actions.specs.{Tree.Tree, declared.action_id.ActionId.ActionId}
 use Rattle.argus_contents.specs.{Content.PlainContent, declared.obj_id.ObjId.ObjId}
@@ -74,3 +74,9 @@ AreThere list n = (o : ℕ) → is_listed list o ≡ true → o < n
 abbrev pub AreLawful : Tree → List AtomicObject → Type 0
 AreLawful t objects = (o : ℕ) (d : AtomicObject) → o < length objects
     → is_lawful t (slice_index_or objects o d).cell ≡ true
+
+-- each cell is lawful, and the list names objects, each once
+pub record CanVisit (t : Tree) (objects : List AtomicObject) (list : List ObjId) : Type 0 where
+  pub lawful : AreLawful t objects
+  pub there : AreThere list (length objects)
+  pub once : IsDistinct (λ x y. x.0 == y.0) list

@@ -1,7 +1,7 @@
 -- What happens to objects and lists when actions are ended.
 use Rattle.std.specs.Prelude.{Bool, List, [], if◌then◌else◌, length, slice_index_or, true, ℕ, ◌<◌, ◌||◌, ◌≡◌}
-use Rattle.argus_actions.specs.{Tree.Tree, declared.action_id.ActionId.ActionId}
-use Rattle.argus_core.specs.{Moving.{IsEnded, is_listed}, declared.engine.atomic_object.AtomicObject.AtomicObject}
+use Rattle.argus_actions.specs.{Nodes.AreLinked, Tree.Tree, declared.action_id.ActionId.ActionId}
+use Rattle.argus_core.specs.{Moving.{AreLawful, IsEnded, is_listed}, declared.engine.atomic_object.AtomicObject.AtomicObject}
 use Rattle.argus_objects.specs.{Holdings.objects_held_by, CellChanges.{has_version, is_reader}}
 use Rattle.argus_objects.specs.declared.holdings.Holdings.{Holdings}
 
@@ -31,3 +31,11 @@ AreCovered objects held =
     → (is_reader x (slice_index_or objects o d).cell.readers
     || has_version x (slice_index_or objects o d).cell.versions) ≡ true
     → is_listed (objects_held_by held x) o ≡ true
+
+-- each action was begun under an older one, if under any, each cell is lawful, and each action has on
+-- its list what it holds, and no number that has no object
+pub record CanSweep (t : Tree) (objects : List AtomicObject) (held : Holdings) : Type 0 where
+  pub linked : AreLinked t.folded t.rows
+  pub lawful : AreLawful t objects
+  pub there : AreAllThere held (length objects)
+  pub covered : AreCovered objects held

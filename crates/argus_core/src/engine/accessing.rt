@@ -1,10 +1,10 @@
 //! How actions read objects.
 
-ghost use Rattle.std.specs.Prelude.{◌≡◌, ◌<◌, None, IfOk, OnErr, OnOk};
+ghost use Rattle.std.specs.Prelude.{◌≡◌, ◌<◌, None};
 ghost use Rattle.argus_contents.specs.{Query.reply, SmallAnswer.plain_small};
 ghost use Rattle.argus_core.specs.declared.engine.atomic_object.AtomicObject.{AtomicObject};
 ghost use Rattle.argus_core.specs.Accessing.{HasReadRoom, seen_at};
-ghost use Rattle.argus_core.specs.GuardianState.{StateInvariant, journal_view_of};
+ghost use Rattle.argus_core.specs.GuardianState.{IsAnswered, StateInvariant, journal_view_of};
 ghost use Rattle.argus_entries.specs.{Call.ask, Reply.plain_reply};
 ghost use Rattle.argus_journal.specs.JournalView.{after, refusal_to, reply_to};
 ghost use Rattle.argus_journal.specs.LegalJournal.{room_in};
@@ -30,11 +30,7 @@ pub(crate) fn ask(
 ) -> Result<Reply, OutOfMemory>
     requires { StateInvariant state.old }
     ensures kept { StateInvariant state.new }
-    ensures reply { IfOk result (λ reply. plain_reply reply
-        ≡ reply_to (journal_view_of state.old) (ask a.0 o.0 query)) }
-    ensures ok { OnOk result (journal_view_of state.new
-        ≡ after (journal_view_of state.old) (ask a.0 o.0 query)) }
-    ensures err { OnErr result (journal_view_of state.new ≡ journal_view_of state.old) }
+    ensures answered { IsAnswered state.old state.new (ask a.0 o.0 query) result }
 {
     match ask_refusal(state.objects.as_slice(), &state.tree, a, o, &query) {
         Some(why) => return refuse(state, Call::Ask(a, o, query), why),
@@ -98,11 +94,7 @@ fn answer_with_memory(
     requires place { 0 < room_in state.old.journal }
     requires room { HasReadRoom state.old.objects.items state.old.holdings a o is_new }
     ensures kept { StateInvariant state.new }
-    ensures reply { IfOk result (λ reply. plain_reply reply
-        ≡ reply_to (journal_view_of state.old) (ask a.0 o.0 query)) }
-    ensures ok { OnOk result (journal_view_of state.new
-        ≡ after (journal_view_of state.old) (ask a.0 o.0 query)) }
-    ensures err { OnErr result (journal_view_of state.new ≡ journal_view_of state.old) }
+    ensures answered { IsAnswered state.old state.new (ask a.0 o.0 query) result }
 {
     let seen = state.objects.as_slice();
     let answer = query_answer(state.heap, seen, &state.tree, a, o, &query)?;

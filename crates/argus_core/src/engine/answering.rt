@@ -1,11 +1,11 @@
 //! The answers of granted accesses, before anything is changed.
 
 ghost use Rattle.std.specs.Prelude.{◌≡◌, ◌<◌, length, slice_index_or, true, IfOk, IfSome};
-ghost use Rattle.argus_contents.specs.{Answer.plain_answer, Content.KeepsLimits, Query.reply};
+ghost use Rattle.argus_contents.specs.{Answer.plain_answer, Query.reply};
 ghost use Rattle.argus_contents.specs.Change.{gives_value, outcome, plain_change};
 ghost use Rattle.argus_contents.specs.SmallAnswer.{plain_small};
 ghost use Rattle.argus_entries.specs.Reply.{answered, plain_reply};
-ghost use Rattle.argus_core.specs.{Accessing.seen_at, Moving.AreLawful};
+ghost use Rattle.argus_core.specs.{Accessing.{CanAsk, seen_at}, Moving.AreLawful};
 ghost use Rattle.argus_core.specs.declared.engine.atomic_object.AtomicObject.{AtomicObject};
 ghost use Rattle.argus_objects.specs.Rules.{may_read, may_write};
 
@@ -24,10 +24,7 @@ pub(crate) fn query_answer(
     o: ObjId,
     query: &Query,
 ) -> Result<Answer, OutOfMemory>
-    requires low { o.0 < length objects.now }
-    requires granted { (d : AtomicObject)
-        → may_read tree.now (slice_index_or objects.now o.0 d).cell a ≡ true }
-    requires limits { (d : AtomicObject) → KeepsLimits (seen_at tree.now a objects.now o.0 d) }
+    requires { CanAsk tree.now objects.now a o }
     ensures { (d : AtomicObject) → IfOk result (λ answer. plain_answer answer
         ≡ reply query.now (seen_at tree.now a objects.now o.0 d)) }
 {
@@ -44,10 +41,7 @@ pub(crate) fn small_answer(
     o: ObjId,
     query: &Query,
 ) -> Option<SmallAnswer>
-    requires low { o.0 < length objects.now }
-    requires granted { (d : AtomicObject)
-        → may_read tree.now (slice_index_or objects.now o.0 d).cell a ≡ true }
-    requires limits { (d : AtomicObject) → KeepsLimits (seen_at tree.now a objects.now o.0 d) }
+    requires { CanAsk tree.now objects.now a o }
     ensures { (d : AtomicObject) → IfSome result (λ small. plain_small small
         ≡ reply query.now (seen_at tree.now a objects.now o.0 d)) }
 {
@@ -65,10 +59,7 @@ pub(crate) fn answer_of_removal(
     change: &Change,
 ) -> Result<Answer, OutOfMemory>
     requires gives { gives_value (plain_change change.now) ≡ true }
-    requires low { o.0 < length objects.now }
-    requires granted { (d : AtomicObject)
-        → may_read tree.now (slice_index_or objects.now o.0 d).cell a ≡ true }
-    requires limits { (d : AtomicObject) → KeepsLimits (seen_at tree.now a objects.now o.0 d) }
+    requires ready { CanAsk tree.now objects.now a o }
     ensures { (d : AtomicObject) → IfOk result (λ answer. plain_answer answer
         ≡ (outcome (plain_change change.now) (seen_at tree.now a objects.now o.0 d)).1) }
 {

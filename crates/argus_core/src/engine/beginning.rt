@@ -1,9 +1,9 @@
 //! How actions begin.
 
-ghost use Rattle.std.specs.Prelude.{IfOk, OnErr, OnOk, ◌<◌, ◌≡◌};
-ghost use Rattle.argus_entries.specs.{Call.{begin_nested, begin_sub, begin_top}, Reply.plain_reply};
-ghost use Rattle.argus_core.specs.GuardianState.{StateInvariant, journal_view_of};
-ghost use Rattle.argus_journal.specs.{JournalView.{after, reply_to}, LegalJournal.room_in};
+ghost use Rattle.std.specs.Prelude.{OnOk, ◌<◌, ◌≡◌};
+ghost use Rattle.argus_entries.specs.Call.{begin_nested, begin_sub, begin_top};
+ghost use Rattle.argus_core.specs.GuardianState.{IsAnswered, StateInvariant, journal_view_of};
+ghost use Rattle.argus_journal.specs.LegalJournal.{room_in};
 
 use crate::engine::guardian_state::GuardianState;
 use crate::engine::refusing::{refusal_of, refuse};
@@ -17,11 +17,7 @@ use argus_memory::OutOfMemory;
 pub(crate) fn begin_top(state: &mut GuardianState) -> Result<Reply, OutOfMemory>
     requires { StateInvariant state.old }
     ensures kept { StateInvariant state.new }
-    ensures reply { IfOk result (λ reply. plain_reply reply
-        ≡ reply_to (journal_view_of state.old) begin_top) }
-    ensures ok { OnOk result (journal_view_of state.new
-        ≡ after (journal_view_of state.old) begin_top) }
-    ensures err { OnErr result (journal_view_of state.new ≡ journal_view_of state.old) }
+    ensures answered { IsAnswered state.old state.new begin_top result }
 {
     match state.tree.begin_top_refusal() {
         Some(why) => return refuse(state, Call::BeginTop, refusal_of(why)),
@@ -42,11 +38,7 @@ pub(crate) fn begin_top(state: &mut GuardianState) -> Result<Reply, OutOfMemory>
 pub(crate) fn begin_sub(state: &mut GuardianState, parent: ActionId) -> Result<Reply, OutOfMemory>
     requires { StateInvariant state.old }
     ensures kept { StateInvariant state.new }
-    ensures reply { IfOk result (λ reply. plain_reply reply
-        ≡ reply_to (journal_view_of state.old) (begin_sub parent.0)) }
-    ensures ok { OnOk result (journal_view_of state.new
-        ≡ after (journal_view_of state.old) (begin_sub parent.0)) }
-    ensures err { OnErr result (journal_view_of state.new ≡ journal_view_of state.old) }
+    ensures answered { IsAnswered state.old state.new (begin_sub parent.0) result }
 {
     match state.tree.begin_sub_refusal(parent) {
         Some(why) => return refuse(state, Call::BeginSub(parent), refusal_of(why)),
@@ -70,11 +62,7 @@ pub(crate) fn begin_nested(
 ) -> Result<Reply, OutOfMemory>
     requires { StateInvariant state.old }
     ensures kept { StateInvariant state.new }
-    ensures reply { IfOk result (λ reply. plain_reply reply
-        ≡ reply_to (journal_view_of state.old) (begin_nested creator.0)) }
-    ensures ok { OnOk result (journal_view_of state.new
-        ≡ after (journal_view_of state.old) (begin_nested creator.0)) }
-    ensures err { OnErr result (journal_view_of state.new ≡ journal_view_of state.old) }
+    ensures answered { IsAnswered state.old state.new (begin_nested creator.0) result }
 {
     match state.tree.begin_nested_refusal(creator) {
         Some(why) => return refuse(state, Call::BeginNested(creator), refusal_of(why)),

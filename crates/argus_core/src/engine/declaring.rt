@@ -1,9 +1,7 @@
 //! How objects are declared.
 
-ghost use Rattle.std.specs.Prelude.{IfOk, OnErr, OnOk, ◌≡◌};
-ghost use Rattle.argus_entries.specs.{Call.declare, Reply.plain_reply};
-ghost use Rattle.argus_core.specs.GuardianState.{StateInvariant, journal_view_of};
-ghost use Rattle.argus_journal.specs.JournalView.{after, reply_to};
+ghost use Rattle.argus_entries.specs.Call.{declare};
+ghost use Rattle.argus_core.specs.GuardianState.{IsAnswered, StateInvariant};
 
 use crate::engine::atomic_object::AtomicObject;
 use crate::engine::guardian_state::GuardianState;
@@ -21,11 +19,7 @@ use argus_objects::Cell;
 pub(crate) fn declare(state: &mut GuardianState, shape: Shape) -> Result<Reply, OutOfMemory>
     requires { StateInvariant state.old }
     ensures kept { StateInvariant state.new }
-    ensures reply { IfOk result (λ reply. plain_reply reply
-        ≡ reply_to (journal_view_of state.old) (declare shape)) }
-    ensures ok { OnOk result (journal_view_of state.new
-        ≡ after (journal_view_of state.old) (declare shape)) }
-    ensures err { OnErr result (journal_view_of state.new ≡ journal_view_of state.old) }
+    ensures answered { IsAnswered state.old state.new (declare shape) result }
 {
     if state.objects.len() >= MAX_OBJECTS as usize {
         return refuse(state, Call::Declare(shape), Refusal::TooMany);

@@ -1,12 +1,12 @@
 //! What an abort does to the objects that the ended actions hold: it visits only the objects on
 //! their lists.
 
-ghost use Rattle.std.specs.{Prelude.{◌≡◌, ◌<◌, ◌≤◌, length, true, None, Some}, Option.option_map};
-ghost use Rattle.argus_actions.specs.{Nodes.AreLinked, Refusals.abort_others_refusal};
+ghost use Rattle.std.specs.{Prelude.{◌≡◌, ◌<◌, ◌≤◌, true, None, Some}, Option.option_map};
+ghost use Rattle.argus_actions.specs.Refusals.{abort_others_refusal};
 ghost use Rattle.argus_actions.specs.Rows.{has_ancestor, is_live_at, under_at};
 ghost use Rattle.argus_actions.specs.Tree.{is_ancestor, is_live_sibling, next};
 ghost use Rattle.argus_actions.specs.declared.action_id.ActionId.{ActionId};
-ghost use Rattle.argus_core.specs.{Moving.AreLawful, Sweeping.{AreAllThere, AreCovered, AreEnded}};
+ghost use Rattle.argus_core.specs.Sweeping.{AreEnded, CanSweep};
 
 use crate::engine::atomic_object::AtomicObject;
 use crate::engine::moving::release_all;
@@ -22,12 +22,9 @@ pub(crate) fn discard_under(
     tree: &ActionTree,
     a: ActionId,
 )
-    requires linked { AreLinked tree.now.folded tree.now.rows }
+    requires ready { CanSweep tree.now objects.old holdings.old }
     requires held { tree.now.folded ≤ a.0 }
     requires begun { a.0 < next tree.now }
-    requires lawful { AreLawful tree.now objects.old }
-    requires there { AreAllThere holdings.old (length objects.old) }
-    requires covered { AreCovered objects.old holdings.old }
     ensures { AreEnded tree.now (is_ancestor tree.now a.0)
         objects.old objects.new holdings.old holdings.new }
 {
@@ -49,12 +46,9 @@ fn discard_siblings(
     a: ActionId,
     under: ActionId,
 )
-    requires linked { AreLinked tree.now.folded tree.now.rows }
+    requires ready { CanSweep tree.now objects.old holdings.old }
     requires live { is_live_at tree.now.folded tree.now.rows a.0 ≡ true }
     requires under { under_at tree.now.folded tree.now.rows a.0 ≡ Some under.0 }
-    requires lawful { AreLawful tree.now objects.old }
-    requires there { AreAllThere holdings.old (length objects.old) }
-    requires covered { AreCovered objects.old holdings.old }
     ensures { AreEnded tree.now
         (has_ancestor (is_live_sibling tree.now a.0) tree.now.folded tree.now.rows)
         objects.old objects.new holdings.old holdings.new }
@@ -82,11 +76,8 @@ pub(crate) fn discard_others(
     tree: &ActionTree,
     a: ActionId,
 )
-    requires linked { AreLinked tree.now.folded tree.now.rows }
+    requires ready { CanSweep tree.now objects.old holdings.old }
     requires accepted { abort_others_refusal tree.now a.0 ≡ None }
-    requires lawful { AreLawful tree.now objects.old }
-    requires there { AreAllThere holdings.old (length objects.old) }
-    requires covered { AreCovered objects.old holdings.old }
     ensures { AreEnded tree.now
         (has_ancestor (is_live_sibling tree.now a.0) tree.now.folded tree.now.rows)
         objects.old objects.new holdings.old holdings.new }

@@ -1,8 +1,8 @@
 //! How actions end.
 
-ghost use Rattle.std.specs.Prelude.{IfOk, OnErr, OnOk, ◌≡◌};
+ghost use Rattle.std.specs.Prelude.{IfOk, ◌≡◌};
 ghost use Rattle.argus_entries.specs.{Call.{abort, abort_others, commit}, Reply.plain_reply};
-ghost use Rattle.argus_core.specs.GuardianState.{StateInvariant, journal_view_of};
+ghost use Rattle.argus_core.specs.GuardianState.{IsAnswered, StateInvariant, journal_view_of};
 ghost use Rattle.argus_core.specs.CommitStep.{CanCommit, CanInherit, CanSettle};
 ghost use Rattle.argus_journal.specs.JournalView.{after, reply_to};
 
@@ -23,11 +23,7 @@ use argus_memory::OutOfMemory;
 pub(crate) fn commit(state: &mut GuardianState, a: ActionId) -> Result<Reply, OutOfMemory>
     requires { StateInvariant state.old }
     ensures kept { StateInvariant state.new }
-    ensures reply { IfOk result (λ reply. plain_reply reply
-        ≡ reply_to (journal_view_of state.old) (commit a.0)) }
-    ensures ok { OnOk result (journal_view_of state.new
-        ≡ after (journal_view_of state.old) (commit a.0)) }
-    ensures err { OnErr result (journal_view_of state.new ≡ journal_view_of state.old) }
+    ensures answered { IsAnswered state.old state.new (commit a.0) result }
 {
     let step = ready_commit(state, a)?;
     Ok(make_commit(state, a, step))
@@ -128,11 +124,7 @@ fn settle(state: &mut GuardianState, a: ActionId)
 pub(crate) fn abort(state: &mut GuardianState, a: ActionId) -> Result<Reply, OutOfMemory>
     requires { StateInvariant state.old }
     ensures kept { StateInvariant state.new }
-    ensures reply { IfOk result (λ reply. plain_reply reply
-        ≡ reply_to (journal_view_of state.old) (abort a.0)) }
-    ensures ok { OnOk result (journal_view_of state.new
-        ≡ after (journal_view_of state.old) (abort a.0)) }
-    ensures err { OnErr result (journal_view_of state.new ≡ journal_view_of state.old) }
+    ensures answered { IsAnswered state.old state.new (abort a.0) result }
 {
     match state.tree.abort_refusal(a) {
         Some(why) => return refuse(state, Call::Abort(a), refusal_of(why)),
@@ -160,11 +152,7 @@ pub(crate) fn abort(state: &mut GuardianState, a: ActionId) -> Result<Reply, Out
 pub(crate) fn abort_others(state: &mut GuardianState, a: ActionId) -> Result<Reply, OutOfMemory>
     requires { StateInvariant state.old }
     ensures kept { StateInvariant state.new }
-    ensures reply { IfOk result (λ reply. plain_reply reply
-        ≡ reply_to (journal_view_of state.old) (abort_others a.0)) }
-    ensures ok { OnOk result (journal_view_of state.new
-        ≡ after (journal_view_of state.old) (abort_others a.0)) }
-    ensures err { OnErr result (journal_view_of state.new ≡ journal_view_of state.old) }
+    ensures answered { IsAnswered state.old state.new (abort_others a.0) result }
 {
     match state.tree.abort_others_refusal(a) {
         Some(why) => return refuse(state, Call::AbortOthers(a), refusal_of(why)),

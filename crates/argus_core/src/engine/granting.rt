@@ -5,15 +5,14 @@
 ghost use Rattle.std.specs.Prelude.{◌≡◌, ◌<◌, false, length, IfOk, OnErr, OnOk, slice_index_or};
 ghost use Rattle.std.specs.Prelude.{true};
 ghost use Rattle.argus_contents.specs.{Answer.done_or, Change.{gives_value, outcome, plain_change}};
-ghost use Rattle.argus_contents.specs.Content.{KeepsLimits};
-ghost use Rattle.argus_core.specs.Accessing.{HasReadRoom, HasListRoom, IsAccessed, IsAltered};
-ghost use Rattle.argus_core.specs.Accessing.{IsAsBefore, IsFree, IsListedIfHeld, seen_at};
+ghost use Rattle.argus_core.specs.Accessing.{CanAlter, HasReadRoom, HasListRoom, IsAccessed};
+ghost use Rattle.argus_core.specs.Accessing.{IsAltered, IsAsBefore, IsFree, IsListedIfHeld, seen_at};
 ghost use Rattle.argus_core.specs.Moving.{AreLawful, IsRead};
 ghost use Rattle.argus_core.specs.GuardianState.{StateInvariant, journal_view_of};
 ghost use Rattle.argus_core.specs.declared.engine.atomic_object.AtomicObject.{AtomicObject};
 ghost use Rattle.argus_journal.specs.LegalJournal.{room_in};
 ghost use Rattle.argus_objects.specs.Holdings.{Lists, SameLists, TakesOnePlace, noted};
-ghost use Rattle.argus_objects.specs.{Holdings.objects_held_by, Rules.{may_read, may_write}};
+ghost use Rattle.argus_objects.specs.{Holdings.objects_held_by, Rules.may_read};
 
 use crate::engine::atomic_object::AtomicObject;
 use crate::engine::guardian_state::GuardianState;
@@ -94,9 +93,8 @@ pub(crate) fn reserve_granted_read(
     o: ObjId,
 ) -> Result<bool, OutOfMemory>
     requires kept { StateInvariant state.old }
-    requires low { o.0 < length state.old.objects.items }
-    requires granted { (d : AtomicObject)
-        → may_read state.old.tree (slice_index_or state.old.objects.items o.0 d).cell a ≡ true }
+    requires free { IsFree state.old.tree state.old.objects.items a o
+        (λ cell. may_read state.old.tree cell a) }
     ensures kept { StateInvariant state.new }
     ensures journal { journal_view_of state.new ≡ journal_view_of state.old }
     ensures place { OnOk result (0 < room_in state.new.journal) }
@@ -140,10 +138,7 @@ pub(crate) fn grant_change(
     o: ObjId,
     change: &Change,
 ) -> Result<Option<Signal>, OutOfMemory>
-    requires lawful { AreLawful tree.now objects.old }
-    requires free { IsFree tree.now objects.old a o (λ cell. may_write tree.now cell a) }
-    requires limits { (d : AtomicObject) → KeepsLimits (seen_at tree.now a objects.old o.0 d) }
-    requires listed { IsListedIfHeld objects.old holdings.old a o }
+    requires ready { CanAlter tree.now objects.old holdings.old a o }
     requires gives_none { gives_value (plain_change change.now) ≡ false }
     ensures ok { OnOk result (IsAccessed (IsAltered tree.now a (plain_change change.now)) a o
         objects.old objects.new holdings.old holdings.new) }
@@ -167,10 +162,7 @@ pub(crate) fn grant_removal(
     o: ObjId,
     change: &Change,
 ) -> Result<(), OutOfMemory>
-    requires lawful { AreLawful tree.now objects.old }
-    requires free { IsFree tree.now objects.old a o (λ cell. may_write tree.now cell a) }
-    requires limits { (d : AtomicObject) → KeepsLimits (seen_at tree.now a objects.old o.0 d) }
-    requires listed { IsListedIfHeld objects.old holdings.old a o }
+    requires { CanAlter tree.now objects.old holdings.old a o }
     ensures ok { OnOk result (IsAccessed (IsAltered tree.now a (plain_change change.now)) a o
         objects.old objects.new holdings.old holdings.new) }
     ensures err { OnErr result (IsAsBefore o objects.old objects.new holdings.old holdings.new) }

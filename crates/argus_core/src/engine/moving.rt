@@ -1,10 +1,9 @@
 //! What becomes of the objects on an action's list when it commits, or when an action above it is
 //! aborted.
 
-ghost use Rattle.std.specs.{Prelude.{◌≡◌, ◌==◌, length, None, Some}, List.IsDistinct};
+ghost use Rattle.std.specs.Prelude.{◌≡◌, ◌==◌, None, Some};
 ghost use Rattle.argus_actions.specs.{Refusals.commit_refusal, Tree.parent_of};
-ghost use Rattle.argus_core.specs.Moving.{AreChanged, AreLawful, AreThere, IsEnded, IsInherited};
-ghost use Rattle.argus_core.specs.Moving.{IsSettled};
+ghost use Rattle.argus_core.specs.Moving.{AreChanged, CanVisit, IsEnded, IsInherited, IsSettled};
 
 use crate::engine::atomic_object::AtomicObject;
 use argus_actions::{ActionId, ActionTree};
@@ -19,9 +18,7 @@ pub(crate) fn inherit_all(
     a: ActionId,
     parent: ActionId,
 )
-    requires lawful { AreLawful tree.now objects.old }
-    requires there { AreThere listed.now (length objects.old) }
-    requires once { IsDistinct (λ x y. x.0 == y.0) listed.now }
+    requires ready { CanVisit tree.now objects.old listed.now }
     requires parent { parent_of tree.now a.0 ≡ Some parent }
     requires free { commit_refusal tree.now a.0 ≡ None }
     ensures { AreChanged (IsInherited tree.now a parent) listed.now objects.old objects.new }
@@ -40,9 +37,7 @@ pub(crate) fn settle_all(
     tree: &ActionTree,
     a: ActionId,
 )
-    requires lawful { AreLawful tree.now objects.old }
-    requires there { AreThere listed.now (length objects.old) }
-    requires once { IsDistinct (λ x y. x.0 == y.0) listed.now }
+    requires ready { CanVisit tree.now objects.old listed.now }
     requires free { commit_refusal tree.now a.0 ≡ None }
     ensures { AreChanged (IsSettled tree.now a) listed.now objects.old objects.new }
 {
@@ -59,9 +54,7 @@ pub(crate) fn release_all(
     tree: &ActionTree,
     a: ActionId,
 )
-    requires lawful { AreLawful tree.now objects.old }
-    requires there { AreThere listed.now (length objects.old) }
-    requires once { IsDistinct (λ x y. x.0 == y.0) listed.now }
+    requires { CanVisit tree.now objects.old listed.now }
     ensures { AreChanged (IsEnded tree.now (λ x. x == a.0)) listed.now objects.old objects.new }
 {
     for o in listed {

@@ -1,10 +1,10 @@
 //! Why calls are refused, and how a refusal is recorded.
 
-ghost use Rattle.std.specs.Prelude.{IfOk, OnErr, OnOk, length, true, ◌<◌, ◌≡◌, ◌≤◌};
+ghost use Rattle.std.specs.Prelude.{length, true, ◌<◌, ◌≡◌, ◌≤◌};
 ghost use Rattle.argus_contents.specs.{Change.plain_change, Fitting.{change_suits, query_suits}};
 ghost use Rattle.argus_contents.specs.declared.limits.TheConstants.{MAX_OBJECTS};
 ghost use Rattle.argus_core.specs.{Accessing.access_refusal, Moving.AreLawful};
-ghost use Rattle.argus_core.specs.GuardianState.{StateInvariant, journal_view_of};
+ghost use Rattle.argus_core.specs.GuardianState.{IsAnswered, StateInvariant, journal_view_of};
 ghost use Rattle.argus_entries.specs.{Call.plain_call, Reply.{plain_reply, refused}};
 ghost use Rattle.argus_journal.specs.{JournalView.{after, reply_to}, LegalJournal.room_in};
 ghost use Rattle.argus_refinement.specs.TreeRefinement.{journal_refusal};
@@ -31,11 +31,7 @@ pub(crate) fn refuse(
     requires kept { StateInvariant state.old }
     requires right { reply_to (journal_view_of state.old) (plain_call call) ≡ refused why }
     ensures kept { StateInvariant state.new }
-    ensures reply { IfOk result (λ reply. plain_reply reply
-        ≡ reply_to (journal_view_of state.old) (plain_call call)) }
-    ensures ok { OnOk result (journal_view_of state.new
-        ≡ after (journal_view_of state.old) (plain_call call)) }
-    ensures err { OnErr result (journal_view_of state.new ≡ journal_view_of state.old) }
+    ensures answered { IsAnswered state.old state.new (plain_call call) result }
 {
     state.journal.reserve()?;
     Ok(record_refusal(state, call, why))

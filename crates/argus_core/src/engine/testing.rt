@@ -1,9 +1,7 @@
 //! How actions test read locks.
 
-ghost use Rattle.std.specs.Prelude.{◌≡◌, IfOk, OnErr, OnOk};
-ghost use Rattle.argus_entries.specs.{Call.test_read, Reply.plain_reply};
-ghost use Rattle.argus_core.specs.GuardianState.{StateInvariant, journal_view_of};
-ghost use Rattle.argus_journal.specs.JournalView.{after, reply_to};
+ghost use Rattle.argus_entries.specs.Call.{test_read};
+ghost use Rattle.argus_core.specs.GuardianState.{IsAnswered, StateInvariant};
 
 use crate::engine::answering::is_readable;
 use crate::engine::granting::{grant_read, reserve_granted_read};
@@ -25,11 +23,7 @@ pub(crate) fn test_read(
 ) -> Result<Reply, OutOfMemory>
     requires { StateInvariant state.old }
     ensures kept { StateInvariant state.new }
-    ensures reply { IfOk result (λ reply. plain_reply reply
-        ≡ reply_to (journal_view_of state.old) (test_read a.0 o.0)) }
-    ensures ok { OnOk result (journal_view_of state.new
-        ≡ after (journal_view_of state.old) (test_read a.0 o.0)) }
-    ensures err { OnErr result (journal_view_of state.new ≡ journal_view_of state.old) }
+    ensures answered { IsAnswered state.old state.new (test_read a.0 o.0) result }
 {
     match test_refusal(state.objects.as_slice(), &state.tree, a, o) {
         Some(why) => return refuse(state, Call::TestRead(a, o), why),

@@ -1,10 +1,10 @@
 //! How actions write objects: in place if the action has a version.
 
-ghost use Rattle.std.specs.Prelude.{IfOk, None, OnErr, OnOk, true, ◌≡◌};
+ghost use Rattle.std.specs.Prelude.{None, true, ◌≡◌};
 ghost use Rattle.argus_contents.specs.Change.{gives_value, plain_change};
-ghost use Rattle.argus_entries.specs.{Call.{alter, test_write}, Reply.plain_reply};
-ghost use Rattle.argus_core.specs.GuardianState.{StateInvariant, journal_view_of};
-ghost use Rattle.argus_journal.specs.JournalView.{after, refusal_to, reply_to};
+ghost use Rattle.argus_entries.specs.Call.{alter, test_write};
+ghost use Rattle.argus_core.specs.GuardianState.{IsAnswered, StateInvariant, journal_view_of};
+ghost use Rattle.argus_journal.specs.JournalView.{refusal_to};
 
 use crate::engine::answering::{answer_of_removal, is_writable, reply_twice};
 use crate::engine::granting::{grant_change, grant_removal};
@@ -27,11 +27,7 @@ pub(crate) fn alter(
 ) -> Result<Reply, OutOfMemory>
     requires { StateInvariant state.old }
     ensures kept { StateInvariant state.new }
-    ensures reply { IfOk result (λ reply. plain_reply reply
-        ≡ reply_to (journal_view_of state.old) (alter a.0 o.0 (plain_change change))) }
-    ensures ok { OnOk result (journal_view_of state.new
-        ≡ after (journal_view_of state.old) (alter a.0 o.0 (plain_change change))) }
-    ensures err { OnErr result (journal_view_of state.new ≡ journal_view_of state.old) }
+    ensures answered { IsAnswered state.old state.new (alter a.0 o.0 (plain_change change)) result }
 {
     match alter_refusal(state.objects.as_slice(), &state.tree, a, o, &change) {
         Some(why) => return refuse(state, Call::Alter(a, o, change), why),
@@ -74,11 +70,7 @@ fn alter_with_value(
     requires free { refusal_to (journal_view_of state.old) (alter a.0 o.0 (plain_change change))
         ≡ None }
     ensures kept { StateInvariant state.new }
-    ensures reply { IfOk result (λ reply. plain_reply reply
-        ≡ reply_to (journal_view_of state.old) (alter a.0 o.0 (plain_change change))) }
-    ensures ok { OnOk result (journal_view_of state.new
-        ≡ after (journal_view_of state.old) (alter a.0 o.0 (plain_change change))) }
-    ensures err { OnErr result (journal_view_of state.new ≡ journal_view_of state.old) }
+    ensures answered { IsAnswered state.old state.new (alter a.0 o.0 (plain_change change)) result }
 {
     let seen = state.objects.as_slice();
     let answer = answer_of_removal(state.heap, seen, &state.tree, a, o, &change)?;
@@ -104,11 +96,7 @@ pub(crate) fn test_write(
 ) -> Result<Reply, OutOfMemory>
     requires { StateInvariant state.old }
     ensures kept { StateInvariant state.new }
-    ensures reply { IfOk result (λ reply. plain_reply reply
-        ≡ reply_to (journal_view_of state.old) (test_write a.0 o.0)) }
-    ensures ok { OnOk result (journal_view_of state.new
-        ≡ after (journal_view_of state.old) (test_write a.0 o.0)) }
-    ensures err { OnErr result (journal_view_of state.new ≡ journal_view_of state.old) }
+    ensures answered { IsAnswered state.old state.new (test_write a.0 o.0) result }
 {
     match test_refusal(state.objects.as_slice(), &state.tree, a, o) {
         Some(why) => return refuse(state, Call::TestWrite(a, o), why),

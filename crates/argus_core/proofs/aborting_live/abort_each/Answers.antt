@@ -23,14 +23,14 @@ loop-a-preserved c =
             w.abort.ensures.kept,
             over_aborted c.loop-a.state v.0 (journal_view_of c.args.state.now)
                 c.loop-a.a v.1 (sym c.is_live.ensures ∙ w.if-is_live.true) w.abort.new.state w.abort.ensures.kept
-                w.in_ok-abort.ensures.ok,
+                w.in_ok-abort.ensures.answered.ok,
           )
       | then-is_live+in_ok-abort+in-Object-1 w ↦
           rw w.state-is (
             w.abort.ensures.kept,
             over_aborted c.loop-a.state v.0 (journal_view_of c.args.state.now)
                 c.loop-a.a v.1 (sym c.is_live.ensures ∙ w.if-is_live.true) w.abort.new.state w.abort.ensures.kept
-                w.in_ok-abort.ensures.ok,
+                w.in_ok-abort.ensures.answered.ok,
           )
       | else-is_live w ↦
           rw w.state-is (
@@ -54,7 +54,7 @@ returns-in_err-abort-clause-left c =
     on_err c.from_residual.result
     (λ none. some_left c.loop-a.state v.0 (journal_view_of c.args.state.now) c.loop-a.a v.1
     (sym c.is_live.ensures ∙ c.if-is_live.true)
-    (ap live_topactions (sym c.in_err-abort.ensures.err) ∙ none))
+    (ap live_topactions (sym c.in_err-abort.ensures.answered.err) ∙ none))
 
 pub returns-clause-quiet : goal.returns-clause-quiet
 returns-clause-quiet c =

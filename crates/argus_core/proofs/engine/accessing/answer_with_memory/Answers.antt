@@ -1,20 +1,12 @@
 -- What a granted query is answered, at what the action sees, is the reply that the journal gives.
-use Rattle.std.proofs.{Common.{arith, ◌∙◌}, lemmas.{List.with_items_is, Grind.common_steps}}
-use Rattle.argus_core.proofs.{Asks.{ask_free, ask_made, ask_told}, FreeLocks.reader_limits}
+use Rattle.std.proofs.{Common.{arith, ◌∙◌}, lemmas.List.with_items_is}
+use Rattle.argus_core.proofs.Asks.{ask_free, ask_made, ask_ready, ask_told}
 use Rattle.argus_core.proofs.engine.accessing.answer_with_memory.Goals as goal
 
-pub query_answer-requires-clause-low : goal.query_answer-requires-clause-low
-query_answer-requires-clause-low c =
+pub query_answer-requires : goal.query_answer-requires
+query_answer-requires c =
     rw (c.as_slice-seen.ensures.value)
-    (ask_free c.args.state.now c.requires.kept c.args.a c.args.o c.args.query c.requires.free).low
-
-pub query_answer-requires-clause-granted : goal.query_answer-requires-clause-granted
-query_answer-requires-clause-granted c =
-    rw (c.as_slice-seen.ensures.value)
-    (ask_free c.args.state.now c.requires.kept c.args.a c.args.o c.args.query c.requires.free).opens
-
-pub query_answer-requires-clause-limits : goal.query_answer-requires-clause-limits
-query_answer-requires-clause-limits c = grind (arith, common_steps, reader_limits, ask_free)
+    (ask_ready c.args.state.now c.requires.kept c.args.a c.args.o c.args.query c.requires.free)
 
 pub grant_read-requires-clause-free : goal.grant_read-requires-clause-free
 grant_read-requires-clause-free c =

@@ -6,7 +6,7 @@ use Rattle.argus_entries.specs.Call.{ask}
 use Rattle.argus_journal.specs.JournalView.{JournalView, refusal_to}
 use Rattle.argus_core.specs.{Accessing.access_refusal, GuardianState.{StateInvariant, journal_view_of}}
 use Rattle.argus_core.{specs.declared.engine.guardian_state.GuardianState.GuardianState, proofs.Accesses.access_free}
-use Rattle.argus_core.proofs.{Accesses.access_refused, Asks.{ask_free, asks}, FreeLocks.reader_limits}
+use Rattle.argus_core.proofs.{Accesses.access_refused, Asks.{ask_ready, asks}}
 use Rattle.argus_objects.specs.Rules.{may_read}
 use Rattle.argus_core.proofs.engine.accessing.ask.Goals as goal
 
@@ -23,32 +23,18 @@ refuse-requires-clause-right c =
     access_refused (asks c.args.state.now c.requires c.args.a c.args.o c.args.query) c.in-Some.why
     (sym (rw (c.as_slice.ensures.value) at c.ask_refusal.ensures) ∙ c.in-Some.is)
 
-pub reserve_granted_read-requires-clause-low : goal.reserve_granted_read-requires-clause-low
-reserve_granted_read-requires-clause-low c =
-    (access_free (asks c.args.state.now c.requires c.args.a c.args.o c.args.query)
-    (sym (rw (c.as_slice.ensures.value) at c.ask_refusal.ensures) ∙ c.in-None.is)).low
+pub reserve_granted_read-requires-clause-free : goal.reserve_granted_read-requires-clause-free
+reserve_granted_read-requires-clause-free c =
+    access_free (asks c.args.state.now c.requires c.args.a c.args.o c.args.query)
+    (sym (rw (c.as_slice.ensures.value) at c.ask_refusal.ensures) ∙ c.in-None.is)
 
-pub reserve_granted_read-requires-clause-granted : goal.reserve_granted_read-requires-clause-granted
-reserve_granted_read-requires-clause-granted c =
-    (access_free (asks c.args.state.now c.requires c.args.a c.args.o c.args.query)
-    (sym (rw (c.as_slice.ensures.value) at c.ask_refusal.ensures) ∙ c.in-None.is)).opens
-
-pub small_answer-requires-clause-granted : goal.small_answer-requires-clause-granted
-small_answer-requires-clause-granted c =
+pub small_answer-requires : goal.small_answer-requires
+small_answer-requires c =
     rw (c.as_slice-2.ensures.value)
-    (ask_free c.reserve_granted_read.new.state c.reserve_granted_read.ensures.kept c.args.a c.args.o c.args.query
+    (ask_ready c.reserve_granted_read.new.state c.reserve_granted_read.ensures.kept c.args.a c.args.o c.args.query
     (still c.args.state.now c.reserve_granted_read.new.state c.requires c.args.a c.args.o c.args.query
     (sym (rw (c.as_slice.ensures.value) at c.ask_refusal.ensures) ∙ c.in-None.is)
-    c.reserve_granted_read.ensures.journal)).opens
-
-pub small_answer-requires-clause-limits : goal.small_answer-requires-clause-limits
-small_answer-requires-clause-limits c =
-    rw (c.as_slice-2.ensures.value)
-    (reader_limits c.reserve_granted_read.new.state c.reserve_granted_read.ensures.kept c.args.a c.args.o
-    (ask_free c.reserve_granted_read.new.state c.reserve_granted_read.ensures.kept c.args.a c.args.o c.args.query
-    (still c.args.state.now c.reserve_granted_read.new.state c.requires c.args.a c.args.o c.args.query
-    (sym (rw (c.as_slice.ensures.value) at c.ask_refusal.ensures)
-    ∙ c.in-None.is) c.reserve_granted_read.ensures.journal)))
+    c.reserve_granted_read.ensures.journal))
 
 pub record_answer-requires-clause-free : goal.record_answer-requires-clause-free
 record_answer-requires-clause-free c =

@@ -1,6 +1,6 @@
 -- When no sibling is left, all that stand under a live one were ended.
 use Rattle.std.proofs.{Common.{arith, ◌∙◌}, lemmas.Grind.common_steps}
-use Rattle.argus_core.proofs.{Sweeps.{covered_more, ended_lawful, there_less}, SweepSiblings.{first_left, sibling_here}}
+use Rattle.argus_core.proofs.{Sweeps.can_sweep_more, SweepSiblings.{first_left, sibling_here}}
 use Rattle.argus_core.proofs.SweepSiblings.{swing_done, swing_end, swing_fewer, swing_next, swing_pass, swing_start}
 use Rattle.argus_core.proofs.SweepSiblings.{swing_step}
 use Rattle.argus_core.proofs.engine.discarding.discard_siblings.Goals as goal
@@ -18,14 +18,8 @@ discard_under-requires-clause-begun c =
     (swing_next c.args.tree.now c.args.a.0 c.args.under.0 c.requires.under _ _ _ _ _ c.in-Some.sibling
     (rw c.in-Some.is at c.loop-child.invariant)).0
 
-pub discard_under-requires-clause-lawful : goal.discard_under-requires-clause-lawful
-discard_under-requires-clause-lawful c = ended_lawful c.loop-child.invariant.ended
-
-pub discard_under-requires-clause-there : goal.discard_under-requires-clause-there
-discard_under-requires-clause-there c = there_less c.loop-child.invariant.ended c.requires.there
-
-pub discard_under-requires-clause-covered : goal.discard_under-requires-clause-covered
-discard_under-requires-clause-covered c = covered_more c.loop-child.invariant.ended c.requires.covered
+pub discard_under-requires-clause-ready : goal.discard_under-requires-clause-ready
+discard_under-requires-clause-ready c = can_sweep_more c.loop-child.invariant.ended c.requires.ready
 
 pub loop-child-smaller : goal.loop-child-smaller
 loop-child-smaller c =

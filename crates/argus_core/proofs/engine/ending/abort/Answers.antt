@@ -1,6 +1,6 @@
 -- The tree refuses an abort as the journal does, or all that the ended actions hold is discarded.
 use Rattle.std.proofs.{Common.{arith, sym, ◌∙◌}, lemmas.{List.with_items_is, Grind.common_steps}}
-use Rattle.argus_core.proofs.{Ends.{abort_stands, kept_abort}, OfState.{aborts, covers, end_refused, end_right}}
+use Rattle.argus_core.proofs.{Ends.{abort_stands, kept_abort}, OfState.{aborts, can_sweep, end_refused, end_right}}
 use Rattle.argus_core.proofs.engine.ending.abort.Goals as goal
 
 pub refuse-requires-clause-right : goal.refuse-requires-clause-right
@@ -12,8 +12,9 @@ pub discard_under-requires-clause-begun : goal.discard_under-requires-clause-beg
 discard_under-requires-clause-begun c =
     (abort_stands _ _ _ _ _ c.requires c.args.a (sym c.abort_refusal.ensures ∙ c.in-None.is)).low
 
-pub discard_under-requires-clause-covered : goal.discard_under-requires-clause-covered
-discard_under-requires-clause-covered c = rw (c.as_mut_slice.ensures.value) (covers c.args.state.now c.requires)
+pub discard_under-requires-clause-ready : goal.discard_under-requires-clause-ready
+discard_under-requires-clause-ready c =
+    rw (c.as_mut_slice.ensures.value) (can_sweep c.args.state.now c.requires c.rows_are_sound.ensures.linked)
 
 pub push-requires-clause-answered : goal.push-requires-clause-answered
 push-requires-clause-answered c = grind (arith, common_steps, end_right, aborts)

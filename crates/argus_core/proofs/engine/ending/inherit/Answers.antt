@@ -1,5 +1,5 @@
 -- After a subaction's commit, by which its parent has what it held, the parts are what the longer journal says.
-use Rattle.std.proofs.{Common.arith, lemmas.List.with_items_is}
+use Rattle.std.proofs.{Common.arith, lemmas.{Grind.common_steps, List.with_items_is}}
 use Rattle.argus_core.proofs.{Ends.{kept_sub, parent_other}, FreeLocks.listed_held, OfState.{commits, end_right}}
 use Rattle.argus_core.proofs.engine.ending.inherit.Goals as goal
 
@@ -16,8 +16,7 @@ inherit_list-requires-clause-other c =
     parent_other _ _ _ _ _ r.kept c.args.a c.args.parent r.ready.free r.ready.parent
 
 pub push-requires-clause-answered : goal.push-requires-clause-answered
-push-requires-clause-answered c =
-    end_right c.args.state.now (commits c.args.state.now c.requires.kept c.args.a) c.requires.ready.free
+push-requires-clause-answered c = grind (arith, common_steps, end_right, commits)
 
 pub returns-clause-kept : goal.returns-clause-kept
 returns-clause-kept c =

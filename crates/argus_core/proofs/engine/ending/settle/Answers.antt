@@ -1,11 +1,10 @@
 -- After a topaction's commit, whose versions are the bases, the parts are what the longer journal says.
-use Rattle.std.proofs.{Common.arith, lemmas.List.with_items_is}
+use Rattle.std.proofs.{Common.arith, lemmas.{Grind.common_steps, List.with_items_is}}
 use Rattle.argus_core.proofs.{Ends.kept_top, OfState.{commits, end_right}}
 use Rattle.argus_core.proofs.engine.ending.settle.Goals as goal
 
 pub push-requires-clause-answered : goal.push-requires-clause-answered
-push-requires-clause-answered c =
-    end_right c.args.state.now (commits c.args.state.now c.requires.kept c.args.a) c.requires.ready.free
+push-requires-clause-answered c = grind (arith, common_steps, end_right, commits)
 
 pub returns-clause-kept : goal.returns-clause-kept
 returns-clause-kept c =

@@ -7,7 +7,7 @@ use Rattle.argus_core.proofs.engine.granting.reserve_granted_read.Goals as goal
 pub reserve_read-requires-clause-listed : goal.reserve_read-requires-clause-listed
 reserve_read-requires-clause-listed c =
     rw (c.as_mut_slice-objects.ensures.value)
-    (listed_held c.args.state.now c.requires.kept c.args.a c.args.o c.requires.low)
+    (listed_held c.args.state.now c.requires.kept c.args.a c.args.o c.requires.free.low)
 
 pub returns-clause-kept : goal.returns-clause-kept
 returns-clause-kept c =

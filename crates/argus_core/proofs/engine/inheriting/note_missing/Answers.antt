@@ -1,10 +1,12 @@
 -- The next object is new on the parent's list exactly if the parent doesn't hold it.
 use Rattle.std.proofs.Common.{Bool, List, ap, arith, cond, false, get_or, inl, inr, length, refl, subst, sym, take}
-use Rattle.std.proofs.{Common.{true, ◌+◌, ◌<◌, ◌≤◌, ◌||◌, ◌∙◌, ◌≡◌, ◌≢◌}, lemmas.Bool.{cases_eq, eq-eqb, ne_eqb}}
+use Rattle.std.proofs.{Common.{true, ℕ, ◌+◌, ◌<◌, ◌≤◌, ◌||◌, ◌∙◌, ◌≡◌, ◌≢◌}, lemmas.Bool.{cases_eq, eq-eqb, ne_eqb}}
 use Rattle.std.specs.{List.IsDistinct, Prelude.{not, ◌==◌}}
 use Rattle.argus_actions.specs.declared.action_id.ActionId.{ActionId}
 use Rattle.argus_contents.specs.declared.obj_id.ObjId.{ObjId}
-use Rattle.argus_core.{specs.Moving.is_listed, proofs.{Changes.listed_at, Noted.{listed_yet, passed_more}}}
+use Rattle.argus_core.specs.{Accessing.{HasListRoom, IsListedIfHeld}, Moving.{AreThere, is_listed}}
+use Rattle.argus_core.specs.declared.engine.atomic_object.AtomicObject.{AtomicObject}
+use Rattle.argus_core.proofs.{Changes.listed_at, Noted.{listed_yet, passed_more}}
 use Rattle.argus_objects.specs.{CellChanges.{has_version, is_reader}, declared.holdings.Holdings.Holdings}
 use Rattle.argus_objects.specs.Holdings.{Lists, TakesOnePlace, holdings_room_of, noted, objects_held_by, passed}
 use Rattle.argus_core.proofs.engine.inheriting.note_missing.Goals as goal
@@ -40,78 +42,82 @@ twice : (b : Bool) → b ≡ not (not b)
 twice true = refl
 twice false = refl
 
+-- In the midst of the loop over the list of a: `of` is the list as it is read now, `place` is within it, and the list
+-- of p has the objects before that.
+module _ (old mid : Holdings) (a p : ActionId) (place : ℕ) (of : List ObjId)
+    (lists : Lists old p (passed (take place (objects_held_by old a)) (objects_held_by old p)) mid)
+    (other : a.0 ≢ p.0) (is : of ≡ objects_held_by mid a) (low : place < length (objects_held_by old a)) where
+  abbrev none : ObjId
+  none = record { 0 = 0 }
+
+  abbrev held : List ObjId
+  held = objects_held_by old a
+
+  abbrev next : ObjId
+  next = get_or held place none
+
+  same : of ≡ held
+  same = is ∙ other_list old mid p a _ lists other
+
+  -- the next object is there
+  next_there : (n : ℕ) → AreThere held n → (get_or of place none).0 < n
+  next_there n there =
+      subst (λ (l : List ObjId). (get_or l place none).0 < n) (sym same)
+      (there next.0 (listed_at held place none low))
+
+  -- it is new on the list of p, which has room for it, unless p holds it
+  has_room : IsDistinct (λ (x y : ObjId). x.0 == y.0) held → (objects : List AtomicObject)
+      → AreThere held (length objects) → ((o : ObjId) → o.0 < length objects → IsListedIfHeld objects old p o)
+      → (d : AtomicObject) (has : Bool)
+      → has ≡ (is_reader p (get_or objects (get_or of place none).0 d).cell.readers
+      || has_version p (get_or objects (get_or of place none).0 d).cell.versions)
+      → length held ≤ holdings_room_of mid p + place → HasListRoom mid p (get_or of place none) (not has)
+  has_room once objects there listed d has has_is enough = record {
+    listed =
+        ap (λ (l : List ObjId). is_listed (objects_held_by mid p) (get_or l place none).0) same
+        ∙ ap (λ (l : List ObjId). is_listed l next.0) (this_list old mid p p _ lists refl)
+        ∙ listed_yet held (objects_held_by old p) place none once low
+        ∙ listed next (there next.0 (listed_at held place none low)) d
+        ∙ ap (λ (l : List ObjId). is_reader p (get_or objects (get_or l place none).0 d).cell.readers
+        || has_version p (get_or objects (get_or l place none).0 d).cell.versions) (sym same)
+        ∙ sym has_is ∙ twice has;
+    room = λ is_new. omega (arith, enough, low);
+  }
+
+  -- behind it the list of p has one object more
+  more_noted : (new : Holdings) → Lists mid p (noted (get_or of place none) (objects_held_by mid p)) new
+      → Lists old p (passed (take (place + 1) held) (objects_held_by old p)) new
+  more_noted new now =
+      let more : noted (get_or of place none) (objects_held_by mid p)
+      ≡ passed (take (place + 1) held) (objects_held_by old p) =
+      ap (λ (l : List ObjId). noted (get_or l place none) (objects_held_by mid p)) same
+      ∙ ap (noted next) (this_list old mid p p _ lists refl)
+      ∙ sym (passed_more held (objects_held_by old p) place none low) in
+      subst (λ (l : List ObjId). Lists old p l new) more (list_again old mid new p _ _ lists now)
+
 pub bounds-objects-o : goal.bounds-objects-o
 bounds-objects-o c =
-    let none : ObjId = record { 0 = 0 } in
-    let held = objects_held_by c.args.holdings.now c.args.a in
-    let i = c.loop-place.place in
-    let same : c.of.result.now ≡ held =
-    c.of.ensures.list
-    ∙ other_list c.args.holdings.now c.loop-place.holdings c.args.parent c.args.a _ c.loop-place.invariant.lists
-    c.requires.other in
-    let low : i < length held =
-    subst (λ (l : List ObjId). i < length l) c.of-place-end.ensures.list c.loop-place-test.true in
-    subst (λ (l : List ObjId). (get_or l i none).0 < length c.args.objects.now) (sym same)
-    (c.requires.there (get_or held i none).0 (listed_at held i none low))
+    next_there c.args.holdings.now c.loop-place.holdings c.args.a c.args.parent c.loop-place.place c.of.result.now
+    c.loop-place.invariant.lists c.requires.other c.of.ensures.list
+    (rw c.of-place-end.ensures.list at c.loop-place-test.true) _ c.requires.there
 
 pub note_if-requires : goal.note_if-requires
 note_if-requires c =
-    let none : ObjId = record { 0 = 0 } in
-    let held = objects_held_by c.args.holdings.now c.args.a in
-    let parents = objects_held_by c.args.holdings.now c.args.parent in
-    let i = c.loop-place.place in
-    let same : c.of.result.now ≡ held =
-    c.of.ensures.list
-    ∙ other_list c.args.holdings.now c.loop-place.holdings c.args.parent c.args.a _ c.loop-place.invariant.lists
-    c.requires.other in
-    let low : i < length held =
-    subst (λ (l : List ObjId). i < length l) c.of-place-end.ensures.list c.loop-place-test.true in
-    let once : IsDistinct (λ (x y : ObjId). x.0 == y.0) held =
-    subst (λ (l : List ObjId). IsDistinct (λ (x y : ObjId). x.0 == y.0) l) c.of-place-end.ensures.list
-    c.of-place-end.ensures.once in
-    let there : (get_or held i none).0 < length c.args.objects.now =
-    c.requires.there (get_or held i none).0 (listed_at held i none low) in
-    let has : is_listed parents (get_or held i none).0 ≡ c.has_holder-is_new.result =
-    c.requires.listed (get_or held i none) there c.index-objects-o.result
-    ∙ ap (λ (l : List ObjId). is_reader c.args.parent
-    (get_or c.args.objects.now (get_or l i none).0 c.index-objects-o.result).cell.readers
-    || has_version c.args.parent
-    (get_or c.args.objects.now (get_or l i none).0 c.index-objects-o.result).cell.versions) (sym same)
-    ∙ sym c.has_holder-is_new.ensures in
-    record {
-      listed =
-          ap (λ (l : List ObjId). is_listed (objects_held_by c.loop-place.holdings c.args.parent) (get_or l i none).0)
-          same
-          ∙ ap (λ (l : List ObjId). is_listed l (get_or held i none).0)
-          (this_list c.args.holdings.now c.loop-place.holdings c.args.parent c.args.parent _
-          c.loop-place.invariant.lists refl)
-          ∙ listed_yet held parents i none once low ∙ has ∙ twice c.has_holder-is_new.result;
-      room = λ is. omega (arith, c.loop-place.invariant.room, low);
-    }
+    has_room c.args.holdings.now c.loop-place.holdings c.args.a c.args.parent c.loop-place.place c.of.result.now
+    c.loop-place.invariant.lists c.requires.other c.of.ensures.list
+    (rw c.of-place-end.ensures.list at c.loop-place-test.true) (rw c.of-place-end.ensures.list at c.of-place-end.ensures.once)
+    c.args.objects.now c.requires.there c.requires.listed c.index-objects-o.result c.has_holder-is_new.result
+    c.has_holder-is_new.ensures c.loop-place.invariant.room
 
 pub loop-place-preserved : goal.loop-place-preserved
 loop-place-preserved c =
-    let none : ObjId = record { 0 = 0 } in
-    let held = objects_held_by c.args.holdings.now c.args.a in
-    let parents = objects_held_by c.args.holdings.now c.args.parent in
-    let i = c.loop-place.place in
-    let same : c.of.result.now ≡ held =
-    c.of.ensures.list
-    ∙ other_list c.args.holdings.now c.loop-place.holdings c.args.parent c.args.a _ c.loop-place.invariant.lists
-    c.requires.other in
-    let low : i < length held =
-    subst (λ (l : List ObjId). i < length l) c.of-place-end.ensures.list c.loop-place-test.true in
-    let more : noted (get_or c.of.result.now i none) (objects_held_by c.loop-place.holdings c.args.parent)
-    ≡ passed (take (i + 1) held) parents =
-    ap (λ (l : List ObjId). noted (get_or l i none) (objects_held_by c.loop-place.holdings c.args.parent)) same
-    ∙ ap (noted (get_or held i none)) (this_list c.args.holdings.now c.loop-place.holdings c.args.parent
-    c.args.parent _ c.loop-place.invariant.lists refl)
-    ∙ sym (passed_more held parents i none low) in
+    let low : c.loop-place.place < length (objects_held_by c.args.holdings.now c.args.a) =
+    rw c.of-place-end.ensures.list at c.loop-place-test.true in
     let place = one_place c.loop-place.holdings c.note_if.new.holdings c.args.parent c.note_if.ensures.rooms in
     record {
-      lists = subst (λ (l : List ObjId). Lists c.args.holdings.now c.args.parent l c.note_if.new.holdings) more
-          (list_again c.args.holdings.now c.loop-place.holdings c.note_if.new.holdings c.args.parent _ _
-          c.loop-place.invariant.lists c.note_if.ensures.list);
+      lists = more_noted c.args.holdings.now c.loop-place.holdings c.args.a c.args.parent c.loop-place.place
+          c.of.result.now c.loop-place.invariant.lists c.requires.other c.of.ensures.list low c.note_if.new.holdings
+          c.note_if.ensures.list;
       room = omega (arith, c.loop-place.invariant.room, place);
       low = omega (arith, low);
     }

@@ -5,15 +5,14 @@ use Rattle.argus_core.proofs.engine.moving.settle_all.Goals as goal
 
 pub bounds-objects-o : goal.bounds-objects-o
 bounds-objects-o c =
-    is_within _ c.args.listed.now c.loop-o.o-index (record { 0 = 0 }) _ _ c.loop-o-test.true c.requires.there
-    c.loop-o.invariant
+    is_within c.requires.ready c.loop-o.o-index (record { 0 = 0 }) _ c.loop-o-test.true c.loop-o.invariant
 
 pub settle_top-requires-clause-lawful : goal.settle_top-requires-clause-lawful
 settle_top-requires-clause-lawful c =
-    lawful_yet _ c.args.listed.now c.loop-o.o-index (record { 0 = 0 }) _ _ c.index-objects-o.result c.requires.once
-    c.loop-o-test.true c.requires.there c.loop-o.invariant c.args.tree.now c.requires.lawful
+    lawful_yet c.requires.ready _ c.loop-o.o-index (record { 0 = 0 }) _ c.index-objects-o.result c.loop-o-test.true
+    c.loop-o.invariant
 
 pub loop-o-preserved : goal.loop-o-preserved
 loop-o-preserved c =
-    more_changed _ c.args.listed.now c.loop-o.o-index (record { 0 = 0 }) _ _ c.index-objects-o.result c.requires.once
-    c.loop-o-test.true c.requires.there c.loop-o.invariant c.settle_top.new.self (search rules)
+    more_changed c.requires.ready _ c.loop-o.o-index (record { 0 = 0 }) _ c.index-objects-o.result c.loop-o-test.true
+    c.loop-o.invariant c.settle_top.new.self (search rules)

@@ -4,7 +4,7 @@ use Rattle.argus_contents.specs.Answer.{flag}
 use Rattle.argus_entries.specs.{Call.test_read, Reply.answered}
 use Rattle.argus_journal.specs.JournalView.{entry_with}
 use Rattle.argus_core.proofs.{Accesses.access_refused, FreeLocks.said_free, MadeAccesses.made_read, Tests.reads}
-use Rattle.argus_core.proofs.Tests.{test_low, test_right, test_still, tests}
+use Rattle.argus_core.proofs.Tests.{test_free, test_low, test_right, test_still, tests}
 use Rattle.argus_core.proofs.engine.testing.test_read.Goals as goal
 
 pub refuse-requires-clause-right : goal.refuse-requires-clause-right
@@ -24,14 +24,11 @@ push-requires-clause-answered c =
     (sym (rw (c.as_slice.ensures.value) at c.test_refusal.ensures) ∙ c.in-None.is) false
     (λ d. sym c.if-not-is_readable.true ∙ (rw (c.as_slice-2.ensures.value) at c.is_readable.ensures) d))
 
-pub reserve_granted_read-requires-clause-low : goal.reserve_granted_read-requires-clause-low
-reserve_granted_read-requires-clause-low c =
-    test_low (reads c.args.state.now c.requires c.args.a c.args.o)
+pub reserve_granted_read-requires-clause-free : goal.reserve_granted_read-requires-clause-free
+reserve_granted_read-requires-clause-free c =
+    test_free (reads c.args.state.now c.requires c.args.a c.args.o)
     (sym (rw (c.as_slice.ensures.value) at c.test_refusal.ensures) ∙ c.in-None.is)
-
-pub reserve_granted_read-requires-clause-granted : goal.reserve_granted_read-requires-clause-granted
-reserve_granted_read-requires-clause-granted c =
-    λ d. sym (sym c.if-not-is_readable.false ∙ (rw (c.as_slice-2.ensures.value) at c.is_readable.ensures) d)
+    (λ d. sym (sym c.if-not-is_readable.false ∙ (rw (c.as_slice-2.ensures.value) at c.is_readable.ensures) d))
 
 pub grant_read-requires-clause-free : goal.grant_read-requires-clause-free
 grant_read-requires-clause-free c =

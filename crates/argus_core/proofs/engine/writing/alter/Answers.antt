@@ -1,8 +1,8 @@
 -- A change is refused as the journal refuses it, or made where the journal grants it, with its answer.
 use Rattle.std.proofs.{Common.{None, Some, ap, arith, sym, ◌∙◌}, lemmas.List.with_items_is}
 use Rattle.argus_contents.specs.{Answer.done_or, Change.plain_change}
-use Rattle.argus_core.proofs.{Accessed.kept_locks, Accesses.access_refused, FreeLocks.{listed_held, writer_limits}}
-use Rattle.argus_core.proofs.Alters.{alter_free, alter_made, alter_still, alters}
+use Rattle.argus_core.proofs.{Accessed.kept_locks, Accesses.access_refused}
+use Rattle.argus_core.proofs.Alters.{alter_made, alter_ready, alter_still, alters}
 use Rattle.argus_journal.specs.LegalJournal.{entries_in, opening_in}
 use Rattle.argus_core.proofs.engine.writing.alter.Goals as goal
 
@@ -16,25 +16,11 @@ alter_with_value-requires-clause-free c =
     sym (alters c.args.state.now c.requires c.args.a c.args.o (plain_change c.args.change)).refuses
     ∙ (sym (rw (c.as_slice.ensures.value) at c.alter_refusal.ensures) ∙ c.in-None.is)
 
-pub grant_change-requires-clause-free : goal.grant_change-requires-clause-free
-grant_change-requires-clause-free c =
+pub grant_change-requires-clause-ready : goal.grant_change-requires-clause-ready
+grant_change-requires-clause-ready c =
     rw (c.as_mut_slice-objects.ensures.value)
-    (alter_free c.args.state.now c.requires c.args.a c.args.o (plain_change c.args.change)
+    (alter_ready c.args.state.now c.requires c.args.a c.args.o (plain_change c.args.change)
     (sym (rw (c.as_slice.ensures.value) at c.alter_refusal.ensures) ∙ c.in-None.is))
-
-pub grant_change-requires-clause-limits : goal.grant_change-requires-clause-limits
-grant_change-requires-clause-limits c =
-    rw (c.as_mut_slice-objects.ensures.value)
-    (writer_limits c.args.state.now c.requires c.args.a c.args.o
-    (alter_free c.args.state.now c.requires c.args.a c.args.o (plain_change c.args.change)
-    (sym (rw (c.as_slice.ensures.value) at c.alter_refusal.ensures) ∙ c.in-None.is)))
-
-pub grant_change-requires-clause-listed : goal.grant_change-requires-clause-listed
-grant_change-requires-clause-listed c =
-    rw (c.as_mut_slice-objects.ensures.value)
-    (listed_held c.args.state.now c.requires c.args.a c.args.o
-    (alter_free c.args.state.now c.requires c.args.a c.args.o (plain_change c.args.change)
-    (sym (rw (c.as_slice.ensures.value) at c.alter_refusal.ensures) ∙ c.in-None.is)).low)
 
 pub returns-in_err-grant_change-clause-kept : goal.returns-in_err-grant_change-clause-kept
 returns-in_err-grant_change-clause-kept c =

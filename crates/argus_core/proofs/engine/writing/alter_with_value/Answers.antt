@@ -5,8 +5,7 @@ use Rattle.argus_contents.specs.{Change.{PlainChange, plain_change}, Fitting.cha
 use Rattle.argus_entries.specs.Call.{alter}
 use Rattle.argus_core.specs.{Accessing.access_refusal, GuardianState.{StateInvariant, journal_view_of}}
 use Rattle.argus_core.{specs.declared.engine.guardian_state.GuardianState.GuardianState, proofs.Accessed.kept_locks}
-use Rattle.argus_core.proofs.{Alters.{alter_free, alter_made, alter_still, alters}, FreeLocks.listed_held}
-use Rattle.argus_core.proofs.FreeLocks.{writer_limits, writer_reads}
+use Rattle.argus_core.proofs.Alters.{alter_made, alter_ready, alter_still, alters, removal_ready}
 use Rattle.argus_journal.specs.{JournalView.refusal_to, LegalJournal.{entries_in, opening_in}}
 use Rattle.argus_objects.specs.Rules.{may_write}
 use Rattle.argus_core.proofs.engine.writing.alter_with_value.Goals as goal
@@ -18,46 +17,17 @@ refused_not : (p : GuardianState) (k : StateInvariant p) (a : ActionId) (o : Obj
     (λ c. may_write p.tree c a) ≡ None
 refused_not p k a o change free = (alters p k a o change).refuses ∙ free
 
-pub answer_of_removal-requires-clause-low : goal.answer_of_removal-requires-clause-low
-answer_of_removal-requires-clause-low c =
+pub answer_of_removal-requires-clause-ready : goal.answer_of_removal-requires-clause-ready
+answer_of_removal-requires-clause-ready c =
     rw (c.as_slice-seen.ensures.value)
-    (alter_free c.args.state.now c.requires.kept c.args.a c.args.o (plain_change c.args.change)
-    (refused_not c.args.state.now c.requires.kept c.args.a c.args.o (plain_change c.args.change) c.requires.free)).low
-
-pub answer_of_removal-requires-clause-granted : goal.answer_of_removal-requires-clause-granted
-answer_of_removal-requires-clause-granted c =
-    rw (c.as_slice-seen.ensures.value)
-    (writer_reads c.args.state.now c.requires.kept c.args.a c.args.o
-    (alter_free c.args.state.now c.requires.kept c.args.a c.args.o (plain_change c.args.change)
-    (refused_not c.args.state.now c.requires.kept c.args.a c.args.o (plain_change c.args.change)
-    c.requires.free))).opens
-
-pub answer_of_removal-requires-clause-limits : goal.answer_of_removal-requires-clause-limits
-answer_of_removal-requires-clause-limits c =
-    rw (c.as_slice-seen.ensures.value)
-    (writer_limits c.args.state.now c.requires.kept c.args.a c.args.o
-    (alter_free c.args.state.now c.requires.kept c.args.a c.args.o (plain_change c.args.change)
-    (refused_not c.args.state.now c.requires.kept c.args.a c.args.o (plain_change c.args.change) c.requires.free)))
-
-pub grant_removal-requires-clause-free : goal.grant_removal-requires-clause-free
-grant_removal-requires-clause-free c =
-    rw (c.as_mut_slice-objects.ensures.value)
-    (alter_free c.args.state.now c.requires.kept c.args.a c.args.o (plain_change c.args.change)
+    (removal_ready c.args.state.now c.requires.kept c.args.a c.args.o (plain_change c.args.change)
     (refused_not c.args.state.now c.requires.kept c.args.a c.args.o (plain_change c.args.change) c.requires.free))
 
-pub grant_removal-requires-clause-limits : goal.grant_removal-requires-clause-limits
-grant_removal-requires-clause-limits c =
+pub grant_removal-requires : goal.grant_removal-requires
+grant_removal-requires c =
     rw (c.as_mut_slice-objects.ensures.value)
-    (writer_limits c.args.state.now c.requires.kept c.args.a c.args.o
-    (alter_free c.args.state.now c.requires.kept c.args.a c.args.o (plain_change c.args.change)
-    (refused_not c.args.state.now c.requires.kept c.args.a c.args.o (plain_change c.args.change) c.requires.free)))
-
-pub grant_removal-requires-clause-listed : goal.grant_removal-requires-clause-listed
-grant_removal-requires-clause-listed c =
-    rw (c.as_mut_slice-objects.ensures.value)
-    (listed_held c.args.state.now c.requires.kept c.args.a c.args.o
-    (alter_free c.args.state.now c.requires.kept c.args.a c.args.o (plain_change c.args.change)
-    (refused_not c.args.state.now c.requires.kept c.args.a c.args.o (plain_change c.args.change) c.requires.free)).low)
+    (alter_ready c.args.state.now c.requires.kept c.args.a c.args.o (plain_change c.args.change)
+    (refused_not c.args.state.now c.requires.kept c.args.a c.args.o (plain_change c.args.change) c.requires.free))
 
 pub returns-in_err-grant_removal-clause-kept : goal.returns-in_err-grant_removal-clause-kept
 returns-in_err-grant_removal-clause-kept c =

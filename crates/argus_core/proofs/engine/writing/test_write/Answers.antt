@@ -2,7 +2,7 @@
 use Rattle.std.proofs.{Common.{arith, false, refl, sym, true, ◌∙◌}, lemmas.List.with_items_is}
 use Rattle.argus_contents.specs.{Answer.flag, Change.touch}
 use Rattle.argus_entries.specs.{Call.test_write, Reply.answered}
-use Rattle.argus_core.proofs.{Accessed.kept_locks, Accesses.access_refused, FreeLocks.{listed_held, writer_limits}}
+use Rattle.argus_core.proofs.{Accessed.kept_locks, Accesses.access_refused, FreeLocks.can_alter}
 use Rattle.argus_core.proofs.{MadeAccesses.made_change, Tests.{test_free, test_low, test_right, tests, writes}}
 use Rattle.argus_journal.specs.JournalView.{entry_with}
 use Rattle.argus_core.proofs.engine.writing.test_write.Goals as goal
@@ -24,27 +24,13 @@ push-requires-clause-answered c =
     (sym (rw (c.as_slice.ensures.value) at c.test_refusal.ensures) ∙ c.in-None.is) false
     (λ d. sym c.if-not-is_writable.true ∙ (rw (c.as_slice-2.ensures.value) at c.is_writable.ensures) d))
 
-pub grant_change-requires-clause-free : goal.grant_change-requires-clause-free
-grant_change-requires-clause-free c =
+pub grant_change-requires-clause-ready : goal.grant_change-requires-clause-ready
+grant_change-requires-clause-ready c =
     rw (c.as_mut_slice-objects.ensures.value)
-    (test_free (writes c.args.state.now c.requires c.args.a c.args.o)
-    (sym (rw (c.as_slice.ensures.value) at c.test_refusal.ensures) ∙ c.in-None.is)
-    (λ d. sym (sym c.if-not-is_writable.false ∙ (rw (c.as_slice-2.ensures.value) at c.is_writable.ensures) d)))
-
-pub grant_change-requires-clause-limits : goal.grant_change-requires-clause-limits
-grant_change-requires-clause-limits c =
-    rw (c.as_mut_slice-objects.ensures.value)
-    (writer_limits c.args.state.now c.requires c.args.a c.args.o
+    (can_alter c.args.state.now c.requires c.args.a c.args.o
     (test_free (writes c.args.state.now c.requires c.args.a c.args.o)
     (sym (rw (c.as_slice.ensures.value) at c.test_refusal.ensures) ∙ c.in-None.is)
     (λ d. sym (sym c.if-not-is_writable.false ∙ (rw (c.as_slice-2.ensures.value) at c.is_writable.ensures) d))))
-
-pub grant_change-requires-clause-listed : goal.grant_change-requires-clause-listed
-grant_change-requires-clause-listed c =
-    rw (c.as_mut_slice-objects.ensures.value)
-    (listed_held c.args.state.now c.requires c.args.a c.args.o
-    (test_low (writes c.args.state.now c.requires c.args.a c.args.o)
-    (sym (rw (c.as_slice.ensures.value) at c.test_refusal.ensures) ∙ c.in-None.is)))
 
 pub returns-in_err-grant_change-clause-kept : goal.returns-in_err-grant_change-clause-kept
 returns-in_err-grant_change-clause-kept c =
