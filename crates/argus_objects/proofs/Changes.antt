@@ -9,9 +9,9 @@ use Rattle.argus_contents.specs.{Answer.PlainAnswer, Change.{PlainChange, outcom
 use Rattle.argus_contents.specs.Content.{plain_option}
 use Rattle.argus_objects.specs.{declared.version.Version.Version, Object.{Object, PlainVersion, plain_version}}
 use Rattle.argus_objects.specs.{Object.{versions_newest_first, holders, writers}, Rules.{all_above, are_up_to}}
-use Rattle.argus_objects.specs.{Rules.{is_ascending, may_write, visible_content}, CellChanges.changed_top}
+use Rattle.argus_objects.specs.{Rules.{is_ascending, may_write, visible_content}, CellChanges.IsChangedOnTop}
 use Rattle.argus_objects.specs.CellChanges.{has_version, newest_content, version_inherited, versions_inherited}
-use Rattle.argus_objects.{specs.CellChanges.with_version, proofs.{Ascending.above_up_to, Chains.all_imp}}
+use Rattle.argus_objects.proofs.{Ascending.above_up_to, Chains.all_imp}
 use Rattle.argus_objects.proofs.Stacks.{all_holders, all_lower, all_versions, has_newest, lower_newest, newest_push}
 use Rattle.argus_objects.proofs.Stacks.{newest_set, same_id, version_pushed, version_set, without_lower}
 
@@ -39,22 +39,19 @@ module _ {R : Type 0} (answer_of : R → PlainAnswer) (change : PlainChange) (ba
     pub changed_in_place : (r : Result R OutOfMemory)
         → IfOk r (λ answer. (plain_option v.content, answer_of answer) ≡ outcome change (plain_option old.content))
         → OnErr r (plain_option v.content ≡ plain_option old.content)
-        → OnOk r (versions_newest_first (set vs k v) ≡ with_version a (changed_top change base (versions_newest_first
-        vs)).0
-        (versions_newest_first vs))
-        × IfOk r (λ answer. answer_of answer ≡ (changed_top change base (versions_newest_first vs)).1)
-        × OnErr r (versions_newest_first (set vs k v) ≡ versions_newest_first vs)
+        → IsChangedOnTop answer_of a change base (versions_newest_first vs) (versions_newest_first (set vs k v)) r
     changed_in_place (Ok answer) ok err = grind (arith, nat_tests, content_on_top, before, version_set, same_id, held)
     changed_in_place (Err refused) ok err = grind (arith, nat_tests, newest_set, before, newest_top)
 
 -- a changed copy of what is on top, pushed
-pub changed_copy : (change : PlainChange) (base : Option PlainContent) (a : ActionId) (vs vs' : List Version)
-    (v : Version) (answer : PlainAnswer) (top : Option PlainContent)
+pub changed_copy : {R : Type 0} (answer_of : R → PlainAnswer) (change : PlainChange) (base : Option PlainContent)
+    (a : ActionId) (vs vs' : List Version) (v : Version) (answer : R) (top : Option PlainContent)
     → vs' ≡ vs ++ v ∷ [] → v.holder ≡ a → list_all (λ x. ltb x.0 a.0) (holders (versions_newest_first vs)) ≡ true
-    → (plain_option v.content, answer) ≡ outcome change top → top ≡ newest_content base (versions_newest_first vs)
-    → versions_newest_first vs' ≡ with_version a (changed_top change base (versions_newest_first vs)).0
-    (versions_newest_first vs)
-changed_copy change base a vs vs' v answer top pushed mine low made seen = grind (arith, nat_tests, version_pushed)
+    → (plain_option v.content, answer_of answer) ≡ outcome change top
+    → top ≡ newest_content base (versions_newest_first vs)
+    → IsChangedOnTop answer_of a change base (versions_newest_first vs) (versions_newest_first vs') (Ok answer)
+changed_copy answer_of change base a vs vs' v answer top pushed mine low made seen =
+    grind (arith, nat_tests, version_pushed)
 
 -- an action that may read sees what is on top
 pub seen_on_top : (t : Tree) (a : ActionId) (base : Option PlainContent) (vs : List PlainVersion)

@@ -1,8 +1,9 @@
 -- What each call leaves of the readers and of the versions.
 use Rattle.std.specs.Prelude.{Bool, not, ◌&&◌, ◌||◌, ◌==◌, nat_lt, if◌then◌else◌, List, [], ◌∷◌, map, Option, Some}
-use Rattle.std.specs.{Prelude.None, List.{list_any, filter}}
+use Rattle.std.specs.{Prelude.{None, IfOk, OnErr, OnOk, Result, ◌≡◌}, List.{list_any, filter}}
 use Rattle.argus_actions.specs.{declared.action_id.ActionId.ActionId, Tree.Tree}
-use Rattle.argus_contents.specs.{Content.PlainContent, Change.{PlainChange, Outcome, outcome}}
+use Rattle.argus_contents.specs.{Answer.PlainAnswer, Content.PlainContent, Change.{PlainChange, Outcome, outcome}}
+use Rattle.argus_memory.specs.declared.out_of_memory.OutOfMemory.{OutOfMemory}
 use Rattle.argus_objects.specs.{Object.{Object, PlainVersion}, Rules.visible_content}
 
 -- a is one of these readers
@@ -69,6 +70,15 @@ newest_content base (v ∷ older) = v.content
 -- what a change does to the content of the newest version, or to the base
 abbrev pub changed_top : PlainChange → Option PlainContent → List PlainVersion → Outcome
 changed_top change base versions = outcome change (newest_content base versions)
+
+-- a has the version that the change makes of the newest content, and the answer is the change's; at
+-- want of memory the versions are as before
+pub record IsChangedOnTop {A : Type 0} (says : A → PlainAnswer) (a : ActionId) (change : PlainChange)
+    (base : Option PlainContent) (old new : List PlainVersion)
+    (result : Result A OutOfMemory) : Type 0 where
+  pub versions : OnOk result (new ≡ with_version a (changed_top change base old).0 old)
+  pub answer : IfOk result (λ answer. says answer ≡ (changed_top change base old).1)
+  pub err : OnErr result (new ≡ old)
 
 -- what a change does to the content that the action sees
 abbrev pub changed : Tree → ActionId → PlainChange → Object → Outcome

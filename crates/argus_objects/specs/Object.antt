@@ -1,5 +1,6 @@
 -- What contracts see of a `Cell` and of a `Version`.
-use Rattle.std.specs.Prelude.{◌≡◌, ℕ, List, map, reverse, refl, Option}
+use Rattle.std.specs.{Prelude.{◌≡◌, ◌-◌, ℕ, List, map, reverse, refl, Option, vec_len}, Vec.vec_capacity}
+use Rattle.std.specs.declared.vec.Vec.{Vec}
 use Rattle.std.specs.Coded.{Coded, code_by, coded×, coded_ℕ, coded_list, coded_option}
 use Rattle.argus_actions.specs.declared.action_id.ActionId.{ActionId}
 use Rattle.argus_contents.specs.{Content.{PlainContent, plain_option}, ContentCode.content_coded}
@@ -17,6 +18,14 @@ plain_version v = record { holder = v.holder; content = plain_option v.content }
 -- the versions of a stack, from descendant to ancestor; the program keeps the newest last
 abbrev pub versions_newest_first : List Version → List PlainVersion
 versions_newest_first versions = reverse (map plain_version versions)
+
+-- the same of a cell's versions
+abbrev pub stack_of : {Z : Type 0} → Vec Version Z → List PlainVersion
+stack_of versions = versions_newest_first versions.items
+
+-- room for how many more versions there is
+abbrev pub spare_room : {Z : Type 0} → Vec Version Z → ℕ
+spare_room versions = vec_capacity versions - vec_len versions
 
 -- the holders of a stack's versions, from ancestor to descendant
 abbrev pub writers : List Version → List ActionId

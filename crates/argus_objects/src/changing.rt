@@ -1,13 +1,12 @@
 //! A change of an object's version: in place if the action has one, otherwise on a copy.
 
-ghost use Rattle.std.specs.Prelude.{◌≡◌, ◌≤◌, ◌+◌, ◌-◌, false, true, vec_len, IfOk, OnErr, OnOk};
-ghost use Rattle.std.specs.Vec.{vec_capacity};
+ghost use Rattle.std.specs.Prelude.{◌≡◌, ◌≤◌, ◌+◌, false, true};
 ghost use Rattle.argus_contents.specs.Answer.{done_or, plain_answer};
 ghost use Rattle.argus_contents.specs.Change.{gives_value, plain_change};
 ghost use Rattle.argus_contents.specs.Content.{KeepsLimits, plain_option};
-ghost use Rattle.argus_objects.specs.Object.{versions_newest_first, writers};
+ghost use Rattle.argus_objects.specs.Object.{spare_room, stack_of, versions_newest_first, writers};
 ghost use Rattle.argus_objects.specs.Rules.{are_up_to, is_ascending};
-ghost use Rattle.argus_objects.specs.CellChanges.{changed_top, newest_content, with_version};
+ghost use Rattle.argus_objects.specs.CellChanges.{IsChangedOnTop, newest_content};
 
 use crate::version::Version;
 use crate::versions::reserve_version;
@@ -40,18 +39,10 @@ pub(crate) fn change_version(
 ) -> Result<Answer, OutOfMemory>
     requires ascending { is_ascending (writers versions.old.items) ≡ true }
     requires newest { are_up_to a (writers versions.old.items) ≡ true }
-    requires limits { KeepsLimits (newest_content (plain_option base.now)
-        (versions_newest_first versions.old.items)) }
-    ensures versions { OnOk result (versions_newest_first versions.new.items
-        ≡ with_version a (changed_top (plain_change change.now) (plain_option base.now)
-        (versions_newest_first versions.old.items)).0 (versions_newest_first versions.old.items)) }
-    ensures answer { IfOk result (λ answer. plain_answer answer
-        ≡ (changed_top (plain_change change.now) (plain_option base.now)
-        (versions_newest_first versions.old.items)).1) }
-    ensures err { OnErr result (versions_newest_first versions.new.items
-        ≡ versions_newest_first versions.old.items) }
-    ensures room { vec_capacity versions.old - vec_len versions.old
-        ≤ vec_capacity versions.new - vec_len versions.new + 1 }
+    requires limits { KeepsLimits (newest_content (plain_option base.now) (stack_of versions.old)) }
+    ensures changed { IsChangedOnTop plain_answer a (plain_change change.now) (plain_option base.now)
+        (stack_of versions.old) (stack_of versions.new) result }
+    ensures room { spare_room versions.old ≤ spare_room versions.new + 1 }
 {
     let held = versions.len();
     let heap = versions.allocator().heap();
@@ -75,19 +66,11 @@ pub(crate) fn change_version_by_reference(
 ) -> Result<Option<Signal>, OutOfMemory>
     requires ascending { is_ascending (writers versions.old.items) ≡ true }
     requires newest { are_up_to a (writers versions.old.items) ≡ true }
-    requires limits { KeepsLimits (newest_content (plain_option base.now)
-        (versions_newest_first versions.old.items)) }
+    requires limits { KeepsLimits (newest_content (plain_option base.now) (stack_of versions.old)) }
     requires gives_none { gives_value (plain_change change.now) ≡ false }
-    ensures versions { OnOk result (versions_newest_first versions.new.items
-        ≡ with_version a (changed_top (plain_change change.now) (plain_option base.now)
-        (versions_newest_first versions.old.items)).0 (versions_newest_first versions.old.items)) }
-    ensures answer { IfOk result (λ refusal. done_or refusal
-        ≡ (changed_top (plain_change change.now) (plain_option base.now)
-        (versions_newest_first versions.old.items)).1) }
-    ensures err { OnErr result (versions_newest_first versions.new.items
-        ≡ versions_newest_first versions.old.items) }
-    ensures room { vec_capacity versions.old - vec_len versions.old
-        ≤ vec_capacity versions.new - vec_len versions.new + 1 }
+    ensures changed { IsChangedOnTop done_or a (plain_change change.now) (plain_option base.now)
+        (stack_of versions.old) (stack_of versions.new) result }
+    ensures room { spare_room versions.old ≤ spare_room versions.new + 1 }
 {
     let held = versions.len();
     let heap = versions.allocator().heap();

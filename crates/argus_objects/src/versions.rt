@@ -4,8 +4,8 @@ ghost use Rattle.std.specs.Prelude.{◌≡◌, ◌<◌, ◌≤◌, ◌==◌, ◌
 ghost use Rattle.std.specs.{Prelude.{vec_len, OnOk}, List.{list_all, list_any}, Vec.vec_capacity};
 ghost use Rattle.std.specs.Option.{option_map, unwrap_or};
 ghost use Rattle.argus_contents.specs.Content.{plain_option};
-ghost use Rattle.argus_objects.specs.Object.{holders, versions_newest_first, plain_version};
-ghost use Rattle.argus_objects.specs.{Object.writers, Rules.{is_chain, is_strictly_above}};
+ghost use Rattle.argus_objects.specs.Object.{holders, plain_version, spare_room, stack_of};
+ghost use Rattle.argus_objects.specs.{Object.{versions_newest_first, writers}, Rules.{is_chain, is_strictly_above}};
 ghost use Rattle.argus_objects.specs.Rules.{all_above, are_related, are_up_to, is_ascending};
 ghost use Rattle.argus_objects.specs.CellChanges.{version_inherited, version_of, with_version};
 ghost use Rattle.argus_objects.specs.CellChanges.{without_version, versions_inherited};
@@ -106,10 +106,9 @@ pub(crate) fn put_version(versions: &mut Vec<Version, Room>, a: ActionId, conten
     requires room { vec_len versions.old < vec_capacity versions.old }
     requires ascending { is_ascending (writers versions.old.items) ≡ true }
     requires newest { are_up_to a (writers versions.old.items) ≡ true }
-    ensures versions { versions_newest_first versions.new.items ≡ with_version a
-        (plain_option content) (versions_newest_first versions.old.items) }
-    ensures room { vec_capacity versions.old - vec_len versions.old
-        ≤ vec_capacity versions.new - vec_len versions.new + 1 }
+    ensures versions { stack_of versions.new
+        ≡ with_version a (plain_option content) (stack_of versions.old) }
+    ensures room { spare_room versions.old ≤ spare_room versions.new + 1 }
 {
     let held = versions.len();
     if held > 0 && versions[held - 1].holder.0 == a.0 {
@@ -122,12 +121,9 @@ pub(crate) fn put_version(versions: &mut Vec<Version, Room>, a: ActionId, conten
 // Looks for the version of `t` by halving, takes it out, and returns its content.
 fn remove_version(versions: &mut Vec<Version, Room>, t: ActionId) -> Option<Option<Content>>
     requires { is_ascending (writers versions.old.items) ≡ true }
-    ensures content { option_map plain_option result
-        ≡ version_of t (versions_newest_first versions.old.items) }
-    ensures versions { versions_newest_first versions.new.items
-        ≡ without_version t (versions_newest_first versions.old.items) }
-    ensures room { vec_capacity versions.old - vec_len versions.old
-        ≤ vec_capacity versions.new - vec_len versions.new }
+    ensures content { option_map plain_option result ≡ version_of t (stack_of versions.old) }
+    ensures versions { stack_of versions.new ≡ without_version t (stack_of versions.old) }
+    ensures room { spare_room versions.old ≤ spare_room versions.new }
 {
     match versions.binary_search_by_key(&t.0, |version| version.holder.0) {
         Ok(at) => Some(versions.remove(at).content),
@@ -158,12 +154,9 @@ pub(crate) fn take_version(
     t: ActionId,
 ) -> Option<Option<Content>>
     requires { is_ascending (writers versions.old.items) ≡ true }
-    ensures content { option_map plain_option result
-        ≡ version_of t (versions_newest_first versions.old.items) }
-    ensures versions { versions_newest_first versions.new.items
-        ≡ without_version t (versions_newest_first versions.old.items) }
-    ensures room { vec_capacity versions.old - vec_len versions.old
-        ≤ vec_capacity versions.new - vec_len versions.new }
+    ensures content { option_map plain_option result ≡ version_of t (stack_of versions.old) }
+    ensures versions { stack_of versions.new ≡ without_version t (stack_of versions.old) }
+    ensures room { spare_room versions.old ≤ spare_room versions.new }
 {
     let held = versions.len();
     if held > 0 && versions[held - 1].holder.0 == t.0 {
@@ -184,11 +177,9 @@ pub(crate) fn settle_version(
 )
     requires { is_ascending (writers versions.old.items) ≡ true }
     ensures base { plain_option base.new ≡ unwrap_or
-        (version_of t (versions_newest_first versions.old.items)) (plain_option base.old) }
-    ensures versions { versions_newest_first versions.new.items
-        ≡ without_version t (versions_newest_first versions.old.items) }
-    ensures room { vec_capacity versions.old - vec_len versions.old
-        ≤ vec_capacity versions.new - vec_len versions.new }
+        (version_of t (stack_of versions.old)) (plain_option base.old) }
+    ensures versions { stack_of versions.new ≡ without_version t (stack_of versions.old) }
+    ensures room { spare_room versions.old ≤ spare_room versions.new }
 {
     if let Some(content) = take_version(versions, t) {
         *base = content;
@@ -196,10 +187,8 @@ pub(crate) fn settle_version(
 }
 
 fn drop_version(versions: &mut Vec<Version, Room>, a: ActionId)
-    ensures versions { versions_newest_first versions.new.items ≡ without_version a
-        (versions_newest_first versions.old.items) }
-    ensures room { vec_capacity versions.old - vec_len versions.old
-        ≤ vec_capacity versions.new - vec_len versions.new }
+    ensures versions { stack_of versions.new ≡ without_version a (stack_of versions.old) }
+    ensures room { spare_room versions.old ≤ spare_room versions.new }
 {
     versions.retain(|version| version.holder != a);
 }
@@ -218,10 +207,8 @@ fn inherit_holder(versions: &mut [Version], s: ActionId, parent: ActionId)
 
 // Looks for the version of `s`, and makes it, if there is one, the parent's only one.
 fn hand_over(versions: &mut Vec<Version, Room>, s: ActionId, parent: ActionId)
-    ensures versions { versions_newest_first versions.new.items ≡ versions_inherited s parent
-        (versions_newest_first versions.old.items) }
-    ensures room { vec_capacity versions.old - vec_len versions.old
-        ≤ vec_capacity versions.new - vec_len versions.new }
+    ensures versions { stack_of versions.new ≡ versions_inherited s parent (stack_of versions.old) }
+    ensures room { spare_room versions.old ≤ spare_room versions.new }
 {
     if has_version(versions.as_slice(), s) {
         drop_version(versions, parent);
@@ -245,10 +232,8 @@ fn is_past_older(versions: &[Version], parent: ActionId) -> bool
 #[inline(always)]
 pub(crate) fn inherit_version(versions: &mut Vec<Version, Room>, s: ActionId, parent: ActionId)
     requires { is_ascending (writers versions.old.items) ≡ true }
-    ensures versions { versions_newest_first versions.new.items ≡ versions_inherited s parent
-        (versions_newest_first versions.old.items) }
-    ensures room { vec_capacity versions.old - vec_len versions.old
-        ≤ vec_capacity versions.new - vec_len versions.new }
+    ensures versions { stack_of versions.new ≡ versions_inherited s parent (stack_of versions.old) }
+    ensures room { spare_room versions.old ≤ spare_room versions.new }
 {
     let held = versions.len();
     if held > 0

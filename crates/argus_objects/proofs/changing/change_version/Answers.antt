@@ -1,26 +1,15 @@
 -- The newest version is changed in place, or a changed copy of what is on top is pushed.
-use Rattle.std.{proofs.Common.{◌≡◌, ◌-◌, set, true, ltb, ◌∙◌, refl, ap, arith}, specs.Prelude.{IfOk, OnErr, OnOk}}
-use Rattle.std.specs.List.{list_all}
-use Rattle.argus_actions.specs.declared.action_id.ActionId.{ActionId}
+use Rattle.std.proofs.Common.{◌≡◌, ◌-◌, ◌∙◌, refl, ap, arith}
 use Rattle.argus_contents.specs.{Answer.plain_answer, Content.plain_option, Change.plain_change}
-use Rattle.argus_objects.specs.{declared.version.Version.Version, Object.{versions_newest_first, holders}}
-use Rattle.argus_objects.{specs.CellChanges.{changed_top, newest_content, with_version}, proofs.Stacks.all_lower}
+use Rattle.argus_objects.specs.{declared.version.Version.Version, Object.versions_newest_first}
+use Rattle.argus_objects.{specs.CellChanges.newest_content, proofs.Stacks.all_lower}
 use Rattle.argus_objects.proofs.{Stacks.none_lower, Changes.{changed_copy, changed_in_place}}
 use Rattle.argus_objects.proofs.changing.change_version.Goals.{else-held-gt0-via-then-held-gt0+else-index-a}
 use Rattle.argus_objects.proofs.changing.change_version.Goals.{else-held-gt0-via-else-held-gt0}
 use Rattle.argus_objects.proofs.changing.change_version.Goals as goal
 
--- the version of the action, changed in place, or as it was
-in_place : (c : goal.After-versions-1)
-    → let vs = c.args.versions.now.items in
-    let new : Version = record { holder = c.index_mut.result.now.holder; content = c.alter_in_place.new.content } in
-    let after = versions_newest_first (set vs (c.len-held.result - 1) new) in
-    let changed = changed_top (plain_change c.args.change.now) (plain_option c.args.base.now)
-    (versions_newest_first vs) in
-    OnOk c.alter_in_place.result (after ≡ with_version c.args.a changed.0 (versions_newest_first vs))
-    × IfOk c.alter_in_place.result (λ answer. plain_answer answer ≡ changed.1)
-    × OnErr c.alter_in_place.result (after ≡ versions_newest_first vs)
-in_place c =
+pub returns-then-index-a-clause-changed : goal.returns-then-index-a-clause-changed
+returns-then-index-a-clause-changed c =
     let old : Version = c.index_mut.result.now in
     let new : Version = record { holder = old.holder; content = c.alter_in_place.new.content } in
     changed_in_place plain_answer (plain_change c.args.change.now) (plain_option c.args.base.now) c.args.a
@@ -29,30 +18,19 @@ in_place c =
     c.if-index-a.true c.index_mut.ensures.value refl c.alter_in_place.result c.alter_in_place.ensures.ok
     c.alter_in_place.ensures.err
 
-pub returns-then-index-a-clause-versions : goal.returns-then-index-a-clause-versions
-returns-then-index-a-clause-versions c = (in_place c).0
-
-pub returns-then-index-a-clause-answer : goal.returns-then-index-a-clause-answer
-returns-then-index-a-clause-answer c = (in_place c).1
-
-pub returns-then-index-a-clause-err : goal.returns-then-index-a-clause-err
-returns-then-index-a-clause-err c = (in_place c).2
-
-pub returns-clause-versions : goal.returns-clause-versions
-returns-clause-versions c =
+pub returns-clause-changed : goal.returns-clause-changed
+returns-clause-changed c =
     let vs = c.args.versions.now.items in
     let base = plain_option c.args.base.now in
-    let low : list_all (λ (x : ActionId). ltb x.0 c.args.a.0) (holders (versions_newest_first vs)) ≡ true =
-    elim c.else-held-gt0.branch [
-      | else-held-gt0-via-then-held-gt0+else-index-a w ↦
-          all_lower c.args.a vs (c.len-held.result - 1) w.index.result.now (omega arith)
-          c.requires.ascending c.requires.newest
-          (λ e. w.if-index-a.false (ap (λ (v : Version). v.holder.0) w.index.ensures ∙ e))
-      | else-held-gt0-via-else-held-gt0 w ↦ none_lower c.args.a vs (omega arith)
-    ] in
     let v : Version = record { holder = c.args.a; content = c.in_ok-content.content } in
     let seen : plain_option c.content_on_top.result.now ≡ newest_content base (versions_newest_first vs) =
     c.content_on_top.ensures ∙ ap (λ ws. newest_content base (versions_newest_first ws)) c.as_slice.ensures.value in
-    changed_copy (plain_change c.args.change.now) base c.args.a vs c.push.new.self.items v
-    (plain_answer c.in_ok-content.answer)
-    (plain_option c.content_on_top.result.now) c.in_ok-push.ensures.items refl low c.in_ok-content.ensures.ok seen
+    changed_copy plain_answer (plain_change c.args.change.now) base c.args.a vs c.push.new.self.items v
+    c.in_ok-content.answer (plain_option c.content_on_top.result.now) c.in_ok-push.ensures.items refl
+    (elim c.else-held-gt0.branch [
+      | else-held-gt0-via-then-held-gt0+else-index-a w ↦
+          all_lower c.args.a vs (c.len-held.result - 1) w.index.result.now (omega arith) c.requires.ascending
+          c.requires.newest (λ e. w.if-index-a.false (ap (λ (v : Version). v.holder.0) w.index.ensures ∙ e))
+      | else-held-gt0-via-else-held-gt0 w ↦ none_lower c.args.a vs (omega arith)
+    ])
+    c.in_ok-content.ensures.ok seen

@@ -15,7 +15,7 @@ kept : (c : goal.After-change_version) → Kept c.args.tree.now c.self.inside.re
 kept c =
     kept_change (record { order = c.self.invariant; lawful = rw (← c.self.view_is) at c.requires.lawful }) _ _
     c.change_version.result c.args.a _ (rw (← c.self.view_is) at c.requires.granted) refl
-    c.change_version.ensures.versions c.change_version.ensures.err
+    c.change_version.ensures.changed.versions c.change_version.ensures.changed.err
 
 pub invariant_of-self : goal.invariant_of-self
 invariant_of-self c = (kept c).order

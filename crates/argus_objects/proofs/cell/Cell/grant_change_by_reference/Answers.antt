@@ -15,7 +15,7 @@ kept : (c : goal.After-change_version_by_reference) → Kept c.args.tree.now c.s
 kept c =
     kept_change (record { order = c.self.invariant; lawful = rw (← c.self.view_is) at c.requires.lawful }) _ _
     c.change_version_by_reference.result c.args.a _ (rw (← c.self.view_is) at c.requires.granted) refl
-    c.change_version_by_reference.ensures.versions c.change_version_by_reference.ensures.err
+    c.change_version_by_reference.ensures.changed.versions c.change_version_by_reference.ensures.changed.err
 
 pub invariant_of-self : goal.invariant_of-self
 invariant_of-self c = (kept c).order
