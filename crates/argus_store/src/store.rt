@@ -1,7 +1,7 @@
 //! `Store`: a guardian's log in a SQLite database.
 
 ghost use Rattle.std.specs.Prelude.{◌≡◌, ◌≢◌, ◌⊎◌, ◌≤◌, IfOk, IfSome, IsErr, IsSome, IsTrue, None};
-ghost use Rattle.std.specs.Prelude.{Ok, map, pos, false};
+ghost use Rattle.std.specs.Prelude.{Ok, OnErr, OnOk, map, pos, false};
 ghost use Rattle.sqlite.specs.{State.HasCleanDisk, Held.state, Files.file_state, View.IsClean};
 ghost use Rattle.sqlite.specs.{FileStore.view, WalFiles.image_at};
 ghost use Rattle.argus_store.specs.{Tables.no_schema, Journal.{Journal, new_journal, shown_batch}};
@@ -101,13 +101,18 @@ impl<S: Alter> Store<S> {
     }
 
     /// Where the log of this name ends, for the next append. `None`: the database's log has another
-    /// name.
+    /// name. The log stays as it is.
     pub fn end(&mut self, name: &str) -> Result<Option<End>, Error>
         ensures at { (j : Journal) → HasLog (state S.Store self.old) j
             → HasCleanDisk (state S.Store self.new)
             → IfOk result (λ end. IfSome end (EndsAt j name.now)) }
         ensures other { (j : Journal) → HasLog (state S.Store self.old) j
             → HasCleanDisk (state S.Store self.new) → result ≡ Ok None → j.name ≢ name.now }
+        ensures kept { (j : Journal) → HasLog (state S.Store self.old) j
+            → HasCleanDisk (state S.Store self.new) → OnOk result (HasLog (state S.Store self.new) j) }
+        ensures failed { (j : Journal) → HasLog (state S.Store self.old) j
+            → HasCleanDisk (state S.Store self.new) → IsTrue (state S.Store self.new).is_open
+            → OnErr result (HasLog (state S.Store self.new) j) }
     {
         let rows = self
             .conn
@@ -115,11 +120,17 @@ impl<S: Alter> Store<S> {
         end_in(rows.as_slice(), name)
     }
 
-    /// The batches in the order of their entries, each as its number, its lines and its sum.
+    /// The batches in the order of their entries, each as its number, its lines and its sum. The log
+    /// stays as it is.
     pub fn batches(&mut self) -> Result<Vec<Row>, Error>
-        ensures { (j : Journal) → HasLog (state S.Store self.old) j
+        ensures all { (j : Journal) → HasLog (state S.Store self.old) j
             → HasCleanDisk (state S.Store self.new)
             → IfOk result (λ rows. rows.items ≡ map shown_batch j.batches) }
+        ensures kept { (j : Journal) → HasLog (state S.Store self.old) j
+            → HasCleanDisk (state S.Store self.new) → OnOk result (HasLog (state S.Store self.new) j) }
+        ensures failed { (j : Journal) → HasLog (state S.Store self.old) j
+            → HasCleanDisk (state S.Store self.new) → IsTrue (state S.Store self.new).is_open
+            → OnErr result (HasLog (state S.Store self.new) j) }
     {
         self.conn
             .query_all("SELECT first, lines, sum FROM batch ORDER BY first", &[])
