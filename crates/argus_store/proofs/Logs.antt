@@ -8,6 +8,7 @@ use Rattle.sqlite.specs.Held.{Held, state}
 use Rattle.sqlite_keyed.proofs.ListLemmas.{all_weaker}
 use Rattle.argus_store.specs.{Tables.log_schema, Store.{HasLog, Leaves, LeavesEither}, Summing.after_line_byte}
 use Rattle.argus_store.specs.Journal.{Batch, Journal, ending_at, with_batch, HoldsRows, HoldsLog, AreBelow, AreRising}
+use Rattle.argus_store.specs.Journal.{first_of, number_of}
 use Rattle.argus_store.specs.{Appending.{Appends, IsElsewhere, IsSettled}, declared.end.End.End}
 use Rattle.argus_store.specs.End.{EndsAt, end_after}
 use Rattle.argus_store.proofs.Changes.{Place, place_of, place_before, moves, puts, counts}
@@ -17,7 +18,8 @@ all_last : {X : Type 0} (P : X → Type 0) (xs : List X) (x : X) → AllByRecurs
 all_last P [] x all h = (h, tt)
 all_last P (y ∷ ys) x all h = (all.0, all_last P ys x all.1 h)
 
-rising_last : (bs : List Batch) (b : Batch) → AreRising bs → AreBelow b.first bs → AreRising (bs ++ b ∷ [])
+rising_last : (bs : List Batch) (b : Batch) → AreRising first_of bs → AreBelow b.first bs
+    → AreRising first_of (bs ++ b ∷ [])
 rising_last [] b up below = (tt, tt)
 rising_last (c ∷ bs) b up below = (all_last _ bs b up.0 below.0, rising_last bs b up.1 below.1)
 
@@ -26,15 +28,16 @@ below_next bs first next more = all_weaker _ _ (λ b h. int_cmp_total.trans b.fi
 
 -- a batch at the log's end, which has an entry
 longer : (db : Trees) (j : Journal) (b : Batch) (next : ℤ) → b.first ≡ j.next → int_cmp b.first next ≡ Less
-    → AreRising j.batches → AreBelow j.next j.batches
+    → AreRising first_of j.batches → AreBelow j.next j.batches → AreRising number_of j.opening
     → HoldsRows db (with_batch j b next) → HoldsLog db (with_batch j b next)
-longer db j b next at more up below rows =
+longer db j b next at more up below lines rows =
     let under : AreBelow b.first j.batches = subst (λ n. AreBelow n j.batches) (sym at) below in
     record {
       rows = rows;
       rising = rising_last j.batches b up under;
       below = all_last _ j.batches b
           (below_next j.batches b.first next more under) more;
+      lines = lines;
     }
 
 module _ {S : Type 0} (g : Ghosts S) (old : Held S) (j : Journal) (name : List ℕ) (before : ℤ) (b : Batch) (next : ℤ)
@@ -55,7 +58,7 @@ module _ {S : Type 0} (g : Ghosts S) (old : Held S) (j : Journal) (name : List �
         one.0,
         ap (λ (d : Database). d.schema) it.is ∙ two.0,
         longer db.trees j b next at more was.holds.rising
-            was.holds.below rows,
+            was.holds.below was.holds.lines rows,
       )
 
   -- at `Ok`

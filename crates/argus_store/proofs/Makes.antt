@@ -179,7 +179,7 @@ makes start first second third fourth last name version sum counts has a b c d e
       objects = four.1;
     } in
     let all = begins fourth last name version sum counts.4 four.0 none e in
-    (all.0, record { rows = all.1; rising = tt; below = tt })
+    (all.0, record { rows = all.1; rising = tt; below = tt; lines = tt })
 
 -- the store whose transaction made them
 pub has_new_log : (last new : State) (j : Journal) → (last.now.schema ≡ log_schema) × HoldsLog last.now.trees j

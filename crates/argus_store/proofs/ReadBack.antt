@@ -1,8 +1,8 @@
--- What reading the batches shows: all of them, in the order of their entries. And reading leaves the log as it is.
-use Rattle.std.proofs.Common.{true, ◌≡◌, inl, inr, ℕ, List, [], ◌∷◌, map, refl, sym, ap, subst, ◌∙◌, Less, int_cmp}
-use Rattle.std.proofs.Common.{IsPermutation, IsTrue, Result, Ok, Err}
+-- What reading shows: all batches, and all lines of the opening, in order. And reading leaves the log as it is.
+use Rattle.std.proofs.Common.{true, ◌≡◌, inl, inr, ℕ, ℤ, List, [], ◌∷◌, map, refl, sym, ap, ap₂, subst, ◌∙◌, Less}
+use Rattle.std.proofs.Common.{int_cmp, IsPermutation, IsTrue, Result, Ok, Err}
 use Rattle.std.specs.{List.{flat_map}, Result.{OnOk, OnErr}}
-use Rattle.sqlite.specs.{declared.types.Value.TheVariants.{Null, Int}, Order.{Row, value_cmp}, Program.overlay}
+use Rattle.sqlite.specs.{declared.types.Value.TheVariants.{Null, Int}, Order.{Row, value_cmp}, Program.overlay, Term.Term}
 use Rattle.sqlite.specs.Query.{inner, end, IsAnswer, output, output_cmp, Output, matches_as, page}
 use Rattle.sqlite.specs.{Tree.{Trees, IsAscending}, Listing.understood, declared.error.Error.Error}
 use Rattle.sqlite.specs.State.{State, Shown, IsNotRun, FailsToQuery, IsUnchanged, IsRolledBack}
@@ -11,51 +11,68 @@ use Rattle.sqlite_sql.proofs.QueryLemmas.{output_cmp_total}
 use Rattle.sqlite_value.proofs.OrderLemmas.{value_cmp-Int, then-Equal}
 use Rattle.sqlite_keyed.proofs.{ListLemmas.{ascending-map, all_weaker}, SortLemmas.sorted_unique}
 use Rattle.argus_store.specs.Tables.{log_schema}
-use Rattle.argus_store.specs.Journal.{Batch, Journal, batch_row, shown_batch, shown_end, HoldsLog, AreRising}
+use Rattle.argus_store.specs.Journal.{Journal, batch_row, line_row, shown_batch, shown_line, shown_end, HoldsLog}
+use Rattle.argus_store.specs.Journal.{AreRising, first_of, number_of}
 use Rattle.argus_store.specs.Store.{HasLog}
 use Rattle.argus_store.proofs.{Changes.{one_or_none}, Logs.unchanged}
 use Rattle.argus_store.proofs.Statements.{end_text, end_query, end_is, end_plain, end_unlisted}
-use Rattle.argus_store.proofs.Statements.{read_text, read_query, read_is, read_plain, read_unlisted}
+use Rattle.argus_store.proofs.Statements.{ordered_query, read_text, read_terms, read_is, read_plain, read_unlisted}
+use Rattle.argus_store.proofs.Statements.{opening_text, opening_terms, opening_is, opening_plain, opening_unlisted}
 
--- what a batch is sorted by, and what it shows
-abbrev shown_output : Batch → Output
-shown_output b = (Int b.first ∷ [], shown_batch b)
+-- of a table whose rows are kept and shown like this, in the order of their numbers
+module _ {X : Type 0} (number : X → ℤ) (kept shown : X → Row) (tree : ℕ) (project : List Term)
+    (shows : (x : X) → output (ordered_query tree project) ([] ∷ kept x ∷ []) ≡ (Int (number x) ∷ [], shown x)) where
+  -- what a row is sorted by, and what it shows
+  abbrev shown_output : X → Output
+  shown_output x = (Int (number x) ∷ [], shown x)
 
-abbrev in_order : Output → Output → Type 0
-in_order x y = output_cmp read_query x y ≡ Less
+  abbrev in_order : Output → Output → Type 0
+  in_order x y = output_cmp (ordered_query tree project) x y ≡ Less
 
-outputs : (all : Trees) (bs : List Batch) → all 2 ≡ map batch_row bs
-    → map (output read_query) (matches_as Null all [] (inner 2 end) ([] ∷ [])) ≡ map shown_output bs
-outputs all bs holds = rw holds (go bs)
-  where
-    go : (bs : List Batch) → map (output read_query) (flat_map (λ (r : Row). ([] ∷ r ∷ []) ∷ []) (map batch_row bs))
-        ≡ map shown_output bs
-    go [] = refl
-    go (b ∷ bs) = ap (λ xs. shown_output b ∷ xs) (go bs)
+  outputs : (all : Trees) (xs : List X) → all tree ≡ map kept xs
+      → map (output (ordered_query tree project)) (matches_as Null all [] (inner tree end) ([] ∷ []))
+      ≡ map shown_output xs
+  outputs all xs holds = rw holds (go xs)
+    where
+      go : (xs : List X) → map (output (ordered_query tree project))
+          (flat_map (λ (r : Row). ([] ∷ r ∷ []) ∷ []) (map kept xs)) ≡ map shown_output xs
+      go [] = refl
+      go (x ∷ xs) = ap₂ (λ o os. o ∷ os) (shows x) (go xs)
 
-by_first : (b c : Batch) → int_cmp b.first c.first ≡ Less → in_order (shown_output b) (shown_output c)
-by_first b c h = then-Equal (value_cmp (Int b.first) (Int c.first)) ∙ value_cmp-Int b.first c.first ∙ h
+  by_number : (x y : X) → int_cmp (number x) (number y) ≡ Less → in_order (shown_output x) (shown_output y)
+  by_number x y h = then-Equal (value_cmp (Int (number x)) (Int (number y))) ∙ value_cmp-Int (number x) (number y) ∙ h
 
-ascending : (bs : List Batch) → AreRising bs → IsAscending (λ b c. in_order (shown_output b) (shown_output c)) bs
-ascending [] up = tt
-ascending (b ∷ bs) up = (all_weaker _ _ (by_first b) bs up.0, ascending bs up.1)
+  ascending : (xs : List X) → AreRising number xs → IsAscending (λ x y. in_order (shown_output x) (shown_output y)) xs
+  ascending [] up = tt
+  ascending (x ∷ xs) up = (all_weaker _ _ (by_number x) xs up.0, ascending xs up.1)
 
-shown_rows : (bs : List Batch) → map (λ (o : Output). o.1) (map shown_output bs) ≡ map shown_batch bs
-shown_rows [] = refl
-shown_rows (b ∷ bs) = ap (λ xs. shown_batch b ∷ xs) (shown_rows bs)
+  shown_rows : (xs : List X) → map (λ (o : Output). o.1) (map shown_output xs) ≡ map shown xs
+  shown_rows [] = refl
+  shown_rows (x ∷ xs) = ap (λ rows. shown x ∷ rows) (shown_rows xs)
 
+  answers : (all : Trees) (xs : List X) (rows : List Row) → all tree ≡ map kept xs → AreRising number xs
+      → IsAnswer (ordered_query tree project) all [] rows → rows ≡ map shown xs
+  answers all xs rows holds up a =
+      let query = ordered_query tree project in
+      let kept : a.kept ≡ map shown_output xs = a.distinct ∙ ap (map (output query)) a.grouped ∙ outputs all xs holds in
+      let rises = ascending-map in_order shown_output xs (ascending xs up) in
+      let ordered = sorted_unique (output_cmp query) (output_cmp_total query) (map shown_output xs)
+      a.ordered rises (subst (λ k. IsPermutation k a.ordered) kept a.same) a.sorted in
+      a.shown ∙ ap (λ os. page query [] (map (λ (o : Output). o.1) os)) ordered ∙ shown_rows xs
+
+-- the batches are read
 pub reads : (old new : State) (j : Journal) (rows : List Row) → old.now.schema ≡ log_schema → HoldsLog old.now.trees j
     → Shown read_text [] old new rows → rows ≡ map shown_batch j.batches
-reads old new j rows has holds h =
-    let all = overlay old.now.trees [] in
-    let a : IsAnswer read_query all [] rows = (reads_as read_text [] old new log_schema has _ read_is read_plain
-    read_unlisted rows h).answer Null in
-    let kept : a.kept ≡ map shown_output j.batches = a.distinct ∙ ap (map (output read_query)) a.grouped
-    ∙ outputs all j.batches holds.rows.batches in
-    let rises = ascending-map in_order shown_output j.batches (ascending j.batches holds.rising) in
-    let ordered = sorted_unique (output_cmp read_query) (output_cmp_total read_query) (map shown_output j.batches)
-    a.ordered rises (subst (λ k. IsPermutation k a.ordered) kept a.same) a.sorted in
-    a.shown ∙ ap (λ os. page read_query [] (map (λ (o : Output). o.1) os)) ordered ∙ shown_rows j.batches
+reads old new j rows has holds h = answers first_of batch_row shown_batch 2 read_terms (λ _. refl)
+    (overlay old.now.trees []) j.batches rows holds.rows.batches holds.rising
+    ((reads_as read_text [] old new log_schema has _ read_is read_plain read_unlisted rows h).answer Null)
+
+-- and the opening
+pub reads_opening : (old new : State) (j : Journal) (rows : List Row) → old.now.schema ≡ log_schema
+    → HoldsLog old.now.trees j → Shown opening_text [] old new rows → rows ≡ map shown_line j.opening
+reads_opening old new j rows has holds h = answers number_of line_row shown_line 1 opening_terms (λ _. refl)
+    (overlay old.now.trees []) j.opening rows holds.rows.opening holds.lines
+    ((reads_as opening_text [] old new log_schema has _ opening_is opening_plain opening_unlisted rows h).answer Null)
 
 -- and reading the log's end shows its row
 pub reads_end : (old new : State) (j : Journal) (rows : List Row) → old.now.schema ≡ log_schema

@@ -73,23 +73,31 @@ pub end_plain : IsPlain (understood log_schema end_text)
 unfolding understood everything
 end_plain = (refl, refl)
 
--- ---- the batches are read
+-- ---- these columns of a table's rows are read, in the order of its key
 
-abbrev pub read_text : List ℕ
-read_text = codes "SELECT first, lines, sum FROM batch ORDER BY first"
-
-abbrev pub read_query : Query
-read_query = record {
-  from = inner 2 end;
+abbrev pub ordered_query : ℕ → List Term → Query
+ordered_query tree project = record {
+  from = inner tree end;
   filter = [];
   group = None;
-  project = col 1 0 ∷ col 1 2 ∷ col 1 3 ∷ [];
+  project = project;
   distinct = false;
   collations = [];
   order = (col 1 0, record { collation = Binary; descending = false }) ∷ [];
   limit = lit (Int (negsuc 0));
   offset = lit (Int (pos 0));
 }
+
+-- ---- the batches are read
+
+abbrev pub read_text : List ℕ
+read_text = codes "SELECT first, lines, sum FROM batch ORDER BY first"
+
+abbrev pub read_terms : List Term
+read_terms = col 1 0 ∷ col 1 2 ∷ col 1 3 ∷ []
+
+abbrev pub read_query : Query
+read_query = ordered_query 2 read_terms
 
 abbrev pub read_program : Program
 read_program = record { lets = []; body = read_query }
@@ -106,3 +114,27 @@ read_unlisted = refl
 pub read_plain : IsPlain (understood log_schema read_text)
 unfolding understood everything
 read_plain = (refl, refl)
+
+-- ---- the opening is read
+
+abbrev pub opening_text : List ℕ
+opening_text = codes "SELECT line, text FROM opening ORDER BY line"
+
+abbrev pub opening_terms : List Term
+opening_terms = col 1 0 ∷ col 1 2 ∷ []
+
+abbrev pub opening_program : Program
+opening_program = record { lets = []; body = ordered_query 1 opening_terms }
+
+pub opening_is : command_of (understood log_schema opening_text)
+    ≡ Select opening_program (codes "line" ∷ codes "text" ∷ [])
+unfolding understood everything
+opening_is = refl
+
+pub opening_unlisted : reads_listing log_schema opening_text ≡ false
+unfolding understood everything
+opening_unlisted = refl
+
+pub opening_plain : IsPlain (understood log_schema opening_text)
+unfolding understood everything
+opening_plain = (refl, refl)

@@ -10,8 +10,13 @@ pub record Batch : Type 0 where
   pub lines : List ℕ
   pub sum : ℤ
 
+-- a line of the last checkpoint's opening, and its place there
+pub record OpeningLine : Type 0 where
+  pub number : ℤ
+  pub text : List ℕ
+
 -- All that a log has: the row of `log`, with the number of the next entry and the last sum; the batches, in
--- the order of their entries; and the rows of the tables `opening` and `object`.
+-- the order of their entries; the opening, in the order of its lines; and the rows of the table `object`.
 pub record Journal : Type 0 where
   pub name : List ℕ
   pub version : List ℕ
@@ -20,7 +25,7 @@ pub record Journal : Type 0 where
   pub next : ℤ
   pub sum : ℤ
   pub batches : List Batch
-  pub opening : List Row
+  pub opening : List OpeningLine
   pub objects : List Row
 
 -- a log that nothing was appended to
@@ -56,6 +61,13 @@ batch_row b = Int b.first ∷ Null ∷ Words b.lines ∷ Int b.sum ∷ []
 abbrev pub shown_batch : Batch → Row
 shown_batch b = Int b.first ∷ Words b.lines ∷ Int b.sum ∷ []
 
+-- the same of a line of the opening
+abbrev pub line_row : OpeningLine → Row
+line_row l = Int l.number ∷ Null ∷ Words l.text ∷ []
+
+abbrev pub shown_line : OpeningLine → Row
+shown_line l = Int l.number ∷ Words l.text ∷ []
+
 -- the row of `log`, as it is kept
 abbrev pub log_row : Journal → Row
 log_row j =
@@ -69,7 +81,7 @@ shown_end j = Words j.name ∷ Int j.next ∷ Int j.sum ∷ []
 -- the four tables have the log's rows and no others
 pub record HoldsRows (db : Trees) (j : Journal) : Type 0 where
   pub log : db 0 ≡ log_row j ∷ []
-  pub opening : db 1 ≡ j.opening
+  pub opening : db 1 ≡ map line_row j.opening
   pub batches : db 2 ≡ map batch_row j.batches
   pub objects : db 3 ≡ j.objects
 
@@ -77,14 +89,21 @@ pub record HoldsRows (db : Trees) (j : Journal) : Type 0 where
 abbrev pub AreBelow : ℤ → List Batch → Type 0
 AreBelow next = AllByRecursion (λ (b : Batch). int_cmp b.first next ≡ Less)
 
--- each batch begins above those before it, so there are no two with one beginning
-abbrev pub AreRising : List Batch → Type 0
-AreRising [] = ⊤
-AreRising (b ∷ bs) = AllByRecursion (λ (c : Batch). int_cmp b.first c.first ≡ Less) bs
-    × AreRising bs
+-- each has a number above those of the ones before it, so there are no two with one number
+abbrev pub AreRising : {X : Type 0} → (X → ℤ) → List X → Type 0
+AreRising number [] = ⊤
+AreRising number (x ∷ xs) = AllByRecursion (λ y. int_cmp (number x) (number y) ≡ Less) xs
+    × AreRising number xs
 
--- the database holds the log: its rows, and the batches in order before the next entry
+abbrev pub first_of : Batch → ℤ
+first_of b = b.first
+
+abbrev pub number_of : OpeningLine → ℤ
+number_of l = l.number
+
+-- the database holds the log: its rows, the batches in order before the next entry, and the opening's lines in order
 pub record HoldsLog (db : Trees) (j : Journal) : Type 0 where
   pub rows : HoldsRows db j
-  pub rising : AreRising j.batches
+  pub rising : AreRising first_of j.batches
   pub below : AreBelow j.next j.batches
+  pub lines : AreRising number_of j.opening

@@ -5,3 +5,4 @@ pub mod Appending
 pub mod Making
 pub mod Summing
 pub mod End
+pub mod Head

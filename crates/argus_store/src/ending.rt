@@ -1,27 +1,25 @@
-//! Reads a log's end from the row that shows it.
+//! Reads whose a log is, and where it ends, from the row that shows it.
 
-ghost use Rattle.std.specs.Prelude.{◌≡◌, ◌≢◌, ◌∷◌, [], IfOk, IfSome, None, Ok};
-ghost use Rattle.argus_store.specs.{Journal.{Journal, shown_end}, End.EndsAt};
+ghost use Rattle.std.specs.Prelude.{◌≡◌, ◌∷◌, [], IfOk, IsSomeAnd};
+ghost use Rattle.argus_store.specs.{Journal.{Journal, shown_end}, Head.IsHeadOf};
 
 use crate::end::End;
+use crate::head::Head;
 use sqlite::{Error, Row};
 
-/// Where the log of this name ends. `None`: it has another name.
-pub(crate) fn end_in(rows: &[Row], name: &str) -> Result<Option<End>, Error>
-    ensures at { (j : Journal) → rows.now ≡ shown_end j ∷ []
-        → IfOk result (λ end. IfSome end (EndsAt j name.now)) }
-    ensures other { (j : Journal) → rows.now ≡ shown_end j ∷ []
-        → result ≡ Ok None → j.name ≢ name.now }
+/// What the row of a log says.
+pub(crate) fn head_in(rows: &[Row]) -> Result<Option<Head>, Error>
+    ensures { (j : Journal) → rows.now ≡ shown_end j ∷ []
+        → IfOk result (λ found. IsSomeAnd found (IsHeadOf j)) }
 {
     let [row] = rows else {
         return Ok(None);
     };
-    let kept: String = row.get(0)?;
-    if kept.as_str() != name {
-        return Ok(None);
-    }
-    Ok(Some(End {
-        next: row.get(1)?,
-        sum: row.get(2)?,
+    Ok(Some(Head {
+        name: row.get(0)?,
+        end: End {
+            next: row.get(1)?,
+            sum: row.get(2)?,
+        },
     }))
 }

@@ -5,10 +5,12 @@
 mod appending;
 mod end;
 mod ending;
+mod head;
 mod making;
 mod store;
 mod summing;
 
 pub use end::End;
+pub use head::Head;
 pub use store::Store;
 pub use summing::log_sum;

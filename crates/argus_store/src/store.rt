@@ -1,15 +1,17 @@
 //! `Store`: a guardian's log in a SQLite database.
 
-ghost use Rattle.std.specs.Prelude.{◌≡◌, ◌≢◌, ◌⊎◌, ◌≤◌, IfOk, IfSome, IsErr, IsSome, IsTrue, None};
+ghost use Rattle.std.specs.Prelude.{◌≡◌, ◌≢◌, ◌⊎◌, ◌≤◌, IfOk, IfSome, IsErr, IsSome, IsSomeAnd, IsTrue, None};
 ghost use Rattle.std.specs.Prelude.{Ok, OnErr, OnOk, map, pos, false};
 ghost use Rattle.sqlite.specs.{State.HasCleanDisk, Held.state, Files.file_state, View.IsClean};
 ghost use Rattle.sqlite.specs.{FileStore.view, WalFiles.image_at};
-ghost use Rattle.argus_store.specs.{Tables.no_schema, Journal.{Journal, new_journal, shown_batch}};
+ghost use Rattle.argus_store.specs.{Tables.no_schema, Journal.{Journal, new_journal}};
+ghost use Rattle.argus_store.specs.{Journal.{shown_batch, shown_line}, Head.IsHeadOf};
 ghost use Rattle.argus_store.specs.End.{EndsAt, end_after, end_of_new, with_lines};
 ghost use Rattle.argus_store.specs.Store.{HasLog, Leaves, LeavesEither, FilesHold, Keeps};
 
 use crate::end::End;
-use crate::ending::end_in;
+use crate::ending::head_in;
+use crate::head::Head;
 use crate::{appending, making};
 use sqlite::{Alter, Connection, Error, FileFrom, FileStore, Row, Start};
 use sqlite_disk::Disk;
@@ -100,6 +102,23 @@ impl<S: Alter> Store<S> {
         }
     }
 
+    /// Whose the log is, and where it ends. `None`: the database has no log. The log stays as it is.
+    pub fn head(&mut self) -> Result<Option<Head>, Error>
+        ensures found { (j : Journal) → HasLog (state S.Store self.old) j
+            → HasCleanDisk (state S.Store self.new)
+            → IfOk result (λ found. IsSomeAnd found (IsHeadOf j)) }
+        ensures kept { (j : Journal) → HasLog (state S.Store self.old) j
+            → HasCleanDisk (state S.Store self.new) → OnOk result (HasLog (state S.Store self.new) j) }
+        ensures failed { (j : Journal) → HasLog (state S.Store self.old) j
+            → HasCleanDisk (state S.Store self.new) → IsTrue (state S.Store self.new).is_open
+            → OnErr result (HasLog (state S.Store self.new) j) }
+    {
+        let rows = self
+            .conn
+            .query_all("SELECT name, next_entry, sum FROM log", &[])?;
+        head_in(rows.as_slice())
+    }
+
     /// Where the log of this name ends, for the next append. `None`: the database's log has another
     /// name. The log stays as it is.
     pub fn end(&mut self, name: &str) -> Result<Option<End>, Error>
@@ -114,10 +133,29 @@ impl<S: Alter> Store<S> {
             → HasCleanDisk (state S.Store self.new) → IsTrue (state S.Store self.new).is_open
             → OnErr result (HasLog (state S.Store self.new) j) }
     {
-        let rows = self
-            .conn
-            .query_all("SELECT name, next_entry, sum FROM log", &[])?;
-        end_in(rows.as_slice(), name)
+        let Some(head) = self.head()? else {
+            return Ok(None);
+        };
+        if head.name.as_str() != name {
+            return Ok(None);
+        }
+        Ok(Some(head.end))
+    }
+
+    /// The lines of the last checkpoint, in order, each as its number and its text. There are none
+    /// before the first checkpoint. The log stays as it is.
+    pub fn opening(&mut self) -> Result<Vec<Row>, Error>
+        ensures all { (j : Journal) → HasLog (state S.Store self.old) j
+            → HasCleanDisk (state S.Store self.new)
+            → IfOk result (λ rows. rows.items ≡ map shown_line j.opening) }
+        ensures kept { (j : Journal) → HasLog (state S.Store self.old) j
+            → HasCleanDisk (state S.Store self.new) → OnOk result (HasLog (state S.Store self.new) j) }
+        ensures failed { (j : Journal) → HasLog (state S.Store self.old) j
+            → HasCleanDisk (state S.Store self.new) → IsTrue (state S.Store self.new).is_open
+            → OnErr result (HasLog (state S.Store self.new) j) }
+    {
+        self.conn
+            .query_all("SELECT line, text FROM opening ORDER BY line", &[])
     }
 
     /// The batches in the order of their entries, each as its number, its lines and its sum. The log

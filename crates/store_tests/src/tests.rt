@@ -33,14 +33,35 @@ fn fill<S: Alter>(store: &mut Store<S>) -> Result<bool, Error> {
     Ok(end.sum == 0xf401_020e && is_done && has_both(store.batches()?.as_slice())?)
 }
 
-// Whether the log ends there, and no other log does.
+// Whether the log ends there, under its name, and no other log does.
 fn ends_at<S: Alter>(store: &mut Store<S>, end: Option<End>) -> Result<bool, Error> {
-    Ok(store.end(NAME)? == end && store.end("4567")?.is_none())
+    let is_named = match store.head()? {
+        Some(head) => head.name.as_str() == NAME && Some(head.end) == end,
+        None => false,
+    };
+    Ok(is_named && store.end(NAME)? == end && store.end("4567")?.is_none())
 }
 
 fn has_both(rows: &[Row]) -> Result<bool, Error> {
     match rows {
         [begin, rest] => Ok(has(begin, BEGIN)? && has(rest, REST)?),
+        _ => Ok(false),
+    }
+}
+
+// The lines of an opening, put in out of their order.
+fn put_opening(rt: &HostRuntime, path: &str) -> Result<usize, Error> {
+    let text = "INSERT INTO opening VALUES (1, 'opening o0 atomic_array[int] 0[]'), \
+        (0, 'opening entries 0 actions 0')";
+    Connection::open(rt, path)?.execute(text, &[])
+}
+
+fn has_opening(rows: &[Row]) -> Result<bool, Error> {
+    match rows {
+        [entries, object] => Ok(
+            has(entries, "opening entries 0 actions 0")?
+                && has(object, "opening o0 atomic_array[int] 0[]")?,
+        ),
         _ => Ok(false),
     }
 }
@@ -70,7 +91,8 @@ fn open(rt: &HostRuntime, path: &str) -> Result<bool, Error> {
 
 // The store, if it has both.
 fn kept<S: Alter + Drop>(mut store: Store<S>) -> Result<Option<Store<S>>, Error> {
-    let is_same = has_both(store.batches()?.as_slice())?;
+    let is_same = has_both(store.batches()?.as_slice())?
+        && has_opening(store.opening()?.as_slice())?;
     Ok(if is_same { Some(store) } else { None })
 }
 
@@ -78,6 +100,7 @@ fn kept<S: Alter + Drop>(mut store: Store<S>) -> Result<Option<Store<S>>, Error>
 fn over_a_file(rt: HostRuntime) -> Result<(), Fail> {
     let _ = fs::remove_file(&rt, "argus_store_test.db");
     assert!(rt; make(&rt, "argus_store_test.db")?);
+    assert!(rt; put_opening(&rt, "argus_store_test.db")? == 2);
     assert!(rt; open(&rt, "argus_store_test.db")?);
     fs::remove_file(&rt, "argus_store_test.db")?;
     Ok(())

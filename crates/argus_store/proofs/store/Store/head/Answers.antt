@@ -4,29 +4,22 @@ use Rattle.sqlite.specs.Held.{state}
 use Rattle.argus_store.specs.Journal.{shown_end}
 use Rattle.argus_store.proofs.ReadBack.{reads_end, kept_by_reading, kept_at_fault, at_ok, at_fault}
 use Rattle.argus_store.proofs.Statements.{end_text, end_plain}
-use Rattle.argus_store.proofs.store.Store.end.Goals as goal
+use Rattle.argus_store.proofs.store.Store.head.Goals as goal
 
-pub returns-clause-at : goal.returns-clause-at
-returns-clause-at g c j was clean =
+pub returns-clause-found : goal.returns-clause-found
+returns-clause-found g c j was clean =
     let rows : c.in_ok-rows.rows.items ≡ shown_end j ∷ [] = reads_end (state g.S.Store c.args.self.now)
     (state g.S.Store c.query_all.new.self) j c.in_ok-rows.rows.items was.schema was.holds
     (rw c.self.view_is at (c.in_ok-rows.ensures.ok clean)) in
-    c.end_in.ensures.at j (c.as_slice.ensures.value ∙ rows)
-
-pub returns-clause-other : goal.returns-clause-other
-returns-clause-other g c j was clean =
-    let rows : c.in_ok-rows.rows.items ≡ shown_end j ∷ [] = reads_end (state g.S.Store c.args.self.now)
-    (state g.S.Store c.query_all.new.self) j c.in_ok-rows.rows.items was.schema was.holds
-    (rw c.self.view_is at (c.in_ok-rows.ensures.ok clean)) in
-    c.end_in.ensures.other j (c.as_slice.ensures.value ∙ rows)
+    c.head_in.ensures j (c.as_slice.ensures.value ∙ rows)
 
 pub returns-clause-kept : goal.returns-clause-kept
-returns-clause-kept g c j was clean = at_ok c.end_in.result (kept_by_reading (state g.S.Store c.args.self.now)
+returns-clause-kept g c j was clean = at_ok c.head_in.result (kept_by_reading (state g.S.Store c.args.self.now)
     (state g.S.Store c.query_all.new.self) j was end_text end_plain c.in_ok-rows.rows.items
     (rw c.self.view_is at (c.in_ok-rows.ensures.ok clean)))
 
 pub returns-clause-failed : goal.returns-clause-failed
-returns-clause-failed g c j was clean is_open = at_fault c.end_in.result (kept_by_reading
+returns-clause-failed g c j was clean is_open = at_fault c.head_in.result (kept_by_reading
     (state g.S.Store c.args.self.now) (state g.S.Store c.query_all.new.self) j was end_text end_plain
     c.in_ok-rows.rows.items (rw c.self.view_is at (c.in_ok-rows.ensures.ok clean)))
 
