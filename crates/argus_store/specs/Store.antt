@@ -1,7 +1,7 @@
 -- What a store shows, and what a crash leaves of it.
-use Rattle.std.specs.Prelude.{◌≡◌, ◌⊎◌, IsTrue, false}
+use Rattle.std.specs.{Prelude.{◌≡◌, ◌⊎◌, IsTrue, OnErr, OnOk, false}, declared.result.Result.Result}
 use Rattle.sqlite_disk.specs.declared.Disk.{Ghosts}
-use Rattle.sqlite.specs.{Recovery.Image, Tree.Trees, State.State, Held.Held, declared.FileStore.FileStore}
+use Rattle.sqlite.specs.{Recovery.Image, Tree.Trees, State.{State, HasCleanDisk}, Held.Held, declared.FileStore.FileStore}
 use Rattle.sqlite.specs.Files.{file_state, HoldsDatabase}
 use Rattle.sqlite.specs.FileStore as store
 use Rattle.sqlite_catalog.specs.Listing.{IsSound}
@@ -14,6 +14,14 @@ pub record HasLog (s : State) (j : Journal) : Type 0 where
   pub schema : s.now.schema ≡ log_schema
   pub holds : HoldsLog s.now.trees j
   pub committed : s.committed ≡ s.now
+
+-- the log is as it was; and at an error it is, if the database is still open
+abbrev pub KeptAtOk : {T E : Type 0} → Result T E → State → State → Type 0
+KeptAtOk result old new = (j : Journal) → HasLog old j → HasCleanDisk new → OnOk result (HasLog new j)
+
+abbrev pub KeptAtError : {T E : Type 0} → Result T E → State → State → Type 0
+KeptAtError result old new = (j : Journal) → HasLog old j → HasCleanDisk new → IsTrue new.is_open
+    → OnErr result (HasLog new j)
 
 -- a crash leaves this log
 abbrev pub Leaves : State → Journal → Type 0

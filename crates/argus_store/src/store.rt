@@ -1,13 +1,14 @@
 //! `Store`: a guardian's log in a SQLite database.
 
 ghost use Rattle.std.specs.Prelude.{◌≡◌, ◌≢◌, ◌⊎◌, ◌≤◌, IfOk, IfSome, IsErr, IsSome, IsSomeAnd, IsTrue, None};
-ghost use Rattle.std.specs.Prelude.{Ok, OnErr, OnOk, map, pos, false};
+ghost use Rattle.std.specs.Prelude.{Ok, map, pos, false};
 ghost use Rattle.sqlite.specs.{State.HasCleanDisk, Held.state, Files.file_state, View.IsClean};
 ghost use Rattle.sqlite.specs.{FileStore.view, WalFiles.image_at};
 ghost use Rattle.argus_store.specs.{Tables.no_schema, Journal.{Journal, new_journal}};
 ghost use Rattle.argus_store.specs.{Journal.{shown_batch, shown_line}, Head.IsHeadOf};
 ghost use Rattle.argus_store.specs.End.{EndsAt, end_after, end_of_new, with_lines};
-ghost use Rattle.argus_store.specs.Store.{HasLog, Leaves, LeavesEither, FilesHold, Keeps};
+ghost use Rattle.argus_store.specs.Store.{HasLog, KeptAtError, KeptAtOk, Leaves, LeavesEither};
+ghost use Rattle.argus_store.specs.Store.{FilesHold, Keeps};
 
 use crate::end::End;
 use crate::ending::head_in;
@@ -107,11 +108,8 @@ impl<S: Alter> Store<S> {
         ensures found { (j : Journal) → HasLog (state S.Store self.old) j
             → HasCleanDisk (state S.Store self.new)
             → IfOk result (λ found. IsSomeAnd found (IsHeadOf j)) }
-        ensures kept { (j : Journal) → HasLog (state S.Store self.old) j
-            → HasCleanDisk (state S.Store self.new) → OnOk result (HasLog (state S.Store self.new) j) }
-        ensures failed { (j : Journal) → HasLog (state S.Store self.old) j
-            → HasCleanDisk (state S.Store self.new) → IsTrue (state S.Store self.new).is_open
-            → OnErr result (HasLog (state S.Store self.new) j) }
+        ensures kept { KeptAtOk result (state S.Store self.old) (state S.Store self.new) }
+        ensures failed { KeptAtError result (state S.Store self.old) (state S.Store self.new) }
     {
         let rows = self
             .conn
@@ -127,11 +125,8 @@ impl<S: Alter> Store<S> {
             → IfOk result (λ end. IfSome end (EndsAt j name.now)) }
         ensures other { (j : Journal) → HasLog (state S.Store self.old) j
             → HasCleanDisk (state S.Store self.new) → result ≡ Ok None → j.name ≢ name.now }
-        ensures kept { (j : Journal) → HasLog (state S.Store self.old) j
-            → HasCleanDisk (state S.Store self.new) → OnOk result (HasLog (state S.Store self.new) j) }
-        ensures failed { (j : Journal) → HasLog (state S.Store self.old) j
-            → HasCleanDisk (state S.Store self.new) → IsTrue (state S.Store self.new).is_open
-            → OnErr result (HasLog (state S.Store self.new) j) }
+        ensures kept { KeptAtOk result (state S.Store self.old) (state S.Store self.new) }
+        ensures failed { KeptAtError result (state S.Store self.old) (state S.Store self.new) }
     {
         let Some(head) = self.head()? else {
             return Ok(None);
@@ -148,11 +143,8 @@ impl<S: Alter> Store<S> {
         ensures all { (j : Journal) → HasLog (state S.Store self.old) j
             → HasCleanDisk (state S.Store self.new)
             → IfOk result (λ rows. rows.items ≡ map shown_line j.opening) }
-        ensures kept { (j : Journal) → HasLog (state S.Store self.old) j
-            → HasCleanDisk (state S.Store self.new) → OnOk result (HasLog (state S.Store self.new) j) }
-        ensures failed { (j : Journal) → HasLog (state S.Store self.old) j
-            → HasCleanDisk (state S.Store self.new) → IsTrue (state S.Store self.new).is_open
-            → OnErr result (HasLog (state S.Store self.new) j) }
+        ensures kept { KeptAtOk result (state S.Store self.old) (state S.Store self.new) }
+        ensures failed { KeptAtError result (state S.Store self.old) (state S.Store self.new) }
     {
         self.conn
             .query_all("SELECT line, text FROM opening ORDER BY line", &[])
@@ -164,11 +156,8 @@ impl<S: Alter> Store<S> {
         ensures all { (j : Journal) → HasLog (state S.Store self.old) j
             → HasCleanDisk (state S.Store self.new)
             → IfOk result (λ rows. rows.items ≡ map shown_batch j.batches) }
-        ensures kept { (j : Journal) → HasLog (state S.Store self.old) j
-            → HasCleanDisk (state S.Store self.new) → OnOk result (HasLog (state S.Store self.new) j) }
-        ensures failed { (j : Journal) → HasLog (state S.Store self.old) j
-            → HasCleanDisk (state S.Store self.new) → IsTrue (state S.Store self.new).is_open
-            → OnErr result (HasLog (state S.Store self.new) j) }
+        ensures kept { KeptAtOk result (state S.Store self.old) (state S.Store self.new) }
+        ensures failed { KeptAtError result (state S.Store self.old) (state S.Store self.new) }
     {
         self.conn
             .query_all("SELECT first, lines, sum FROM batch ORDER BY first", &[])
