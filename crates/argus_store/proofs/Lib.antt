@@ -5,3 +5,4 @@ pub mod ReadBack
 pub mod Makes
 pub mod Restarts
 pub mod Sums
+pub mod Chains

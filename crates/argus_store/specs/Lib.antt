@@ -6,3 +6,6 @@ pub mod Making
 pub mod Summing
 pub mod End
 pub mod Head
+pub mod Chain
+pub mod Listing
+pub mod RowLine

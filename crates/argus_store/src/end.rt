@@ -3,7 +3,7 @@
 ghost use Rattle.std.specs.Prelude.{◌≡◌, ◌≤◌, IfSome, None};
 ghost use Rattle.argus_store.specs.{Summing.entries_in, End.{end_after, end_of_new}};
 
-use crate::summing::log_sum;
+use crate::summing::{log_sum, sum_of};
 
 /// Where a log ends: the number of its next entry, and the sum of its last batch.
 #[derive(Clone, Copy, Debug, PartialEq, Eq)]
@@ -34,23 +34,32 @@ impl End {
             × (end.next ≤ 9223372036854775807)) }
         ensures none { result ≡ None → 9223372036854775808 ≤ (end_after name.now self lines.now).next }
     {
+        self.after_bytes(name, lines.as_bytes())
+    }
+
+    /// The same of lines that needn't be UTF-8.
+    pub(crate) fn after_bytes(self, name: &str, lines: &[u8]) -> Option<End>
+        ensures some { IfSome result (λ end. (end ≡ end_after name.now self lines.now)
+            × (end.next ≤ 9223372036854775807)) }
+        ensures none { result ≡ None → 9223372036854775808 ≤ (end_after name.now self lines.now).next }
+    {
         let next = self.next.checked_add(entries_in(lines))?;
         if next > i64::MAX as u64 {
             return None;
         }
         Some(End {
             next,
-            sum: log_sum(name, self.next, self.sum, lines),
+            sum: sum_of(name.as_bytes(), self.next, self.sum, lines),
         })
     }
 }
 
 // How many lines there are.
-fn entries_in(lines: &str) -> u64
+pub(crate) fn entries_in(lines: &[u8]) -> u64
     ensures { result ≡ entries_in lines.now }
 {
     let mut count = 1;
-    let mut bytes = lines.as_bytes();
+    let mut bytes = lines;
     while let [byte, more @ ..] = bytes {
         if *byte == b'\n' {
             count += 1;

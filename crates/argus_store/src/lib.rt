@@ -5,12 +5,21 @@
 mod appending;
 mod end;
 mod ending;
+mod faulty_row;
 mod head;
+mod listing;
+mod listing_error;
 mod making;
+mod row_line;
+mod rows;
 mod store;
 mod summing;
 
 pub use end::End;
+pub use faulty_row::{FaultyRow, RowFault, Table};
 pub use head::Head;
+pub use listing::listing_text;
+pub use listing_error::ListingError;
+pub use row_line::RowLine;
 pub use store::Store;
 pub use summing::log_sum;

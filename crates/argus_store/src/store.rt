@@ -65,6 +65,13 @@ impl<S: Alter> Store<S> {
         }
     }
 
+    /// A store over a database that was opened elsewhere, whatever is in it.
+    pub fn over(conn: Connection<S>) -> Store<S>
+        ensures { result ≡ conn }
+    {
+        Store { conn }
+    }
+
     /// Appends lines of a journal's entries to the log of this name, which ends there. `Some`: they
     /// are in the log, which ends there now, and each crash from now on leaves them there. `None`: the
     /// log has another name or another end, or its number would be too large, and nothing changed.

@@ -45,12 +45,19 @@ fn with_bytes(mut rest: u32, mut bytes: &[u8]) -> u32
 pub fn log_sum(name: &str, first: u64, before: u32, lines: &str) -> u32
     ensures { result ≡ log_sum name.now first before lines.now }
 {
+    sum_of(name.as_bytes(), first, before, lines.as_bytes())
+}
+
+/// The same of a name and lines that needn't be UTF-8.
+pub(crate) fn sum_of(name: &[u8], first: u64, before: u32, lines: &[u8]) -> u32
+    ensures { result ≡ log_sum name.now first before lines.now }
+{
     let mut digits = Buffer::new();
-    let mut rest = with_bytes(u32::MAX, name.as_bytes());
+    let mut rest = with_bytes(u32::MAX, name);
     rest = with_bytes(rest, b" ");
     rest = with_bytes(rest, digits.format(first).as_bytes());
     rest = with_bytes(rest, b" ");
     rest = with_bytes(rest, digits.format(before).as_bytes());
     rest = with_bytes(rest, b"\n");
-    with_bytes(rest, lines.as_bytes()) ^ u32::MAX
+    with_bytes(rest, lines) ^ u32::MAX
 }

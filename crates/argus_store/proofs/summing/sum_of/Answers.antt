@@ -1,7 +1,7 @@
 use Rattle.std.proofs.Common.{◌≡◌, fold, codes, decimal, ◌++◌, bit_xor, ap, ◌∙◌, rules}
 use Rattle.argus_store.specs.Summing.{after_byte}
 use Rattle.argus_store.proofs.Sums.{goes_on, in_a_row}
-use Rattle.argus_store.proofs.summing.log_sum.Goals as goal
+use Rattle.argus_store.proofs.summing.sum_of.Goals as goal
 
 pub returns : goal.returns
 returns c =
