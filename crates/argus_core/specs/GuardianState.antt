@@ -20,7 +20,7 @@ journal_view_of state = record {
 }
 
 -- the reply to the call is the one that follows from the journal, which grows by the call with it;
--- at want of memory the journal is as before
+-- or there was no memory, and the journal is as before
 pub record IsAnswered {E : Type 0} (old new : GuardianState) (call : PlainCall)
     (result : Result Reply E) : Type 0 where
   pub reply : IfOk result (λ reply. plain_reply reply ≡ reply_to (journal_view_of old) call)

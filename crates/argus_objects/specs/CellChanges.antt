@@ -71,8 +71,8 @@ newest_content base (v ∷ older) = v.content
 abbrev pub changed_top : PlainChange → Option PlainContent → List PlainVersion → Outcome
 changed_top change base versions = outcome change (newest_content base versions)
 
--- a has the version that the change makes of the newest content, and the answer is the change's; at
--- want of memory the versions are as before
+-- a has the version that the change makes of the newest content, and the answer is the change's; or
+-- there was no memory, and the versions are as before
 pub record IsChangedOnTop {A : Type 0} (says : A → PlainAnswer) (a : ActionId) (change : PlainChange)
     (base : Option PlainContent) (old new : List PlainVersion)
     (result : Result A OutOfMemory) : Type 0 where
