@@ -1,15 +1,17 @@
 -- What the loops over a log's rows keep, and how a line begins.
-use Rattle.std.proofs.Common.{◌≡◌, ◌↔◌, ◌++◌, ◌+◌, ℕ, ℤ, pos, List, [], ◌∷◌, map, flat_map, codes, IsTrue, true, false, refl, sym, ap, ap₂, subst}
-use Rattle.std.proofs.Common.{◌∙◌, append_assoc, append-nil, inl, inr, Bool, Option, Some, None, is_some}
+use Rattle.std.proofs.Common.{◌≡◌, ◌↔◌, ◌++◌, ◌+◌, ℕ, pos, List, [], ◌∷◌, map, flat_map, codes, IsTrue, false, refl}
+use Rattle.std.proofs.Common.{sym, ap, ap₂, subst, ◌∙◌, append_assoc, append-nil, inl, inr, Bool, Option, Some, None, is_some}
 use Rattle.std.specs.{Borrow.Bor, Option.MatchOption}
 use Rattle.std.proofs.lemmas.List.{append_cancel_left}
 use Rattle.sqlite.specs.Order.{Row}
 use Rattle.sqlite.specs.declared.types.Value.TheVariants.{Int}
-use Rattle.argus_store.specs.{declared.end.End.End, End.end_after, Journal.{Batch, OpeningLine, shown_batch, shown_line}}
+use Rattle.argus_store.specs.{declared.end.End.End, End.end_after}
+use Rattle.argus_store.specs.Journal.{Batch, OpeningLine, shown_batch, shown_line}
 use Rattle.argus_store.specs.declared.faulty_row.FaultyRow.{FaultyRow}
 use Rattle.argus_store.specs.declared.faulty_row.Table.TheVariants.{Opening}
 use Rattle.argus_store.specs.declared.faulty_row.RowFault.TheVariants.{Number}
-use Rattle.argus_store.specs.Chain.{AreInPlace, IsOutOfPlace, Follow, IsFirstWrong, IsNext, IsWrong, ended, faulty, joined, begins_after}
+use Rattle.argus_store.specs.Chain.{AreInPlace, IsOutOfPlace, Follow, IsFirstWrong, IsNext, IsWrong, ended, faulty, joined}
+use Rattle.argus_store.specs.Chain.{begins_after}
 use Rattle.argus_store.specs.{RowLine.{HaveLines, as_line}, Listing.HasNoListing, Summing.log_sum}
 use Rattle.argus_store.specs.declared.listing_error.ListingError.{ListingError}
 use Rattle.argus_store.specs.declared.listing_error.ListingError.TheVariants as error
@@ -184,7 +186,8 @@ pub record Lines (row : Row) (more : List Row) (ls : List OpeningLine) : Type 0 
   pub more_are : more ≡ map shown_line others
   pub all : first ∷ others ≡ ls
 
-pub some_lines : (row : Row) (more : List Row) (ls : List OpeningLine) → row ∷ more ≡ map shown_line ls → Lines row more ls
+pub some_lines : (row : Row) (more : List Row) (ls : List OpeningLine) → row ∷ more ≡ map shown_line ls
+    → Lines row more ls
 some_lines row more [] is = absurd (let e = is in cc)
 some_lines row more (l ∷ ls) is = record {
   first = l;
@@ -206,7 +209,8 @@ pub joined_ended : (l : OpeningLine) (ls : List OpeningLine) → joined (l ∷ l
 joined_ended l ls = append_assoc l.text (line_texts ls) (codes "\n")
     ∙ ap (λ t. l.text ++ t) (sym (shifted_feed ls)) ∙ sym (append_assoc l.text (codes "\n") (ended_texts ls))
 
-pub feed_ends : (row : Row) (more : List Row) (ls : List OpeningLine) (before after : List ℕ) → row ∷ more ≡ map shown_line ls
+pub feed_ends : (row : Row) (more : List Row) (ls : List OpeningLine) (before after : List ℕ)
+    → row ∷ more ≡ map shown_line ls
     → before ≡ joined ls → after ≡ before ++ codes "\n" → after ≡ ended_texts ls
 feed_ends row more [] before after is joins made = absurd (let e = is in cc)
 feed_ends row more (l ∷ ls) before after is joins made = made ∙ ap (λ t. t ++ codes "\n") joins ∙ joined_ended l ls

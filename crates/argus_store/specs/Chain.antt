@@ -73,9 +73,9 @@ IsOutOfPlace at (l ∷ ls) fault =
 abbrev pub IsWrong : List ℕ → End → Batch → FaultyRow → Type 0
 IsWrong name at b fault =
     ((b.first ≢ pos at.next) × (fault ≡ faulty OfBatch b.first Number))
-    ⊎ (((9223372036854775808 ≤ (end_after name at b.lines).next)
+    ⊎ ((b.first ≡ pos at.next) × (((9223372036854775808 ≤ (end_after name at b.lines).next)
     × (fault ≡ faulty OfBatch b.first TooLarge))
-    ⊎ ((b.sum ≢ pos (end_after name at b.lines).sum) × (fault ≡ faulty OfBatch b.first Sum)))
+    ⊎ ((b.sum ≢ pos (end_after name at b.lines).sum) × (fault ≡ faulty OfBatch b.first Sum))))
 
 -- of the batches behind this end, this is the first with which something is wrong
 abbrev pub IsFirstWrong : List ℕ → End → List Batch → FaultyRow → Type 0
@@ -83,11 +83,11 @@ IsFirstWrong name at [] fault = ⊥
 IsFirstWrong name at (b ∷ bs) fault = IsWrong name at b fault
     ⊎ (IsNext name at b × IsFirstWrong name (end_after name at b.lines) bs fault)
 
--- the log's row says that it ends there, and the last batch ends here: with another entry next, or another sum
+-- the log's row says that it ends there, and the last batch ends here: another entry comes next, or the sum is another
 abbrev pub IsOtherEnd : End → End → FaultyRow → Type 0
 IsOtherEnd said end fault =
     ((said.next ≢ end.next) × (fault ≡ faulty Log (pos 0) Number))
-    ⊎ ((said.sum ≢ end.sum) × (fault ≡ faulty Log (pos 0) Sum))
+    ⊎ ((said.next ≡ end.next) × (said.sum ≢ end.sum) × (fault ≡ faulty Log (pos 0) Sum))
 
 -- with which entry the batches begin, or the log ends if there are none; and the row that says so
 abbrev pub first_entry : Journal → List Batch → ℤ
@@ -111,7 +111,8 @@ pub record BreaksOff (j : Journal) (fault : FaultyRow) : Type 0 where
   pub begins : StandsBefore entry j.opening
   pub wrong : IsFirstWrong j.name (begins_after j.name j.opening entry) j.batches fault
       ⊎ ((said : End) × (end : End) × EndsAt j j.name said
-      × Follow j.name (begins_after j.name j.opening entry) j.batches end × IsOtherEnd said end fault)
+      × Follow j.name (begins_after j.name j.opening entry) j.batches end
+      × IsOtherEnd said end fault)
 
 -- the first row that doesn't follow: a line of the opening, the row that comes behind it, or one that comes later
 abbrev pub IsFirstFaulty : Journal → FaultyRow → Type 0

@@ -1,7 +1,7 @@
 -- What a listing is made of.
-use Rattle.std.specs.Prelude.{◌≡◌, ◌⊎◌, map, List}
+use Rattle.std.specs.Prelude.{◌≡◌, map, List}
 use Rattle.sqlite.specs.Order.{Row}
-use Rattle.argus_store.specs.{Journal.{Journal, shown_batch, shown_line}, Head.IsHeadOf, Chain.IsFirstFaulty}
+use Rattle.argus_store.specs.{Journal.{Journal, shown_batch, shown_line}, Head.IsHeadOf}
 use Rattle.argus_store.specs.{declared.head.Head.Head, declared.faulty_row.FaultyRow.FaultyRow}
 use Rattle.argus_store.specs.declared.listing_error.ListingError.{ListingError}
 use Rattle.argus_store.specs.declared.listing_error.ListingError.TheVariants as error

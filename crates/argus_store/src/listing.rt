@@ -1,6 +1,6 @@
 //! `listing_text`: the text of a log's listing, from rows that follow from one another.
 
-ghost use Rattle.std.specs.Prelude.{◌≡◌, ◌↔◌, ◌++◌, ◌+◌, ◌≤◌, ℕ, IfErr, IfOk, IsTrue, List, OnOk, map, length};
+ghost use Rattle.std.specs.Prelude.{◌≡◌, ◌↔◌, ◌++◌, ◌≤◌, ℕ, IfErr, IfOk, IsTrue, List, OnOk, map};
 ghost use Rattle.std.specs.Prelude.{codes, flat_map, decimal, pos, ◌≢◌, ◌∷◌, [], MatchOption};
 ghost use Rattle.argus_store.specs.declared.faulty_row.Table.TheVariants.{Batch as OfBatch, Opening};
 ghost use Rattle.argus_store.specs.declared.faulty_row.RowFault.TheVariants.{Number};
@@ -136,7 +136,8 @@ fn push_opening(text: &mut Vec<u8>, rows: &[Row]) -> Result<(), ListingError>
 fn push_first(text: &mut Vec<u8>, first: &Row, more: &[Row]) -> Result<(), ListingError>
     ensures pushed { (l : OpeningLine) (ls : List OpeningLine) → first.now ≡ shown_line l
         → more.now ≡ map shown_line ls
-        → OnOk result ((text.new.items ≡ text.old.items ++ joined (l ∷ ls)) × AreInPlace 0 (l ∷ ls)) }
+        → OnOk result ((text.new.items ≡ text.old.items ++ joined (l ∷ ls))
+        × AreInPlace 0 (l ∷ ls)) }
     ensures faulty { (l : OpeningLine) (ls : List OpeningLine) → first.now ≡ shown_line l
         → more.now ≡ map shown_line ls → IfErr result (HasNoListing (IsOutOfPlace 0 (l ∷ ls))) }
 {
@@ -150,7 +151,8 @@ fn push_first(text: &mut Vec<u8>, first: &Row, more: &[Row]) -> Result<(), Listi
 fn push_lines(text: &mut Vec<u8>, from: u64, rows: &[Row]) -> Result<(), ListingError>
     requires { from ≤ 1 }
     ensures pushed { (ls : List OpeningLine) → rows.now ≡ map shown_line ls
-        → OnOk result ((text.new.items ≡ text.old.items ++ flat_map (λ (l : OpeningLine). codes "\n" ++ l.text) ls)
+        → OnOk result ((text.new.items
+        ≡ text.old.items ++ flat_map (λ (l : OpeningLine). codes "\n" ++ l.text) ls)
         × AreInPlace from ls) }
     ensures faulty { (ls : List OpeningLine) → rows.now ≡ map shown_line ls
         → IfErr result (HasNoListing (IsOutOfPlace from ls)) }
@@ -170,7 +172,8 @@ fn push_lines(text: &mut Vec<u8>, from: u64, rows: &[Row]) -> Result<(), Listing
 
 fn push_next_line(text: &mut Vec<u8>, number: u64, row: &Row) -> Result<(), ListingError>
     ensures pushed { (l : OpeningLine) → row.now ≡ shown_line l
-        → OnOk result ((text.new.items ≡ text.old.items ++ (codes "\n" ++ l.text)) × (l.number ≡ pos number)) }
+        → OnOk result ((text.new.items ≡ text.old.items ++ (codes "\n" ++ l.text))
+        × (l.number ≡ pos number)) }
     ensures faulty { (l : OpeningLine) → row.now ≡ shown_line l
         → IfErr result (HasNoListing (λ fault. (l.number ≢ pos number)
         × (fault ≡ faulty Opening l.number Number))) }
@@ -233,7 +236,8 @@ fn entry_of(opening: &[Row], first: &Row) -> Result<u64, ListingError>
         → IfOk result (λ entry. StandsBefore entry ls) }
     ensures faulty { (ls : List OpeningLine) (b : Batch) → opening.now ≡ map shown_line ls
         → first.now ≡ shown_batch b
-        → IfErr result (HasNoListing (λ fault. ((entry : ℕ) → b.first ≡ pos entry → ¬ StandsBefore entry ls)
+        → IfErr result (HasNoListing (λ fault.
+        ((entry : ℕ) → b.first ≡ pos entry → ¬ StandsBefore entry ls)
         × (fault ≡ faulty OfBatch b.first Number))) }
 {
     match number_of(first) {
@@ -275,7 +279,8 @@ fn says_entry(line: &[u8], entry: u64) -> bool
 
 // Whether a text begins with a number and a blank.
 fn says_number(text: &[u8], entry: u64) -> bool
-    ensures { IsTrue result ↔ ((rest : List ℕ) × (text.now ≡ decimal entry ++ (codes " " ++ rest))) }
+    ensures { IsTrue result
+        ↔ ((rest : List ℕ) × (text.now ≡ decimal entry ++ (codes " " ++ rest))) }
 {
     let mut digits = Buffer::new();
     match behind(digits.format(entry).as_bytes(), text) {

@@ -5,7 +5,8 @@ ghost use Rattle.argus_store.specs.declared.faulty_row.Table.TheVariants.{Batch 
 ghost use Rattle.sqlite.specs.declared.types.Value.{Value};
 ghost use Rattle.sqlite.specs.declared.types.Value.TheVariants.{Text as Words};
 ghost use Rattle.argus_store.specs.Journal.{Batch, Journal, OpeningLine, shown_batch, shown_line};
-ghost use Rattle.argus_store.specs.{RowLine.{HaveLines, among, as_line, place, place_in}, Summing.entries_in};
+ghost use Rattle.argus_store.specs.RowLine.{HaveLines, among, as_line, place, place_in};
+ghost use Rattle.argus_store.specs.{Summing.entries_in};
 
 use crate::end::entries_in;
 use crate::faulty_row::Table;

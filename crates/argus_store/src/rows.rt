@@ -1,6 +1,7 @@
 //! What the rows that a store shows have in their columns.
 
-ghost use Rattle.std.specs.Prelude.{◌≡◌, ◌∷◌, ◌↔◌, ℕ, ℤ, pos, option_map, IsTrue, List, MatchOption, Some, []};
+ghost use Rattle.std.specs.Prelude.{◌≡◌, ◌∷◌, ◌↔◌, ℕ, ℤ, pos, option_map, List, [], Some};
+ghost use Rattle.std.specs.Prelude.{IsTrue, MatchOption};
 ghost use Rattle.sqlite.specs.declared.types.Value.{Value};
 ghost use Rattle.sqlite.specs.declared.types.Value.TheVariants.{Int, Text as Words};
 
@@ -55,7 +56,8 @@ pub(crate) fn text_of(row: &Row) -> Option<&[u8]>
 
 /// Whether this sum is in the row's third column.
 pub(crate) fn has_sum(row: &Row, sum: u32) -> bool
-    ensures { (key text : Value) (z : ℤ) (more : List Value) → row.now ≡ key ∷ (text ∷ (Int z ∷ more))
+    ensures { (key text : Value) (z : ℤ) (more : List Value)
+        → row.now ≡ key ∷ (text ∷ (Int z ∷ more))
         → IsTrue result ↔ (z ≡ pos sum) }
 {
     if let Ok(ValueRef::Int(found)) = row.get_ref(2) {

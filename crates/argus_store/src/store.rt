@@ -1,7 +1,7 @@
 //! `Store`: a guardian's log in a SQLite database.
 
-ghost use Rattle.std.specs.Prelude.{◌≡◌, ◌≢◌, ◌⊎◌, ◌≤◌, IfOk, IfSome, IsErr, IsSome, IsSomeAnd, IsTrue, None};
-ghost use Rattle.std.specs.Prelude.{Ok, map, pos, false};
+ghost use Rattle.std.specs.Prelude.{◌≡◌, ◌≢◌, ◌⊎◌, ◌≤◌, IfOk, IfSome, IsErr, IsSome, IsTrue, None};
+ghost use Rattle.std.specs.Prelude.{IsSomeAnd, Ok, map, pos, false};
 ghost use Rattle.sqlite.specs.{State.HasCleanDisk, Held.state, Files.file_state, View.IsClean};
 ghost use Rattle.sqlite.specs.{FileStore.view, WalFiles.image_at};
 ghost use Rattle.argus_store.specs.{Tables.no_schema, Journal.{Journal, new_journal}};

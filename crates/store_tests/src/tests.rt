@@ -1,9 +1,10 @@
 //! Each public function of argus_store on its happy path, over a file. What works on a store does it
 //! whatever the store is on: a proof for the whole type of one on a file takes ten times as long.
 
-use argus_store::{End, Store};
+use argus_store::{End, FaultyRow, ListingError, RowFault, RowLine, Store, Table, listing_text};
 use sqlite::{Alter, Connection, Error, FileStore, Row, Unknown};
 use sqlite_disk::Disk;
+use std::alloc::Global;
 use std::fs;
 use std::test::Fail;
 
@@ -40,6 +41,39 @@ fn ends_at<S: Alter>(store: &mut Store<S>, end: Option<End>) -> Result<bool, Err
         None => false,
     };
     Ok(is_named && store.end(NAME)? == end && store.end("4567")?.is_none())
+}
+
+// The text of the log's listing; or why it has none.
+fn text_of<S: Alter>(
+    alloc: Global,
+    store: &mut Store<S>,
+) -> Result<Result<Vec<u8>, ListingError>, Error> {
+    let Some(head) = store.head()? else {
+        return Ok(Err(ListingError::OutOfMemory));
+    };
+    let (opening, batches) = (store.opening()?, store.batches()?);
+    Ok(listing_text(alloc, &head, opening.as_slice(), batches.as_slice()))
+}
+
+// Whether both batches are listed, and the last line is found in its row.
+fn is_listed<S: Alter>(alloc: Global, store: &mut Store<S>) -> Result<bool, Error> {
+    let wanted = b"0 begin_top -> a0\n1 commit a0 -> done\n2 begin_top -> a1\n";
+    let is_text = match text_of(alloc, store)? {
+        Ok(text) => text.as_slice() == wanted.as_slice(),
+        Err(_) => false,
+    };
+    let (table, row, line) = (Table::Batch, 1, 2);
+    let place = RowLine::of_listing(&[], store.batches()?.as_slice(), 3);
+    Ok(is_text && place == Some(RowLine { table, row, line }))
+}
+
+// Whether the first batch doesn't follow from an opening that was put in later.
+fn is_broken<S: Alter>(alloc: Global, store: &mut Store<S>) -> Result<bool, Error> {
+    let (table, row, fault) = (Table::Batch, 0, RowFault::Sum);
+    match text_of(alloc, store)? {
+        Ok(_) => Ok(false),
+        Err(error) => Ok(error == ListingError::Row(FaultyRow { table, row, fault })),
+    }
 }
 
 fn has_both(rows: &[Row]) -> Result<bool, Error> {
@@ -86,20 +120,30 @@ fn make(rt: &HostRuntime, path: &str) -> Result<bool, Error> {
 }
 
 fn open(rt: &HostRuntime, path: &str) -> Result<bool, Error> {
-    Ok(end(kept(Store::open(rt, path, Unknown)?)?))
+    Ok(end(kept(rt.alloc(), Store::open(rt, path, Unknown)?)?))
+}
+
+// Whether the log is listed before it has an opening.
+fn list(rt: &HostRuntime, path: &str) -> Result<bool, Error> {
+    is_listed(rt.alloc(), &mut Store::over(Connection::open(rt, path)?))
 }
 
 // The store, if it has both.
-fn kept<S: Alter + Drop>(mut store: Store<S>) -> Result<Option<Store<S>>, Error> {
-    let is_same = has_both(store.batches()?.as_slice())?
-        && has_opening(store.opening()?.as_slice())?;
-    Ok(if is_same { Some(store) } else { None })
+fn kept<S: Alter + Drop>(alloc: Global, mut store: Store<S>) -> Result<Option<Store<S>>, Error> {
+    let is_same = has_both(store.batches()?.as_slice())?;
+    let is_opened = has_opening(store.opening()?.as_slice())? && is_broken(alloc, &mut store)?;
+    Ok(if is_same && is_opened {
+        Some(store)
+    } else {
+        None
+    })
 }
 
 #[test]
 fn over_a_file(rt: HostRuntime) -> Result<(), Fail> {
     let _ = fs::remove_file(&rt, "argus_store_test.db");
     assert!(rt; make(&rt, "argus_store_test.db")?);
+    assert!(rt; list(&rt, "argus_store_test.db")?);
     assert!(rt; put_opening(&rt, "argus_store_test.db")? == 2);
     assert!(rt; open(&rt, "argus_store_test.db")?);
     fs::remove_file(&rt, "argus_store_test.db")?;

@@ -1,4 +1,4 @@
-use Rattle.std.proofs.Common.{◌≡◌, ◌∙◌, ap, subst, pos, rules, to_z, of_z, w64}
+use Rattle.std.proofs.Common.{◌≡◌, ◌∙◌, ap, subst, rules, to_z, of_z, w64}
 use Rattle.std.proofs.lemmas.Result.{IfErr-weaker}
 use Rattle.argus_store.specs.Chain.{StandsBefore, faulty}
 use Rattle.argus_store.specs.declared.faulty_row.Table.TheVariants.{Batch as OfBatch}

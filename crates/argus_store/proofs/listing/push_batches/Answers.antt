@@ -1,7 +1,6 @@
 -- A batch more, and a batch fewer that is left.
-use Rattle.std.proofs.Common.{◌≡◌, [], List, map, rules, subst}
-use Rattle.argus_store.specs.Journal.{Batch, shown_batch}
-use Rattle.argus_store.proofs.Chains.{BatchesLeft, NextBatch, next_batch, no_batch, weaker}
+use Rattle.std.proofs.Common.{◌≡◌, [], rules, subst}
+use Rattle.argus_store.proofs.Chains.{BatchesLeft, next_batch, no_batch, weaker}
 use Rattle.argus_store.proofs.listing.push_batches.Goals as goal
 
 pub returns-in-Err-clause-faulty : goal.returns-in-Err-clause-faulty

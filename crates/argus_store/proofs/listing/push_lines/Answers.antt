@@ -1,6 +1,6 @@
 -- A line more, and a line fewer that is left.
 use Rattle.std.proofs.Common.{ap, arith, length, subst}
-use Rattle.argus_store.proofs.Chains.{LinesLeft, NextLine, next_line, weaker}
+use Rattle.argus_store.proofs.Chains.{LinesLeft, next_line, weaker}
 use Rattle.argus_store.proofs.listing.push_lines.Goals as goal
 
 pub returns-in-Err-clause-faulty : goal.returns-in-Err-clause-faulty

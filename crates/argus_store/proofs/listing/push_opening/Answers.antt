@@ -1,6 +1,6 @@
 use Rattle.std.proofs.Common.{subst, sym, ◌∙◌, IfErr}
 use Rattle.argus_store.specs.{Chain.IsOutOfPlace, Listing.HasNoListing}
-use Rattle.argus_store.proofs.Chains.{Lines, some_lines}
+use Rattle.argus_store.proofs.Chains.{some_lines}
 use Rattle.argus_store.proofs.listing.push_opening.Goals as goal
 
 pub returns-in-Some-clause-faulty : goal.returns-in-Some-clause-faulty

@@ -7,5 +7,5 @@ returns-in-Some c = at_some (codes "opening entries ") c.args.line.now c.in-Some
     (λ rest. decimal c.args.entry ++ (codes " " ++ rest)) c.says_number.result c.in-Some.ensures c.says_number.ensures
 
 pub returns-in-None : goal.returns-in-None
-returns-in-None c = at_none (codes "opening entries ") c.args.line.now (λ rest. decimal c.args.entry ++ (codes " " ++ rest))
-    c.in-None.ensures
+returns-in-None c = at_none (codes "opening entries ") c.args.line.now
+    (λ rest. decimal c.args.entry ++ (codes " " ++ rest)) c.in-None.ensures

@@ -1,4 +1,4 @@
-use Rattle.std.proofs.Common.{◌≡◌, ◌∙◌, ap, sym, subst, map}
+use Rattle.std.proofs.Common.{◌∙◌, ap, sym, subst, map}
 use Rattle.argus_store.specs.RowLine.{HaveLines, as_line, place}
 use Rattle.argus_store.proofs.Chains.{batches_have}
 use Rattle.argus_store.proofs.row_line.line_in_batch.Goals as goal

@@ -1,4 +1,3 @@
-use Rattle.std.proofs.Common.{◌≡◌, ap, Some}
 use Rattle.std.proofs.lemmas.Bool.Decides.{Decides-eqb}
 use Rattle.argus_store.proofs.rows.has_number.Goals as goal
 

@@ -1,4 +1,4 @@
-use Rattle.std.proofs.Common.{◌≡◌, ◌∙◌, ap, sym, subst}
+use Rattle.std.proofs.Common.{◌∙◌, ap, sym, subst}
 use Rattle.argus_store.specs.RowLine.{HaveLines, or_in_batch}
 use Rattle.argus_store.proofs.Chains.{lines_have}
 use Rattle.argus_store.proofs.row_line.RowLine.of_listing.Goals as goal

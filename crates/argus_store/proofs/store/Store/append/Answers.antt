@@ -1,6 +1,6 @@
-use Rattle.std.proofs.{Common.{◌≡◌, pos, inl, subst, arith, w64}, lemmas.Int.to_z_pos}
+use Rattle.std.proofs.{Common.{pos, inl, subst, arith, w64}, lemmas.Int.to_z_pos}
 use Rattle.sqlite.specs.Held.{state}
-use Rattle.argus_store.specs.{declared.end.End.End, Journal.{Batch, a_batch, with_batch}, End.{EndsAt, with_lines}}
+use Rattle.argus_store.specs.{declared.end.End.End, Journal.{Batch, a_batch, with_batch}}
 use Rattle.argus_store.specs.Store.{HasLog, Leaves, LeavesEither}
 use Rattle.argus_store.proofs.Logs.{acknowledged, crashes, settled, elsewhere, ends_at, place_at, longer_by, goes_up}
 use Rattle.argus_store.proofs.store.Store.append.Goals.{then-branch, else-branch}

@@ -1,6 +1,7 @@
 use Rattle.std.proofs.lemmas.Result.{IfOk-weaker, IfErr-weaker}
 use Rattle.sqlite.specs.Held.{state}
-use Rattle.argus_store.proofs.{ReadBack.{reads_opening, kept_by_reading, kept_at_fault}, Statements.{opening_text, opening_plain}}
+use Rattle.argus_store.proofs.ReadBack.{reads_opening, kept_by_reading, kept_at_fault}
+use Rattle.argus_store.proofs.Statements.{opening_text, opening_plain}
 use Rattle.argus_store.proofs.store.Store.opening.Goals as goal
 
 pub returns-clause-all : goal.returns-clause-all
