@@ -115,6 +115,7 @@ of_files() {
     "$argus" --list journal < "$top/docs/first.argus" > journal
     tried 0 'o0 {5}' '' kept/replay journal
     tried 3 '' 'faulty: line 2: NotTheReply: done' kept/replay --list journal faulty
+    tried 5 '' 'database: NoFile' kept/replay --database nothing --list journal
     tried 0 '0 begin_top -> a0' 'faulty: line 2: NotTheReply: done' kept/replay faulty --prefix --list=journal
     tried 0 "$("$picture" --script "$top/docs/first.argus" < journal)" '' \
         kept/picture --script "$top/docs/first.argus" journal

@@ -294,7 +294,7 @@ start() {
     for word; do
         shift
         case $word in
-            --list | --patience | --script | --workers) takes_value=yes ;;
+            --database | --list | --patience | --script | --workers) takes_value=yes ;;
             --html)
                 if [ "$name$takes_value" = picture ]; then
                     html=yes

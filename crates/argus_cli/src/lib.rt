@@ -30,7 +30,7 @@ pub use faulty_line::FaultyLine;
 pub use listing::list;
 pub use replay_command_line::options_for_replay;
 pub use replay_error::ReplayError;
-pub use replay_options::ReplayOptions;
+pub use replay_options::{ReplayOptions, ReplayRequest};
 pub use replaying::replay;
 pub use run_options::Options;
 pub use running::run;

@@ -1,31 +1,38 @@
 //! `options_for_replay`: what the command line of a replay asks for.
 
-ghost use Rattle.std.specs.Prelude.{IfErr, IfOk, map, string_bytes, ◌≡◌, ◌⊎◌, codes, false};
+ghost use Rattle.std.specs.Prelude.{IfErr, IfOk, map, option_map, string_bytes, ◌≡◌, ◌⊎◌};
+ghost use Rattle.std.specs.Prelude.{codes, false};
 ghost use Rattle.argus_cli.specs.ReplayCommandLine.{AskNoReplay, AsksReplay, IsReplayRefused};
-ghost use Rattle.argus_cli.specs.{ReplayCommandLine.IsReplayProgram, CommandLine.flag_of};
+ghost use Rattle.argus_cli.specs.ReplayCommandLine.{IsReplayProgram, text_option_of};
+ghost use Rattle.argus_cli.specs.CommandLine.{flag_of};
 ghost use Rattle.argus_usage.specs.Usage.{EndsWith0Or2};
 ghost use Rattle.clap.specs.Words.{IsPlainArg, kind_of, rule_of};
 
 use crate::command_line::{list_option, listing_named};
-use crate::replay_options::ReplayOptions;
+use crate::replay_options::{ReplayOptions, ReplayRequest};
 use argus_usage::{NoOptions, new_command, usage, with_name};
 use clap::error::ErrorKind;
 use clap::{Arg, ArgAction, Command, Error};
 use std::alloc::{AllocError, Global};
 
 const ABOUT: &str = "Checks a journal's listing from standard input, as `argus --list journal` \
-    prints it: makes each call again, compares each reply, and lists the guardian that comes of it.";
+    prints it, or a log's in a database: makes each call again, compares each reply, and lists the \
+    guardian that comes of it.";
 
 const DETAILS: &str = "\
 The listing goes to standard output, with objects under their numbers. With --prefix the fault of
 a text goes to standard error, and the status is 0.
 
+With --database the listing is that of the log in this file and the WAL beside it. No process may
+write it meanwhile, and nothing is written. First the rows are compared: each number and each sum.
+
 Exit status:
   0  done
   2  a mistake in the command line
-  3  the text is no journal's listing: `line N: KIND` on standard error
+  3  the text is no journal's listing, or the file no log: on standard error `line N: KIND`,
+     `table TABLE, row N: KIND`, `table TABLE, row N, line N: KIND` or `database: KIND`
   4  out of memory
-  5  a read or a write failed";
+  5  a read or a write failed, or there is no such file";
 
 /// What the words after the program's name ask for. Without any, the bases are listed, and the text
 /// has to be a listing to its end.
@@ -33,6 +40,7 @@ Exit status:
 /// | Words | What they ask for |
 /// |---|---|
 /// | `--list bases`, `stacks`, `journal` or `audit` | this listing |
+/// | `--database FILE` | the log in this database is listed, instead of standard input |
 /// | `--prefix` | a text that is torn or has a faulty line is listed as far as it goes |
 ///
 /// `Usage` comes if there is a mistake in the words, or they ask for `--help` or `--version`. It
@@ -42,7 +50,7 @@ Exit status:
 /// ```text
 /// let options = options_for_replay(rt.alloc(), words)?;       // of `replay --list audit`
 /// ```
-pub fn options_for_replay(alloc: Global, words: Vec<String>) -> Result<ReplayOptions, NoOptions>
+pub fn options_for_replay(alloc: Global, words: Vec<String>) -> Result<ReplayRequest, NoOptions>
     ensures status { IfErr result EndsWith0Or2 }
     ensures asked { IfOk result (AsksReplay (map string_bytes words.items)) }
     ensures refused { IfErr result (AskNoReplay (map string_bytes words.items)) }
@@ -53,17 +61,30 @@ pub fn options_for_replay(alloc: Global, words: Vec<String>) -> Result<ReplayOpt
     }
 }
 
-fn asked(alloc: Global, words: &[String]) -> Result<ReplayOptions, Error>
+fn asked(alloc: Global, words: &[String]) -> Result<ReplayRequest, Error>
     ensures asked { IfOk result (AsksReplay (map string_bytes words.now)) }
     ensures refused { IfErr result (λ e. (kind_of e ≡ ErrorKind.OutOfMemory)
         ⊎ IsReplayRefused (map string_bytes words.now) (kind_of e)) }
 {
     let all = with_name(alloc, "replay", words)?;
     let matches = command(alloc)?.try_get_matches_from(all.as_slice())?;
-    Ok(ReplayOptions {
+    let options = ReplayOptions {
         listing: listing_named(matches.get_str("list").unwrap_or("bases")),
         prefix: matches.get_one::<bool>("prefix").unwrap_or(false),
-    })
+    };
+    let database = kept(alloc, matches.get_str("database"))?;
+    Ok(ReplayRequest { database, options })
+}
+
+// A copy of a text that is given.
+fn kept(alloc: Global, given: Option<&str>) -> Result<Option<String>, AllocError>
+    ensures { IfOk result (λ text. option_map string_bytes text
+        ≡ option_map (λ s. s.now) given.entry) }
+{
+    match given {
+        Some(text) => Ok(Some(String::from_str(alloc, text)?)),
+        None => Ok(None),
+    }
 }
 
 fn command<'a>(alloc: Global) -> Result<Command<'a>, AllocError>
@@ -71,7 +92,8 @@ fn command<'a>(alloc: Global) -> Result<Command<'a>, AllocError>
 {
     new_command(alloc, "replay", ABOUT, DETAILS)
         .arg(list_option(alloc))?
-        .arg(prefix_option(alloc))
+        .arg(prefix_option(alloc))?
+        .arg(database_option(alloc))
 }
 
 fn prefix_option<'a>(alloc: Global) -> Arg<'a>
@@ -82,4 +104,15 @@ fn prefix_option<'a>(alloc: Global) -> Arg<'a>
         .long("prefix")
         .action(ArgAction::SetTrue)
         .help("Lists what a torn or faulty text gives up to its first faulty line")
+}
+
+fn database_option<'a>(alloc: Global) -> Arg<'a>
+    ensures rule { rule_of result ≡ text_option_of (codes "database") }
+    ensures plain { IsPlainArg result × (result.global ≡ false) }
+{
+    Arg::new(alloc, "database")
+        .long("database")
+        .action(ArgAction::Set)
+        .value_name("FILE")
+        .help("Reads the log in this SQLite database instead of standard input")
 }

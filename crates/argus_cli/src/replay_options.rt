@@ -1,4 +1,4 @@
-//! `ReplayOptions`: what is asked of a replay.
+//! `ReplayOptions` and `ReplayRequest`: what is asked of a replay, and of the program for it.
 
 use argus_guardian::Listing;
 
@@ -13,4 +13,12 @@ pub struct ReplayOptions {
     pub listing: Listing,
     /// Whether a text that is torn or has a faulty line is listed as far as it goes.
     pub prefix: bool,
+}
+
+/// What is asked of the program: the file of a database whose log is replayed, if not standard input
+/// is, and how.
+#[derive(Debug, Drop)]
+pub struct ReplayRequest {
+    pub database: Option<String>,
+    pub options: ReplayOptions,
 }

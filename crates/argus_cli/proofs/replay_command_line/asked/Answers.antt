@@ -46,6 +46,8 @@ returns-clause-asked c =
           ∙ replay_is_free p.listings);
       listing = c.listing_named.ensures ∙ ap (λ s. listing_named s.now) c.unwrap_or.ensures
           ∙ listing_or c.get_str.result _ (search rules) ∙ ap listing_or_bases name;
+      database = c.in_ok-database.ensures ∙ c.get_str-2.ensures ∙ first_value-rows (found_of m) (codes "database")
+          ∙ ap (first_of (codes "database")) rows;
       prefix = flag_read _ (one_text (found_of m) (codes "prefix")) c.get_one.result c.unwrap_or-2.result
           c.get_one.ensures.none c.get_one.ensures.value c.unwrap_or-2.ensures ∙ ap is_given (text (codes "prefix"));
     }

@@ -1,0 +1,120 @@
+"""Logs that the proved program reads from their databases: `replay --database`. REPLAY names it, or .ci/run left it."""
+
+from __future__ import annotations
+
+import os
+import shutil
+import sqlite3
+import subprocess
+import sys
+import unittest
+from pathlib import Path
+
+sys.path.insert(0, str(Path(__file__).resolve().parent))
+
+from log_bank import LogCase, carry_out, open_bank  # noqa: E402
+
+from argus_guardian.log_rows import summed  # noqa: E402
+
+TOP = Path(__file__).resolve().parents[3]
+REPLAY = os.environ.get("REPLAY", str(TOP / "crates/replay/out/replay"))
+
+
+def replayed(*words: str, given: bytes = b"") -> tuple[int, str, str]:
+    """The status of the program, and what it printed and said."""
+    ended = subprocess.run([REPLAY, *words], input=given, capture_output=True, check=False, timeout=60)
+    return ended.returncode, ended.stdout.decode(), ended.stderr.decode()
+
+
+@unittest.skipUnless(os.access(REPLAY, os.X_OK), "no program replay")
+class ReplayedTest(LogCase):
+    def setUp(self) -> None:
+        super().setUp()
+        with open_bank(self.path) as log:
+            carry_out(log, 0, 1)
+            log.checkpoint()
+            for number in range(2, 5):
+                carry_out(log, 0, number)
+        self.firsts = [first for (first,) in self.rows("SELECT first FROM batch ORDER BY first")]
+
+    def rows(self, statement: str) -> list[tuple[int, ...]]:
+        database = sqlite3.connect(self.path)
+        try:
+            found = database.execute(statement).fetchall()
+            database.commit()
+            return found
+        finally:
+            database.close()
+
+    def says(self, status: int, words: str) -> None:
+        """What it says of a database that is changed by hand."""
+        self.assertEqual(replayed("--database", self.path), (status, "", words + "\n"))
+
+    def text(self) -> bytes:
+        """The listing, as SQL has it."""
+        database = sqlite3.connect(self.path)
+        try:
+            rows = database.execute("SELECT text FROM opening ORDER BY line").fetchall()
+            rows += database.execute("SELECT lines FROM batch ORDER BY first").fetchall()
+            return "".join(f"{lines}\n" for (lines,) in rows).encode()
+        finally:
+            database.close()
+
+    def test_it_lists_what_the_text_gives(self) -> None:
+        for listing in "bases", "stacks", "journal", "audit":
+            wanted = replayed("--list", listing, given=self.text())
+            self.assertEqual(wanted[0], 0)
+            self.assertEqual(replayed("--database", self.path, "--list", listing), wanted)
+
+    def test_it_reads_the_wal_and_writes_nothing(self) -> None:
+        with open_bank(self.path) as log:
+            carry_out(log, 1, 1)
+            copy = Path(self.path).with_name("copy.db")
+            for suffix in "", "-wal":
+                shutil.copy(f"{self.path}{suffix}", f"{copy}{suffix}")
+        wanted = replayed("--list", "bases", given=self.text())
+        before = {it.name: it.read_bytes() for it in copy.parent.glob("copy.db*")}
+        self.assertEqual(replayed("--database", str(copy)), wanted)
+        self.assertEqual({it.name: it.read_bytes() for it in copy.parent.glob("copy.db*")}, before)
+
+    def test_rows_that_do_not_follow(self) -> None:
+        shutil.copy(self.path, f"{self.path}-kept")
+        first, second, third = self.firsts
+        for change, words in (
+            (f"UPDATE batch SET lines = lines || ' ' WHERE first = {second}", f"batch, row {second}: Sum"),
+            (f"DELETE FROM batch WHERE first = {second}", f"batch, row {third}: Number"),
+            (f"DELETE FROM batch WHERE first = {first}", f"batch, row {second}: Number"),
+            (f"DELETE FROM batch WHERE first = {third}", "log, row 0: Number"),
+            ("UPDATE log SET sum = sum - 1", "log, row 0: Sum"),
+            ("DELETE FROM opening WHERE line = 1", "opening, row 2: Number"),
+            ("UPDATE opening SET text = text || ' ' WHERE line = 1", f"batch, row {first}: Sum"),
+        ):
+            with self.subTest(change):
+                shutil.copy(f"{self.path}-kept", self.path)
+                self.rows(change)
+                self.says(3, f"table {words}")
+
+    def test_a_line_with_another_reply(self) -> None:
+        last, name = self.firsts[-1], str(self.rows("SELECT name FROM log")[0][0])
+        before = self.rows("SELECT sum FROM batch ORDER BY first DESC LIMIT 1 OFFSET 1")[0][0]
+        lines = str(self.rows("SELECT lines FROM batch ORDER BY first DESC LIMIT 1")[0][0]).split("\n")
+        number = next(at for at, line in enumerate(lines) if line.endswith(" -> done"))
+        lines[number] = lines[number].removesuffix("done") + "refused Over"
+        text = "\n".join(lines)
+        total = summed(name, last, before, text.encode())
+        self.rows(f"UPDATE log SET sum = {total}")
+        self.rows(f"UPDATE batch SET lines = '{text}', sum = {total} WHERE first = {last}")
+        self.says(3, f"table batch, row {last}, line {number + 1}: NotTheReply: done")
+
+    def test_what_is_no_log(self) -> None:
+        Path(self.path).unlink()
+        self.says(5, "database: NoFile")
+        Path(self.path).write_bytes(b"no database" * 1000)
+        self.says(3, "database: Unsound")
+        Path(self.path).unlink()
+        self.rows("CREATE TABLE other (a INTEGER)")
+        self.says(3, "database: NoLog")
+
+
+if __name__ == "__main__":
+    unittest.main()
