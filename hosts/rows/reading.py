@@ -1,7 +1,7 @@
 """Files of rows: their tests, rows that stand for many, and marks that stand for bytes.
 
-This is what all rows have in common, here, in tools/programs, and in crates/guardian_tests, which reads them in Rattle. A
-file says at its head what its own rows are. An empty line separates tests, and a line that begins with `#` is a
+This is what all rows have in common, here, in tools/programs, and in crates/guardian_tests, which reads them in Rattle and
+has no marks and no rows that stand for many. A file says at its head what its own rows are. An empty line separates tests, and a line that begins with `#` is a
 comment. What a row gets comes from the rules, never from a run.
 
 | Line | What it is |

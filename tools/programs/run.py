@@ -43,6 +43,7 @@ PARSED = ("scripts", "lines", "places", "accesses", "words", "order", "limits")
 OTHERS = {
     "examples.txt": examples.trials,
     "pictures.rows": pictures.drawings,
+    "entries.rows": pictures.drawings,
     "names.rows": pictures.namings,
     "sizes.rows": pictures.sizes,
     "drawn.rows": drawn.trials,

@@ -1,9 +1,9 @@
-//! A guardian of one thread, which answers rows, and lines that need none.
+//! A guardian of one thread, which answers rows.
 
 use crate::call_reading::call_of;
-use crate::lines::tell_line;
-use crate::row_fault::RowFault;
+use crate::row_fault::{Result, RowFault};
 use crate::setting::Setting;
+use crate::sharing::budgets;
 use crate::telling::{
     tell_checkpoint, tell_content, tell_effect, tell_number, tell_owner, tell_reply, tell_word,
 };
@@ -11,7 +11,7 @@ use crate::word_reading::{action, first_word, object};
 use argus_guardian::resume_laws::calls_are_well_formed;
 use argus_guardian::{FailStop, Guardian, Resumed, replay_base, replay_for, resume};
 use argus_journal::owner_of;
-use argus_values::{OutOfMemory, Room};
+use argus_values::Room;
 
 // A guardian with as many entries before it as there can be.
 const LAST: &str = "\
@@ -19,73 +19,107 @@ opening entries 9223372036854775807 actions 3
 opening o0 atomic_record[balance:int] {7}
 ";
 
-/// The answer to the row. Questions about the journal may be refused memory, and calls never are:
-/// they are tried by the rows over the archive (hosts/rows).
-pub(crate) fn answer_alone(
+/// Tells the answer to the row, with each allocation of a question refused in turn if that is asked
+/// for. Calls are never refused memory: that is tried by the rows over the archive (hosts/rows).
+pub(crate) fn answer_at_last(
+    guardian: &mut Guardian,
+    setting: Setting,
+    is_tight: bool,
+    asked: &str,
+    told: &mut String<Room>,
+) -> Result<()> {
+    for allowed in budgets(is_tight) {
+        told.clear();
+        let answered = answer(guardian, setting.allowing(allowed), asked, told);
+        setting.lift();
+        if !matches!(answered, Err(RowFault::OutOfMemory)) {
+            return answered;
+        }
+    }
+    Err(RowFault::NeverAnswered)
+}
+
+fn answer(
     guardian: &mut Guardian,
     setting: Setting,
     asked: &str,
-) -> Result<String<Room>, RowFault> {
-    let mut out = String::new(setting.texts.room());
+    out: &mut String<Room>,
+) -> Result<()> {
     let (word, rest) = first_word(asked);
     match word {
-        "line" => tell_line(setting, rest, &mut out)?,
-        "checkpoint" => tell_checkpoint(guardian.checkpoint(), &mut out)?,
+        "checkpoint" => tell_checkpoint(guardian.checkpoint(), out),
         "last" => {
             *guardian = last(setting)?;
-            tell_word("done", &mut out)?;
+            tell_word("done", out)
         }
-        "length" => tell_number(guardian.journal().journal().len(), &mut out)?,
-        "first_entry" => tell_number(guardian.journal().journal().first_entry(), &mut out)?,
-        "base" => match guardian.base(object(rest)?) {
-            Some(content) => tell_content(content, &mut out)?,
-            None => tell_word("undeclared", &mut out)?,
-        },
-        "owner" | "effect" | "replay" | "replay_base" => {
-            tell_of_journal(guardian, setting, word, rest, &mut out)?;
-        }
-        _ => {
-            let call = call_of(setting.heap, asked)?;
-            calls_are_well_formed(&call);
-            let reply = guardian.call(call)?;
-            tell_reply(&reply, &mut out)?;
-        }
+        "length" => tell_number(guardian.journal().journal().len(), out),
+        "first_entry" => tell_number(guardian.journal().journal().first_entry(), out),
+        "base" => tell_base(guardian, rest, out),
+        "owner" => tell_owner(owner_of(guardian.journal().journal(), action(rest)?), out),
+        "effect" => tell_effect_of(guardian, setting, rest, out),
+        "replay" => tell_replay(guardian, setting, rest, out),
+        "replay_base" => tell_replay_base(guardian, setting, rest, out),
+        _ => answer_call(guardian, setting, asked, out),
     }
-    Ok(out)
 }
 
-fn last(setting: Setting) -> Result<Guardian, OutOfMemory> {
+fn last(setting: Setting) -> Result<Guardian> {
     let mut reader = FailStop::new(LAST.as_bytes());
     let Resumed { guardian, .. } = resume(setting.heap, &mut reader)?;
     Ok(guardian)
 }
 
-fn tell_of_journal(
+fn answer_call(
+    guardian: &mut Guardian,
+    setting: Setting,
+    asked: &str,
+    out: &mut String<Room>,
+) -> Result<()> {
+    let call = call_of(setting.heap, asked)?;
+    calls_are_well_formed(&call);
+    let reply = guardian.call(call)?;
+    tell_reply(&reply, out)
+}
+
+fn tell_base(guardian: &Guardian, object_word: &str, out: &mut String<Room>) -> Result<()> {
+    match guardian.base(object(object_word)?) {
+        Some(content) => tell_content(content, out),
+        None => tell_word("undeclared", out),
+    }
+}
+
+fn tell_effect_of(
     guardian: &Guardian,
     setting: Setting,
-    word: &str,
-    rest: &str,
+    action_word: &str,
     out: &mut String<Room>,
-) -> Result<(), RowFault> {
-    let journal = guardian.journal().journal();
-    let (one, other) = first_word(rest);
-    match word {
-        "owner" => tell_owner(owner_of(journal, action(one)?), out)?,
-        "effect" => {
-            let a = action(one)?;
-            setting.limit();
-            tell_effect(guardian.effect(a)?, out)?;
-        }
-        "replay" => {
-            let (a, o) = (action(one)?, object(other)?);
-            setting.limit();
-            tell_content(&replay_for(setting.heap, journal, a, o)?, out)?;
-        }
-        _ => {
-            let o = object(one)?;
-            setting.limit();
-            tell_content(&replay_base(setting.heap, journal, o)?, out)?;
-        }
-    }
-    Ok(())
+) -> Result<()> {
+    let a = action(action_word)?;
+    setting.limit();
+    tell_effect(guardian.effect(a)?, out)
+}
+
+fn tell_replay(
+    guardian: &Guardian,
+    setting: Setting,
+    words: &str,
+    out: &mut String<Room>,
+) -> Result<()> {
+    let (one, other) = first_word(words);
+    let (a, o) = (action(one)?, object(other)?);
+    setting.limit();
+    let content = replay_for(setting.heap, guardian.journal().journal(), a, o)?;
+    tell_content(&content, out)
+}
+
+fn tell_replay_base(
+    guardian: &Guardian,
+    setting: Setting,
+    object_word: &str,
+    out: &mut String<Room>,
+) -> Result<()> {
+    let o = object(object_word)?;
+    setting.limit();
+    let content = replay_base(setting.heap, guardian.journal().journal(), o)?;
+    tell_content(&content, out)
 }

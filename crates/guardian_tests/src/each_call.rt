@@ -1,16 +1,13 @@
 //! The calls of a list, as a row spells them, and their receipts.
 
 use crate::call_reading::{call_of, reply_of};
-use crate::row_fault::RowFault;
+use crate::row_fault::Result;
 use argus_guardian::{CallsMade, Demand, DemandedCall, Receipt};
-use argus_values::{Heap, OutOfMemory, Room};
+use argus_journal::{Call, Reply};
+use argus_values::{Heap, Room};
 
 /// The calls between commas, but for the first ones.
-pub(crate) fn calls_of(
-    heap: Heap,
-    text: &str,
-    made: usize,
-) -> Result<Vec<DemandedCall, Room>, RowFault> {
+pub(crate) fn calls_of(heap: Heap, text: &str, made: usize) -> Result<Vec<DemandedCall, Room>> {
     let mut calls = Vec::new(heap.room());
     for part in text.split(", ").skip(made) {
         calls.push(demanded_of(heap, part)?)?;
@@ -19,7 +16,7 @@ pub(crate) fn calls_of(
 }
 
 // `commit a0`, which may not be refused; or `commit a0 wanting done`.
-fn demanded_of(heap: Heap, text: &str) -> Result<DemandedCall, RowFault> {
+fn demanded_of(heap: Heap, text: &str) -> Result<DemandedCall> {
     let Some((call, demand)) = text.split_once(" wanting ") else {
         return Ok(DemandedCall::from(call_of(heap, text)?));
     };
@@ -38,13 +35,18 @@ pub(crate) fn push_receipts(
     calls: &[DemandedCall],
     made: &CallsMade,
     receipts: &mut Vec<Receipt, Room>,
-) -> Result<(), OutOfMemory> {
+) -> Result<()> {
     let mut at = made.first;
     for (each, reply) in calls.iter().zip(&made.replies) {
-        let call = each.call.duplicate(heap)?;
-        let reply = reply.duplicate(heap)?;
-        receipts.push(Receipt { at, call, reply })?;
+        receipts.push(receipt_of(heap, at, &each.call, reply)?)?;
         at = at.wrapping_add(1);
     }
     Ok(())
+}
+
+/// A receipt with copies of both.
+pub(crate) fn receipt_of(heap: Heap, at: u64, call: &Call, reply: &Reply) -> Result<Receipt> {
+    let call = call.duplicate(heap)?;
+    let reply = reply.duplicate(heap)?;
+    Ok(Receipt { at, call, reply })
 }

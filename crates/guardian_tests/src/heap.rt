@@ -1,56 +1,44 @@
 //! What no clause says: that a heap has memory, that a used-up budget refuses, and in which places.
 
-use anyhow::{Result, ensure};
 use argus_values::{Budget, Heap, OutOfMemory, Room};
-use std::alloc::Global;
+use std::alloc::{AllocError, Global};
 
-/// Takes memory from heaps without a limit and with a budget. An error says what isn't so. That a
-/// budget refuses in other threads, too, is told by the scripts of gates.rows.
-pub(crate) fn use_up(alloc: Global) -> Result<()> {
-    ensure!(
-        listed(Heap::new(alloc)?)?.as_slice() == [1, 2].as_slice(),
-        "a list has something else"
-    );
+/// Takes memory from heaps without a limit and with a budget. Whether it comes, and is refused, where
+/// it should. That a budget refuses in other threads, too, is told by the scripts of gates.rows.
+pub(crate) fn do_budgets_refuse(alloc: Global) -> Result<bool, AllocError> {
     let budget = Budget::new(alloc)?;
     let heap = Heap::with_budget(alloc, budget);
-    ensure!(budget.left().is_none(), "a new budget has a limit");
-    count_until_lifted(budget, heap)?;
-    ask_for_what_is_outside(budget, heap)
+    let has_memory = list(Heap::new(alloc)?).is_ok() && budget.left().is_none();
+    Ok(has_memory && counts_until_lifted(budget, heap) && counts_outside(budget, heap))
 }
 
-fn count_until_lifted(budget: Budget, heap: Heap) -> Result<()> {
+// A list takes two allocations: it is made and grown, and shrinking takes nothing.
+fn counts_until_lifted(budget: Budget, heap: Heap) -> bool {
     budget.allow(3);
-    ensure!(listed(heap)?.len() == 2, "a counted list is shorter");
-    // made and grown; shrinking took nothing
-    ensure!(budget.left() == Some(1), "a list doesn't take two");
-    ensure!(listed(heap).is_err(), "a list takes less than two");
-    ensure!(budget.left() == Some(0), "a refused list leaves some");
-    ensure!(listed(heap).is_err(), "a used-up budget gives");
+    let takes_two = list(heap).is_ok() && budget.left() == Some(1);
+    let is_used_up = list(heap).is_err() && budget.left() == Some(0) && list(heap).is_err();
     budget.lift();
-    ensure!(budget.left().is_none(), "a lifted budget has a limit");
-    ensure!(listed(heap)?.len() == 2, "a lifted budget refuses");
-    Ok(())
+    takes_two && is_used_up && budget.left().is_none() && list(heap).is_ok()
 }
 
 // A room is of its heap, and what is made outside of rooms is asked for.
-fn ask_for_what_is_outside(budget: Budget, heap: Heap) -> Result<()> {
-    let list: Vec<u8, Room> = Vec::new(heap.room());
+fn counts_outside(budget: Budget, heap: Heap) -> bool {
     budget.allow(1);
-    ensure!(heap.ask().is_ok(), "what is asked for is refused");
-    ensure!(heap.ask().is_err(), "what is asked for isn't counted");
-    ensure!(budget.left() == Some(0), "what is asked for is given back");
-    let of_room = list.allocator().heap();
-    ensure!(listed(of_room).is_err(), "a room is of another heap");
-    let of_copy = list.allocator().clone()?.heap();
-    ensure!(listed(of_copy).is_err(), "a room's copy is of another heap");
-    Ok(())
+    let is_asked = heap.ask().is_ok() && heap.ask().is_err() && budget.left() == Some(0);
+    let room: Room = heap.room();
+    let is_of_heap = list(room.heap()).is_err();
+    let is_copy_of_heap = match room.clone() {
+        Ok(copy) => list(copy.heap()).is_err(),
+        Err(_) => false,
+    };
+    is_asked && is_of_heap && is_copy_of_heap
 }
 
 // A list of two that grew by itself.
-fn listed(heap: Heap) -> Result<Vec<u64, Room>, OutOfMemory> {
+fn list(heap: Heap) -> Result<(), OutOfMemory> {
     let mut list = Vec::with_capacity(heap.room(), 1)?;
     list.push(1u64)?;
     list.push(2u64)?;
     list.shrink_to_fit();
-    Ok(list)
+    Ok(())
 }

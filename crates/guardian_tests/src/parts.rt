@@ -1,11 +1,11 @@
 //! Calls that no guardian makes: tests of locks that need no lawful cell, a write lock's grant with its
-//! content, an object that is noted on a list and passed on, laws of a tree of actions, and a reply
-//! taken out of its receipt.
+//! content, an object that is noted on a list and passed on, laws of a tree of actions, an entry that
+//! is copied, and a reply taken out of its receipt.
 
-use anyhow::{Result, bail, ensure};
+use crate::row_fault::{Result, RowFault};
 use argus_actions::{ActionId, ActionTree, Status};
 use argus_guardian::Receipt;
-use argus_journal::{Call, Reply};
+use argus_journal::{Call, Entry, Reply};
 use argus_objects::{Cell, Holdings};
 use argus_values::{Heap, ObjId};
 
@@ -15,26 +15,23 @@ const SUB: ActionId = ActionId(1);
 
 const OTHER: ActionId = ActionId(2);
 
-/// Makes each. An error says what isn't so.
-pub(crate) fn call_parts(heap: Heap) -> Result<()> {
+/// Makes each. Whether all comes out as it should.
+pub(crate) fn are_parts_right(heap: Heap) -> Result<bool> {
     let tree = tree_of(heap)?;
     walk(&tree);
     let is_exclusive = read_lock_excludes(heap, &tree)? && version_excludes(heap, &tree)?;
-    ensure!(is_exclusive, "a lock is free beside another, or none is");
-    ensure!(is_passed_on(heap)?, "a list isn't passed on");
-    ensure!(is_reply_taken(), "a receipt has another reply");
-    Ok(())
+    Ok(is_exclusive && is_passed_on(heap)? && is_entry_copied(heap)? && is_reply_taken())
 }
 
 // A topaction with a subaction, and another topaction.
 fn tree_of(heap: Heap) -> Result<ActionTree> {
     let mut tree = ActionTree::new(heap);
     let begun = tree.begin_top() == Ok(TOP) && tree.begin_sub(TOP) == Ok(SUB);
-    ensure!(
-        begun && tree.begin_top() == Ok(OTHER),
-        "an action has another number"
-    );
-    Ok(tree)
+    if begun && tree.begin_top() == Ok(OTHER) {
+        Ok(tree)
+    } else {
+        Err(RowFault::Other)
+    }
 }
 
 fn walk(tree: &ActionTree) {
@@ -69,7 +66,7 @@ fn grant(cell: &mut Cell, tree: &ActionTree, a: ActionId, is_write: bool) -> Res
         None if !is_write && cell.lawful(tree) && cell.may_read(tree, a) => {
             cell.grant_read(tree, a);
         }
-        Some(_) | None => bail!("a lock that is free isn't granted"),
+        Some(_) | None => return Err(RowFault::Other),
     }
     Ok(())
 }
@@ -82,6 +79,14 @@ fn is_passed_on(heap: Heap) -> Result<bool> {
     lists.reserve_pass(SUB, TOP)?;
     lists.pass(SUB, TOP);
     Ok(lists.of(SUB).is_empty() && lists.of(TOP) == [ObjId(5)].as_slice())
+}
+
+fn is_entry_copied(heap: Heap) -> Result<bool> {
+    let entry = Entry {
+        call: Call::BeginTop,
+        reply: Reply::Begun(TOP),
+    };
+    Ok(entry.duplicate(heap)? == entry)
 }
 
 fn is_reply_taken() -> bool {

@@ -1,11 +1,12 @@
-//! `RowFault`: why a row has no answer.
+//! `RowFault`: why a row isn't answered as it says.
 
 use argus_guardian::ReadEntryError;
 use argus_values::OutOfMemory;
 use std::alloc::{AllocError, AllocFailed};
+use std::io;
 use std::num::ParseIntError;
 
-/// Why a row has no answer.
+/// Why a row isn't answered as it says.
 ///
 /// ```text
 /// assert!(rt; matches!(call_of(heap, "ask"), Err(RowFault::NotSpelled)));
@@ -20,9 +21,21 @@ pub(crate) enum RowFault {
     Changed,
     /// However many allocations were allowed, one was refused.
     NeverAnswered,
+    /// No allocation was refused, or too few were.
+    NeverRefused,
+    /// Another answer came, which is printed.
+    Other,
+    /// A seat made more or fewer calls.
+    Miscounted,
+    /// An arm was held up for ever.
+    HeldUp,
+    /// A run wasn't settled.
+    Unsettled,
+    /// A file wasn't read, or a line not printed.
+    Stream,
 }
 
-/// What comes of a row, or why it has no answer.
+/// What comes of a row, or why it isn't answered as it says.
 pub(crate) type Result<T> = std::result::Result<T, RowFault>;
 
 impl RowFault {
@@ -33,6 +46,12 @@ impl RowFault {
             RowFault::OutOfMemory => "out of memory",
             RowFault::Changed => "a refused allocation has changed something",
             RowFault::NeverAnswered => "out of memory, whatever is allowed",
+            RowFault::NeverRefused => "too few allocations are refused",
+            RowFault::Other => "another answer",
+            RowFault::Miscounted => "a seat makes more or fewer calls",
+            RowFault::HeldUp => "an arm is held up for ever",
+            RowFault::Unsettled => "a run isn't settled",
+            RowFault::Stream => "a stream fails",
         }
     }
 }
@@ -67,5 +86,11 @@ impl<T: Drop> From<AllocFailed<T>> for RowFault {
 impl From<ParseIntError> for RowFault {
     fn from(_error: ParseIntError) -> RowFault {
         RowFault::NotSpelled
+    }
+}
+
+impl From<io::Error> for RowFault {
+    fn from(_error: io::Error) -> RowFault {
+        RowFault::Stream
     }
 }

@@ -2,24 +2,27 @@
 //! held up, runs on guardians that aren't new, and receipts that are forged. Whatever doesn't come out
 //! as its row says is printed.
 
-mod comparing;
-mod receipts;
-mod row;
+mod checking;
+mod hold;
+mod place;
+mod plan;
+pub(crate) mod run;
 mod showing;
 mod standing;
-pub(crate) mod workers;
+mod telling;
+mod turns;
 mod writing;
 
+use crate::row_fault::Result;
 use crate::setting::Setting;
-use anyhow::{Result, bail};
-use row::Row;
+use crate::test::Test;
+use checking::check_worked;
 use showing::check_shown;
 use std::fs;
 use std::io::Print;
 use std::rt::Files;
 use std::sync::Wait;
 use std::thread::Threads;
-use workers::checking::check_worked;
 use writing::check_written;
 
 // What is done with the scripts of a file.
@@ -44,48 +47,46 @@ pub(crate) fn test_scripts<R: Threads + Wait + Files + Print + Alloc + Copy + Dr
 ) -> Result<bool> {
     rt.println("scripts:")?;
     let mut wrong = 0u32;
-    for (name, kind) in FILES {
-        wrong = wrong.saturating_add(wrong_in_file(rt, setting, name, kind)?);
+    for (name, kind) in &FILES {
+        let text = fs::read_to_string(&rt, *name)?;
+        test_text(rt, setting, text.as_str(), *kind, &mut wrong)?;
     }
     Ok(wrong == 0)
 }
 
-// How many tests of a file don't come out as they say.
-fn wrong_in_file<R: Threads + Wait + Files + Print + Alloc + Copy + Drop + Send + Sync>(
+// Counts the tests of a file that don't come out as they say.
+fn test_text<R: Threads + Wait + Print + Copy + Drop + Send + Sync>(
     rt: R,
     setting: Setting,
-    name: &str,
+    text: &str,
     kind: Kind,
-) -> Result<u32> {
-    let mut wrong = 0u32;
-    let text = fs::read_to_string(&rt, name)?;
-    for block in text.as_str().split("\n\n") {
-        if let Err(error) = check_block(rt, setting, kind, block) {
-            rt.println(format_args!("{error}"))?;
-            wrong = wrong.saturating_add(1);
+    wrong: &mut u32,
+) -> Result<()> {
+    for block in text.split("\n\n") {
+        if let Some(test) = Test::of_block(block) {
+            rt.print(format_args!("{}: ", test.name))?;
+            let told = match check(rt, setting, kind, test) {
+                Ok(()) => "as written",
+                Err(fault) => {
+                    *wrong = wrong.saturating_add(1);
+                    fault.as_str()
+                }
+            };
+            rt.println(told)?;
         }
     }
-    Ok(wrong)
+    Ok(())
 }
 
-// Prints the name of the test in a block, so that what is wrong comes after it.
-fn check_block<R: Threads + Wait + Print + Copy + Drop + Send + Sync>(
+fn check<R: Threads + Wait + Print + Copy + Drop + Send + Sync>(
     rt: R,
     setting: Setting,
     kind: Kind,
-    block: &str,
+    test: Test<'_>,
 ) -> Result<()> {
-    let row = match Row::of_block(setting.texts, block) {
-        Ok(Some(row)) => row,
-        Ok(None) => return Ok(()),
-        Err(_) => bail!("lines that are no test"),
-    };
-    rt.print(format_args!("{}: ", row.name))?;
     match kind {
-        Kind::Worked => check_worked(rt, setting, &row)?,
-        Kind::Written => check_written(&rt, setting, &row)?,
-        Kind::Shown => check_shown(&rt, setting, &row)?,
+        Kind::Worked => check_worked(rt, setting, test),
+        Kind::Written => check_written(&rt, setting, test),
+        Kind::Shown => check_shown(&rt, setting, test),
     }
-    rt.println("as written")?;
-    Ok(())
 }

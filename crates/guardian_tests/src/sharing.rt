@@ -1,16 +1,15 @@
 //! Sharing a guardian for a task.
 
 ghost use Rattle.std.specs.Prelude.{◌≡◌};
-ghost use Rattle.argus_guardian.specs.Keeper.{StartsHistory};
-ghost use Rattle.argus_guardian.specs.Following.{journal_bases, journal_effects};
-ghost use Rattle.argus_journal.specs.{Opening.content_in, JournalView.next_entry};
+ghost use Rattle.argus_guardian.specs.Starting.{StartsWith};
 
+use crate::row_fault::{Result, RowFault};
 use crate::setting::Setting;
 use crate::task::{Task, perform};
-use anyhow::{Result, bail};
 use argus_guardian::{Guardian, Keeper, NotShared, Shared, Sharing};
 use std::io::Print;
 use std::marker::Brand;
+use std::mem::replace;
 use std::ops::Range;
 use std::sync::Wait;
 use std::sync::ledger::Blank;
@@ -35,58 +34,55 @@ pub(crate) fn share<R: Threads + Wait + Print + Copy + Drop + Send + Sync>(
     rt: R,
     setting: Setting,
     is_tight: bool,
-    guardian: Guardian,
+    guardian: &mut Guardian,
     seats: u8,
     lookers: u8,
     task: &mut Task<'_>,
-) -> Result<Guardian> {
-    let mut guardian = guardian;
+) -> Result<()> {
     for allowed in budgets(is_tight) {
-        let blank = Blank::new(u64::from(seats));
         let setting = setting.allowing(allowed);
-        let shared = share_as::<Brand, R>(
-            rt,
-            setting,
-            guardian,
-            seats,
-            lookers,
-            blank,
-            Keeper::new(),
-            task,
+        let blank = Blank::new(u64::from(seats));
+        let keeper = Keeper::new();
+        let taken = replace(guardian, Guardian::new(setting.heap));
+        let is_shared = share_as::<Brand, R>(
+            rt, setting, taken, seats, lookers, blank, keeper, task, guardian,
         );
-        guardian = match shared? {
-            Ok(guardian) => return Ok(guardian),
-            Err(NotShared { guardian }) => guardian,
-        };
+        if is_shared? {
+            return Ok(());
+        }
     }
-    bail!("a guardian is never shared")
+    Err(RowFault::NeverAnswered)
 }
 
+// Whether the guardian that was taken is shared. If not, it is put back.
 fn share_as<N: Sharing + Send + Sync, R: Threads + Wait + Print + Copy + Drop + Send + Sync>(
     rt: R,
     setting: Setting,
-    guardian: Guardian,
+    taken: Guardian,
     seats: u8,
     lookers: u8,
     blank: Blank,
     keeper: Keeper,
     task: &mut Task<'_>,
-) -> Result<Result<Guardian, NotShared>>
+    guardian: &mut Guardian,
+) -> Result<bool>
     requires name { blank.name ≡ N.name }
     requires parts { (blank.parts ≡ N.parts) × (blank.parts ≡ seats) }
     requires places { N.places ≡ lookers }
-    requires keeper { StartsHistory N.history N.root keeper }
-    requires start { N.start ≡ next_entry guardian }
-    requires before { N.before ≡ journal_effects guardian }
-    requires opening { N.opening_contents ≡ content_in guardian.opening.objects }
-    requires first { N.first ≡ journal_bases guardian }
+    requires starts { StartsWith N.Board N.start taken keeper }
 {
     let (seats, lookers) = (u32::from(seats), u32::from(lookers));
     setting.limit();
-    let parts = Shared::<N, R>::new(rt, setting.heap, guardian, seats, lookers, blank, keeper);
+    let parts = Shared::<N, R>::new(rt, setting.heap, taken, seats, lookers, blank, keeper);
     setting.lift();
     match parts {
-        Ok(parts) => Ok(Ok(perform(rt, parts, task)?)),
-        Err(not_shared) => Ok(Err(not_shared)),
+        Ok(parts) => {
+            perform(rt, parts, task, guardian)?;
+            Ok(true)
+        }
+        Err(NotShared { guardian: kept }) => {
+            *guardian = kept;
+            Ok(false)
+        }
     }
 }

@@ -1,15 +1,14 @@
 //! `Tally`: how many tests there were, and how many wrong answers.
 
 use crate::row_fault::Result;
-use argus_values::Room;
-use std::io;
+use crate::test::is_one_of;
 use std::io::Print;
 
 /// How many tests and rows there were, and how many wrong answers came.
 ///
 /// ```text
 /// let mut tally = Tally::new();
-/// tally.compare(&rt, "begin_top -> a0", Ok(text))?;
+/// tally.compare(&rt, "begin_top -> a0", Ok(()), " a0")?;
 /// assert!(rt; tally.is_content());
 /// ```
 #[derive(Clone, Copy)]
@@ -28,32 +27,34 @@ impl Tally {
         }
     }
 
-    /// Reports if the row's answer is none of those after its arrow, which `or` separates.
+    /// Reports if what is told is none of the answers after the row's arrow.
     pub(crate) fn compare(
         &mut self,
         rt: &impl Print,
         row: &str,
-        answer: Result<String<Room>>,
-    ) -> io::Result<()> {
+        answered: Result<()>,
+        told: &str,
+    ) -> Result<()> {
         self.rows = self.rows.saturating_add(1);
         let (_, wanted) = row.split_once(" -> ").unwrap_or((row, ""));
-        let told = match &answer {
-            Ok(told) => told.as_str().trim_start(),
+        let told = match answered {
+            Ok(()) => told.trim_start(),
             Err(fault) => fault.as_str(),
         };
-        if answer.is_ok() && wanted.split(" or ").any(|one| one == told) {
-            return Ok(());
+        if answered.is_err() || !is_one_of(told, wanted) {
+            self.wrong = self.wrong.saturating_add(1);
+            println!(rt; "row {}: {told}; wanted: {row}", self.rows)?;
         }
-        self.wrong = self.wrong.saturating_add(1);
-        println!(rt; "row {}: {told}; wanted: {row}", self.rows)
+        Ok(())
     }
 
     /// Reports how many tests and rows there were, and how many wrong answers.
-    pub(crate) fn tell(&self, rt: &impl Print) -> io::Result<()> {
+    pub(crate) fn tell(&self, rt: &impl Print) -> Result<()> {
         println!(rt;
             "{} tests, {} rows, {} wrong answers",
             self.tests, self.rows, self.wrong
-        )
+        )?;
+        Ok(())
     }
 
     /// Whether every row got the answer that it says.

@@ -2,7 +2,7 @@
 
 use crate::call_reading::call_of;
 use crate::each_call::{calls_of, push_receipts};
-use crate::row_fault::RowFault;
+use crate::row_fault::{Result, RowFault};
 use argus_actions::ActionId;
 use argus_guardian::{CallsEnd, Receipt, Seat, Shared, Sharing};
 use argus_journal::{Call, Reply};
@@ -30,11 +30,16 @@ pub(crate) struct Others<'a> {
     pub(crate) text: &'a str,
 }
 
+/// What comes of a call that waits.
+pub(crate) type WaitedFor = std::result::Result<Receipt, OutOfMemory>;
+
 /// What came of a call that waited, and of those that were made meanwhile.
 #[derive(Drop)]
 pub(crate) struct Meanwhile<N: Sharing> {
+    /// Whether all others were made.
+    pub(crate) ended: Result<()>,
     pub(crate) made: Vec<Receipt, Room>,
-    pub(crate) waited: Receipt,
+    pub(crate) waited: WaitedFor,
     pub(crate) first: Seat<N>,
     pub(crate) second: Seat<N>,
 }
@@ -48,24 +53,26 @@ pub(crate) fn wait_meanwhile<N: Sharing + Send + Sync, R: Threads + Wait + Drop 
     second: Seat<N>,
     patience: u32,
     others: Others<'_>,
-) -> Result<Meanwhile<N>, RowFault> {
+) -> Meanwhile<N> {
     let word = AtomicU64::new(0);
     let state = &word;
-    let ((waited, second), (made, first)) = join(
+    let ((waited, second), (ended, made, first)) = join(
         rt,
         move || wait_there(rt, shared, second, patience, state),
         || {
             wait_for(rt, state);
-            let made = make_others(rt, shared, &mut first, others, state);
-            (made, first)
+            let mut made = Vec::new(others.heap.room());
+            let ended = make_others(rt, shared, &mut first, others, state, &mut made);
+            (ended, made, first)
         },
     );
-    Ok(Meanwhile {
-        made: made?,
-        waited: waited?,
+    Meanwhile {
+        ended,
+        made,
+        waited,
         first,
         second,
-    })
+    }
 }
 
 fn wait_there<N: Sharing, R: Wait + Drop>(
@@ -74,7 +81,7 @@ fn wait_there<N: Sharing, R: Wait + Drop>(
     mut seat: Seat<N>,
     patience: u32,
     state: &AtomicU64,
-) -> (Result<Receipt, OutOfMemory>, Seat<N>) {
+) -> (WaitedFor, Seat<N>) {
     state.store(BEGUN, Ordering::SeqCst);
     let waiting = Call::Alter(ActionId(2), ObjId(0), Change::SetField(0, Value::Int(1)));
     let waited = shared.call_waiting(rt, &mut seat, waiting, patience);
@@ -99,34 +106,44 @@ fn give_way() {
     }
 }
 
-// What the first seat makes, with the receipts.
+// What the first seat makes. The receipts are added.
 fn make_others<N: Sharing, R: Wait + Drop>(
     rt: &R,
     shared: &Shared<N, R>,
     seat: &mut Seat<N>,
     others: Others<'_>,
     state: &AtomicU64,
-) -> Result<Vec<Receipt, Room>, RowFault> {
+    receipts: &mut Vec<Receipt, Room>,
+) -> Result<()> {
     let Others { heap, text } = others;
-    let mut receipts = Vec::new(heap.room());
     if let Some(together) = text.strip_prefix("together ") {
-        let calls = calls_of(heap, together, 0)?;
-        let made = shared.call_each(rt, seat, calls.as_slice());
-        push_receipts(heap, calls.as_slice(), &made, &mut receipts)?;
-        return match made.end {
-            CallsEnd::Whole => Ok(receipts),
-            CallsEnd::Unmet | CallsEnd::OutOfMemory => Err(RowFault::OutOfMemory),
-        };
+        return make_together(rt, shared, seat, heap, together, receipts);
     }
     if text == "others end" {
-        stir(rt, shared, seat, state, &mut receipts)?;
-        return Ok(receipts);
+        return stir(rt, shared, seat, state, receipts);
     }
     for call in text.split(", ") {
         receipts.push(shared.call(rt, seat, call_of(heap, call)?)?)?;
         give_way();
     }
-    Ok(receipts)
+    Ok(())
+}
+
+fn make_together<N: Sharing, R: Wait + Drop>(
+    rt: &R,
+    shared: &Shared<N, R>,
+    seat: &mut Seat<N>,
+    heap: Heap,
+    text: &str,
+    receipts: &mut Vec<Receipt, Room>,
+) -> Result<()> {
+    let calls = calls_of(heap, text, 0)?;
+    let made = shared.call_each(rt, seat, calls.as_slice());
+    push_receipts(heap, calls.as_slice(), &made, receipts)?;
+    match made.end {
+        CallsEnd::Whole => Ok(()),
+        CallsEnd::Unmet | CallsEnd::OutOfMemory => Err(RowFault::OutOfMemory),
+    }
 }
 
 // Begins topactions and aborts them until the other thread's call returns.
@@ -136,7 +153,7 @@ fn stir<N: Sharing, R: Wait + Drop>(
     seat: &mut Seat<N>,
     state: &AtomicU64,
     receipts: &mut Vec<Receipt, Room>,
-) -> Result<(), OutOfMemory> {
+) -> Result<()> {
     for _ in rt.forever() {
         if state.load(Ordering::SeqCst) == ANSWERED {
             break;

@@ -3,37 +3,66 @@
 
 ghost use Rattle.argus_commands.specs.FailStop.{has_failed};
 
-use crate::scripts::comparing::compare;
-use crate::scripts::row::Row;
+use crate::row_fault::{Result, RowFault};
 use crate::scripts::standing::guardian_after;
+use crate::scripts::telling::compare;
 use crate::setting::Setting;
-use anyhow::{Result, bail, ensure};
-use argus_commands::{FailStop, RunFault, parse, run_serial};
+use crate::test::Test;
+use argus_commands::{FailStop, RunFault, Script, parse, run_serial};
 use std::io::Print;
 use std::str::from_utf8;
 
 // More allocations than any run here makes.
 const MANY: u64 = 2_000;
 
-/// What a run on the row's guardian writes has to be what the row says; where memory is refused, the
-/// front of it. A large test is run only with ample memory.
-pub(crate) fn check_written(rt: &impl Print, setting: Setting, row: &Row<'_>) -> Result<()> {
-    let script = parse(setting.texts, row.script.as_slice())?;
-    let first = if row.is_large { MANY - 1 } else { 0 };
+/// What a run on the test's guardian writes has to be what the test says; where memory is refused,
+/// the front of it. A large test is run only with ample memory.
+pub(crate) fn check_written(rt: &impl Print, setting: Setting, test: Test<'_>) -> Result<()> {
+    let text = test.lines_of(setting.texts, "| ")?;
+    let Ok(script) = parse(setting.texts, text.as_bytes()) else {
+        return Err(RowFault::NotSpelled);
+    };
+    let wanted = test.lines_of(setting.texts, "= ")?;
+    run_at_last(rt, setting, test, &script, wanted.as_str())
+}
+
+fn run_at_last(
+    rt: &impl Print,
+    setting: Setting,
+    test: Test<'_>,
+    script: &Script,
+    wanted: &str,
+) -> Result<()> {
+    let first = if test.is_large { MANY - 1 } else { 0 };
     for n in first..MANY {
-        let mut guardian = guardian_after(setting.heap, row.before.as_str())?;
-        let mut writer = FailStop::new(Vec::new(setting.texts.room()));
-        setting.allowing(n).limit();
-        let ran = run_serial(setting.heap, &mut guardian, &script, &mut writer);
-        setting.lift();
-        let told = from_utf8(writer.get_ref())?;
-        match ran {
-            Ok(()) => return compare(rt, told, row.wanted.as_str()),
-            Err(RunFault::Memory) => {
-                ensure!(row.wanted.as_str().starts_with(told), "other lines: {told}");
-            }
-            Err(fault) => bail!("{fault}"),
+        if run_once(rt, setting.allowing(n), test.lines, script, wanted)? {
+            return Ok(());
         }
     }
-    bail!("memory is wanting, whatever is allowed")
+    Err(RowFault::NeverAnswered)
+}
+
+// Whether there was memory for the run.
+fn run_once(
+    rt: &impl Print,
+    setting: Setting,
+    lines: &str,
+    script: &Script,
+    wanted: &str,
+) -> Result<bool> {
+    let mut guardian = guardian_after(setting.heap, lines)?;
+    let mut writer = FailStop::new(Vec::new(setting.texts.room()));
+    setting.limit();
+    let ran = run_serial(setting.heap, &mut guardian, script, &mut writer);
+    setting.lift();
+    let told = from_utf8(writer.get_ref()).unwrap_or("no text");
+    match ran {
+        Ok(()) => {
+            compare(rt, told, wanted)?;
+            Ok(true)
+        }
+        Err(RunFault::Memory) if wanted.starts_with(told) => Ok(false),
+        Err(RunFault::Memory) => Err(RowFault::Changed),
+        Err(RunFault::Write) => Err(RowFault::Stream),
+    }
 }

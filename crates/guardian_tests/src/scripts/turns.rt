@@ -1,10 +1,12 @@
 //! `Turns`: a gate that does what a row says when arms come to steps.
 
-use crate::scripts::workers::hold::Hold;
-use crate::scripts::workers::place::Place;
+use crate::row_fault::Result;
+use crate::scripts::hold::Hold;
+use crate::scripts::place::Place;
 use crate::setting::Setting;
+use crate::word_reading::first_word;
 use argus_commands::Gate;
-use argus_values::{Heap, OutOfMemory, Room};
+use argus_values::{Heap, Room};
 use std::sync::atomic::{AtomicU64, Ordering};
 use std::thread::yield_now;
 
@@ -18,9 +20,9 @@ const ARMS: u32 = 16;
 /// million turns, each of which yields, the gate gives up.
 ///
 /// ```text
-/// let gate = Turns::new(setting, row.holds.as_slice())?;
-/// let ran = Run::made(rt, plan, &gate)?;
-/// ensure!(!gate.gave_up(), "an arm is held up for ever");
+/// let gate = Turns::new(setting, test.lines)?;
+/// let run = Run::made(rt, plan, &gate)?;
+/// assert!(rt; !gate.gave_up());
 /// ```
 #[derive(Drop)]
 pub(crate) struct Turns {
@@ -33,17 +35,14 @@ pub(crate) struct Turns {
 }
 
 impl Turns {
-    pub(crate) fn new(setting: Setting, holds: &[Hold]) -> Result<Turns, OutOfMemory> {
-        let mut turns = Turns {
-            holds: Vec::new(setting.texts.room()),
+    /// The gate of a test with these lines.
+    pub(crate) fn new(setting: Setting, lines: &str) -> Result<Turns> {
+        Ok(Turns {
+            holds: holds_in(setting.texts, lines)?,
             come: no_steps(setting.texts)?,
             given_up: AtomicU64::new(0),
             setting,
-        };
-        for hold in holds {
-            turns.holds.push(*hold)?;
-        }
-        Ok(turns)
+        })
     }
 
     /// Whether an arm was held up too long.
@@ -105,8 +104,20 @@ impl Gate for Turns {
     }
 }
 
+fn holds_in(texts: Heap, lines: &str) -> Result<Vec<Hold, Room>> {
+    let mut holds = Vec::new(texts.room());
+    for line in lines.lines() {
+        let (word, rest) = first_word(line);
+        match word {
+            "#" | "workers" | "before" | "|" | "=" => {}
+            _ => holds.push(Hold::of_words(word, rest)?)?,
+        }
+    }
+    Ok(holds)
+}
+
 // No arm has come to a step.
-fn no_steps(heap: Heap) -> Result<Vec<AtomicU64, Room>, OutOfMemory> {
+fn no_steps(heap: Heap) -> Result<Vec<AtomicU64, Room>> {
     let mut come = Vec::new(heap.room());
     for _arm in 0..ARMS {
         come.push(AtomicU64::new(0))?;

@@ -1,7 +1,7 @@
 //! `Hold`: what happens when an arm comes to a step.
 
 use crate::row_fault::{Result, RowFault};
-use crate::scripts::workers::place::Place;
+use crate::scripts::place::Place;
 
 /// What happens when an arm comes to a step.
 ///
