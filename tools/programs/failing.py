@@ -1,6 +1,6 @@
 """The programs at their work, with each allocation refused in turn, each read failing, and a writer that is full.
 
-A row's script is run by one worker and by two, listed, replayed and drawn. A library that is laid before the C
+A row's script is run by one worker and by two, listed, replayed, also from a log in a database, and drawn. A library that is laid before the C
 library's (failing.c, by LD_PRELOAD) has an allocation, a read or a write fail, and counts how often one did. So it
 needs a compiler for C, and programs that are linked with the C library when they start, as the kit's are.
 
@@ -11,8 +11,8 @@ What fails, and what has to come of it:
 
 - All allocations; all but the first; all but the first two; and so on, on any thread, also those for the words of the
   command line: status 4, `out of memory`, and a prefix is written.
-- Each read of standard input in turn, and each of the script's file, where a read returns at most seven bytes: status
-  5, `read fault` or `script: read fault`; nothing is written, and no read is tried again.
+- Each read of standard input in turn, and each of a script's or a database's file, where a read returns at most seven
+  bytes: status 5, `read fault` or `script: read fault`; nothing is written, and no read is tried again.
 - A write, where there is room for 0 bytes, 1, 2, .. (in STEPS), by an error or since it accepts nothing, where a write
   accepts at most two bytes: status 5, `write fault`, exactly these bytes are written, and no write is tried again.
 
@@ -30,6 +30,7 @@ from pathlib import Path
 from tempfile import NamedTemporaryFile, TemporaryDirectory
 
 from calling import JOURNAL, Ended, Programs, Trial, shortened
+from logs import write_log
 from scripts import script_of
 from spelling import tests_of
 
@@ -42,13 +43,13 @@ STEPS = ((300, 1), (1_000, 7), (1_000_000, 97))
 
 @dataclass(frozen=True)
 class Work:
-    """What is made of a script or, except by argus, of its journal: by which program, with which words, and whether
-    the script is in a file that is read first."""
+    """What is made of a script or, except by argus, of its journal: by which program, with which words, and with which
+    option for a file: the script, or a database with the journal."""
 
     name: str
     program: str
     words: list[bytes]
-    has_file: bool = False
+    option: bytes = b""
 
 
 WORKS = (
@@ -57,8 +58,9 @@ WORKS = (
     Work("journal", "argus", JOURNAL),
     Work("audit, behind a checkpoint", "argus", [b"--list", b"audit", b"--checkpoint"]),
     Work("a replay", "replay", [b"--list", b"stacks"]),
+    Work("a log's replay", "replay", [b"--list", b"stacks"], b"--database"),
     Work("a picture", "picture", []),
-    Work("a picture with names", "picture", [], has_file=True),
+    Work("a picture with names", "picture", [], b"--script"),
 )
 
 # It is called with a kind of failure and with how many are done before, as failing.c has them. How the program ended,
@@ -71,9 +73,12 @@ def trials(path: Path) -> Iterator[Trial]:
     for test in tests_of(path):
         script = script_of(test).given
         for work in WORKS:
-            parts = [("memory", refused), ("reads", partial(unread, "i", b"read fault\n"))]
-            if work.has_file:
-                parts.append(("reads of the script", partial(unread, "f", b"script: read fault\n")))
+            parts = [("memory", refused)]
+            if work.option != b"--database":
+                parts.append(("reads", partial(unread, "i", b"read fault\n")))
+            if work.option:
+                message = b"script: read fault\n" if work.option == b"--script" else b"read fault\n"
+                parts.append(("reads of the file", partial(unread, "f", message)))
             parts += [("a full writer", partial(full, "w")), ("a writer that accepts nothing", partial(full, "n"))]
             for part, check in parts:
                 yield f"{test.name}, {work.name}: {part}", partial(tried, script, work, check)
@@ -109,9 +114,11 @@ def tried(script: bytes, work: Work, check: Callable[[Attempt, bytes], str], pro
 def attempts(script: bytes, work: Work, given: bytes, programs: Programs) -> Iterator[Attempt]:
     """The work with this input, for one thread."""
     with NamedTemporaryFile() as file, NamedTemporaryFile() as count:
-        file.write(script)
-        file.flush()
-        words = [*work.words, b"--script", file.name.encode()] if work.has_file else work.words
+        if work.option == b"--database":
+            write_log(Path(file.name), given.decode())
+        else:
+            Path(file.name).write_bytes(script)
+        words = [*work.words, work.option, file.name.encode()] if work.option else work.words
 
         def attempt(kind: str, done: int) -> tuple[Ended, int]:
             Path(count.name).write_bytes(bytes(8))

@@ -35,9 +35,19 @@ pub enum DatabaseFault {
     Read,
 }
 
+// What the disk of a copy in memory lacks is memory.
+const WITHOUT_MEMORY: [ErrorCode; 3] = [
+    ErrorCode::OutOfMemory,
+    ErrorCode::DiskFull,
+    ErrorCode::SystemIoFailure,
+];
+
 impl From<Error> for DatabaseFault {
     fn from(error: Error) -> DatabaseFault {
-        if error == Error::SqliteFailure(ErrorCode::OutOfMemory) {
+        if WITHOUT_MEMORY
+            .iter()
+            .any(|code| error == Error::SqliteFailure(*code))
+        {
             DatabaseFault::OutOfMemory
         } else if let Error::SqlInputError(_) = error {
             DatabaseFault::NoLog
