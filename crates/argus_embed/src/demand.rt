@@ -1,7 +1,7 @@
 //! `Demand`: what an outcome must be for the calls after it to be made.
 
 ghost use Rattle.std.specs.Prelude.{◌≡◌};
-ghost use Rattle.argus_embed.specs.CallEach.{demand_of, is_no_refusal, is_no_signal, meets};
+ghost use Rattle.argus_embed.specs.CallEach.{demand_of, meets};
 
 use crate::outcome::Outcome;
 
@@ -31,42 +31,9 @@ impl Demand {
         ensures { result ≡ meets self outcome }
     {
         match self {
-            Demand::NoRefusal => is_no_refusal(outcome),
+            Demand::NoRefusal => !matches!(outcome, Outcome::Refused(_)),
             Demand::Nothing => true,
-            Demand::NoSignal => is_no_signal(outcome),
+            Demand::NoSignal => !matches!(outcome, Outcome::Refused(_) | Outcome::Signal(_)),
         }
-    }
-}
-
-fn is_no_refusal(outcome: Outcome) -> bool
-    ensures { result ≡ is_no_refusal outcome }
-{
-    match outcome {
-        Outcome::Refused(_) => false,
-        Outcome::Done
-        | Outcome::Object(_)
-        | Outcome::Action(_)
-        | Outcome::Number(_)
-        | Outcome::Flag(_)
-        | Outcome::Value
-        | Outcome::Content
-        | Outcome::Text
-        | Outcome::Signal(_) => true,
-    }
-}
-
-fn is_no_signal(outcome: Outcome) -> bool
-    ensures { result ≡ is_no_signal outcome }
-{
-    match outcome {
-        Outcome::Refused(_) | Outcome::Signal(_) => false,
-        Outcome::Done
-        | Outcome::Object(_)
-        | Outcome::Action(_)
-        | Outcome::Number(_)
-        | Outcome::Flag(_)
-        | Outcome::Value
-        | Outcome::Content
-        | Outcome::Text => true,
     }
 }
