@@ -1,50 +1,56 @@
--- The boxes that handles own: rows of what is in them, with the heap.
-use mir.Syntax.{dnil, impl, tnil}
-use mathlib.Core.Bool.{true≢false}
-use mathlib.Core.List.{[]}
-use mathlib.Core.Path.{◌≡◌, refl, sym}
-use denote.Param.Laws.{Laws}
-use denote.RattleType.{RattleType}
-use denote.Signature.{Slot, plain}
-use Rattle.std.specs.Prelude.{IsSome, None, Option, Some}
-use Rattle.std_alloc.proofs.BoxSteps.Form.{Bx}
-use Rattle.std_heap.specs.contracts.Global as Heap
-use Rattle.std_heap.specs.contracts.GlobalAllocator.TheImpl.{dict, ghosts}
-use Rattle.std_heap.proofs.Global.TheLaws as heap
+-- The handles, with what is in the box of each.
 use Rattle.argus_embed.specs.contracts.embedded.Embedded as Embedded
 use Rattle.argus_embed.proofs.embedded.Embedded.TheLaws as embedded
 use Rattle.argus_embed.specs.contracts.parsed_call.ParsedCall as ParsedCall
 use Rattle.argus_embed.proofs.parsed_call.ParsedCall.TheLaws as parsed_call
+use Rattle.argus_c.specs.contracts.held.Held as Held
+use Rattle.argus_c.specs.contracts.held_parsed.HeldParsed as HeldParsed
+use Rattle.argus_c.specs.contracts.held_ready.HeldReady as HeldReady
 use Rattle.argus_c.specs.contracts.ready_guardian.ReadyGuardian as ReadyGuardian
 use Rattle.argus_c.proofs.ready_guardian.ReadyGuardian.TheLaws as ready_guardian
-use Rattle.argus_c.specs.contracts.raw_box.RawBox as RawBox
+use Rattle.argus_c.proofs.{Handles.Handle, Steps.refl}
 
-abbrev boxed : (row : RattleType) → Laws row → Bx
-boxed row laws = record {
-  row = row;
-  laws = laws;
-  al = record {
-    row = Heap.the_row;
-    laws = heap.the_row_laws;
-    g = ghosts;
-    d = dict;
-    drops = impl [] tnil dnil;
-  };
+abbrev pub guardian_handle : Handle
+guardian_handle = record {
+  inner = Embedded.the_row;
+  laws = embedded.the_row_laws;
+  type = Held.the_type;
+  to = λ d. (d.at, d.alloc, d.store);
+  from = λ h. record { at = h.0; alloc = h.1; store = h.2 };
+  owns = λ h ws. refl;
+  is = λ d. refl;
+  keeps = λ h. refl;
+  parts = λ v ws. refl;
+  last = λ d. tt;
+  silent = λ d f. refl;
 }
 
-abbrev pub guardian_box : Bx
-guardian_box = boxed Embedded.the_row embedded.the_row_laws
+abbrev pub parsed_handle : Handle
+parsed_handle = record {
+  inner = ParsedCall.the_row;
+  laws = parsed_call.the_row_laws;
+  type = HeldParsed.the_type;
+  to = λ d. (d.at, d.alloc, d.store);
+  from = λ h. record { at = h.0; alloc = h.1; store = h.2 };
+  owns = λ h ws. refl;
+  is = λ d. refl;
+  keeps = λ h. refl;
+  parts = λ v ws. refl;
+  last = λ d. tt;
+  silent = λ d f. refl;
+}
 
-abbrev pub ready_box : Bx
-ready_box = boxed ReadyGuardian.the_row ready_guardian.the_row_laws
-
-abbrev pub parsed_box : Bx
-parsed_box = boxed ParsedCall.the_row parsed_call.the_row_laws
-
--- a box taken apart
-abbrev pub parts_of : Bx → Slot 0
-parts_of E = plain (λ _. RawBox.the_row E.row Heap.the_row ghosts)
-
-pub some_of : {A : Type 0} (o : Option A) → IsSome o → (x : A) × (o ≡ Some x)
-some_of (Some x) is = (x, refl)
-some_of None is = absurd (true≢false (sym is))
+abbrev pub ready_handle : Handle
+ready_handle = record {
+  inner = ReadyGuardian.the_row;
+  laws = ready_guardian.the_row_laws;
+  type = HeldReady.the_type;
+  to = λ d. (d.at, d.alloc, d.store);
+  from = λ h. record { at = h.0; alloc = h.1; store = h.2 };
+  owns = λ h ws. refl;
+  is = λ d. refl;
+  keeps = λ h. refl;
+  parts = λ v ws. refl;
+  last = λ d. tt;
+  silent = λ d f. refl;
+}

@@ -1,4 +1,4 @@
 pub mod Steps
+pub mod Handles
 pub mod Boxes
-pub mod Entering
 pub mod Crossing
