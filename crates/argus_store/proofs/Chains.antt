@@ -1,8 +1,8 @@
 -- What the loops over a log's rows keep, and how a line begins.
-use Rattle.std.proofs.Common.{◌≡◌, ◌↔◌, ◌++◌, ◌+◌, ℕ, pos, List, [], ◌∷◌, map, flat_map, codes, IsTrue, false, refl}
-use Rattle.std.proofs.Common.{sym, ap, ap₂, subst, ◌∙◌, append_assoc, append-nil, inl, inr, Bool, Option, Some, None, is_some}
+use Rattle.std.proofs.Common.{◌≡◌, ◌≢◌, ◌↔◌, ◌++◌, ◌+◌, ℕ, pos, List, [], ◌∷◌, map, flat_map, codes, IsTrue, false, refl}
+use Rattle.std.proofs.Common.{sym, ap, subst, ◌∙◌, append_assoc, append-nil, inl, inr, Bool, Option, Some, None, is_some}
 use Rattle.std.specs.{Borrow.Bor, Option.MatchOption}
-use Rattle.std.proofs.lemmas.List.{append_cancel_left}
+use Rattle.std.proofs.lemmas.List.{append_cancel_left, append_cancel_right}
 use Rattle.sqlite.specs.Order.{Row}
 use Rattle.sqlite.specs.declared.types.Value.TheVariants.{Int}
 use Rattle.argus_store.specs.{declared.end.End.End, End.end_after}
@@ -11,8 +11,7 @@ use Rattle.argus_store.specs.declared.faulty_row.FaultyRow.{FaultyRow}
 use Rattle.argus_store.specs.declared.faulty_row.Table.TheVariants.{Opening}
 use Rattle.argus_store.specs.declared.faulty_row.RowFault.TheVariants.{Number}
 use Rattle.argus_store.specs.Chain.{AreInPlace, IsOutOfPlace, Follow, IsFirstWrong, IsNext, IsWrong, ended, faulty, joined}
-use Rattle.argus_store.specs.Chain.{begins_after}
-use Rattle.argus_store.specs.{RowLine.{HaveLines, as_line}, Listing.HasNoListing, Summing.log_sum}
+use Rattle.argus_store.specs.{RowLine.{HaveLines, as_line}, Listing.HasNoListing}
 use Rattle.argus_store.specs.declared.listing_error.ListingError.{ListingError}
 use Rattle.argus_store.specs.declared.listing_error.ListingError.TheVariants as error
 
@@ -38,20 +37,20 @@ tells p s (Some x) is = (λ _. (x.now, is), λ _. refl)
 
 -- ---- the rows that are left
 
-abbrev pub line_texts : List OpeningLine → List ℕ
-line_texts = flat_map (λ (l : OpeningLine). codes "\n" ++ l.text)
+abbrev pub ended_texts : List OpeningLine → List ℕ
+ended_texts = flat_map (λ (l : OpeningLine). ended l.text)
 
 abbrev pub batch_texts : List Batch → List ℕ
 batch_texts = flat_map (λ (b : Batch). ended b.lines)
 
 -- what is said of the lines that are left is so of all
-pub record LinesLeft (from : ℕ) (ls : List OpeningLine) (before : List ℕ) (at : ℕ) (rest : List Row) (text : List ℕ)
+pub record LinesLeft (ls : List OpeningLine) (before : List ℕ) (at : ℕ) (rest : List Row) (text : List ℕ)
     : Type 0 where
   pub left : List OpeningLine
   pub rows : rest ≡ map shown_line left
-  pub in_place : AreInPlace at left → AreInPlace from ls
-  pub out : (fault : FaultyRow) → IsOutOfPlace at left fault → IsOutOfPlace from ls fault
-  pub texts : text ++ line_texts left ≡ before ++ line_texts ls
+  pub in_place : AreInPlace at left → AreInPlace 0 ls
+  pub out : (fault : FaultyRow) → IsOutOfPlace at left fault → IsOutOfPlace 0 ls fault
+  pub texts : text ++ ended_texts left ≡ before ++ ended_texts ls
 
 -- and of the batches
 pub record BatchesLeft (name : List ℕ) (start : End) (bs : List Batch) (before : List ℕ) (at : End) (rest : List Row)
@@ -63,14 +62,14 @@ pub record BatchesLeft (name : List ℕ) (start : End) (bs : List Batch) (before
   pub texts : text ++ batch_texts left ≡ before ++ batch_texts bs
 
 -- the first of them, and the others
-pub record NextLine (from : ℕ) (ls : List OpeningLine) (before : List ℕ) (at : ℕ) (row : Row) (more : List Row)
+pub record NextLine (ls : List OpeningLine) (before : List ℕ) (at : ℕ) (row : Row) (more : List Row)
     (text : List ℕ) : Type 0 where
   pub line : OpeningLine
   pub row_is : row ≡ shown_line line
   pub wrong : ¬ (line.number ≡ pos at) → (fault : FaultyRow) → fault
-      ≡ faulty Opening line.number Number → IsOutOfPlace from ls fault
-  pub then : line.number ≡ pos at → (after : List ℕ) → after ≡ text ++ (codes "\n" ++ line.text)
-      → LinesLeft from ls before (at + 1) more after
+      ≡ faulty Opening line.number Number → IsOutOfPlace 0 ls fault
+  pub then : line.number ≡ pos at → (after : List ℕ) → after ≡ text ++ ended line.text
+      → LinesLeft ls before (at + 1) more after
 
 pub record NextBatch (name : List ℕ) (start : End) (bs : List Batch) (before : List ℕ) (at : End) (row : Row)
     (more : List Row) (text : List ℕ) : Type 0 where
@@ -86,13 +85,13 @@ head_is x y xs ys h = let e = h in cc
 tail_is : {X : Type 0} (x y : X) (xs ys : List X) → x ∷ xs ≡ y ∷ ys → xs ≡ ys
 tail_is x y xs ys h = let e = h in cc
 
-pub next_line : (from : ℕ) (ls : List OpeningLine) (before : List ℕ) (at : ℕ) (row : Row) (more : List Row)
-    (text : List ℕ) → LinesLeft from ls before at (row ∷ more) text → NextLine from ls before at row more text
-next_line from ls before at row more text it = go it.left it.rows it.in_place it.out it.texts
+pub next_line : (ls : List OpeningLine) (before : List ℕ) (at : ℕ) (rest : List Row) (row : Row) (more : List Row)
+    (text : List ℕ) → rest ≡ row ∷ more → LinesLeft ls before at rest text → NextLine ls before at row more text
+next_line ls before at rest row more text is it = go it.left (sym is ∙ it.rows) it.in_place it.out it.texts
   where
-    go : (left : List OpeningLine) → row ∷ more ≡ map shown_line left → (AreInPlace at left → AreInPlace from ls)
-        → ((fault : FaultyRow) → IsOutOfPlace at left fault → IsOutOfPlace from ls fault)
-        → text ++ line_texts left ≡ before ++ line_texts ls → NextLine from ls before at row more text
+    go : (left : List OpeningLine) → row ∷ more ≡ map shown_line left → (AreInPlace at left → AreInPlace 0 ls)
+        → ((fault : FaultyRow) → IsOutOfPlace at left fault → IsOutOfPlace 0 ls fault)
+        → text ++ ended_texts left ≡ before ++ ended_texts ls → NextLine ls before at row more text
     go [] rows in_place out texts = absurd (let e = rows in cc)
     go (l ∷ left) rows in_place out texts = record {
       line = l;
@@ -103,14 +102,15 @@ next_line from ls before at row more text it = go it.left it.rows it.in_place it
         rows = tail_is row (shown_line l) more (map shown_line left) rows;
         in_place = λ all. in_place (same, all);
         out = λ fault h. out fault (inr (same, h));
-        texts = ap (λ t. t ++ line_texts left) is ∙ append_assoc text (codes "\n" ++ l.text) (line_texts left) ∙ texts;
+        texts = ap (λ t. t ++ ended_texts left) is ∙ append_assoc text (ended l.text) (ended_texts left) ∙ texts;
       };
     }
 
-pub next_batch : (name : List ℕ) (start : End) (bs : List Batch) (before : List ℕ) (at : End) (row : Row)
-    (more : List Row) (text : List ℕ) → BatchesLeft name start bs before at (row ∷ more) text
+pub next_batch : (name : List ℕ) (start : End) (bs : List Batch) (before : List ℕ) (at : End) (rest : List Row)
+    (row : Row) (more : List Row) (text : List ℕ) → rest ≡ row ∷ more → BatchesLeft name start bs before at rest text
     → NextBatch name start bs before at row more text
-next_batch name start bs before at row more text it = go it.left it.rows it.follow it.wrong it.texts
+next_batch name start bs before at rest row more text is it =
+    go it.left (sym is ∙ it.rows) it.follow it.wrong it.texts
   where
     go : (left : List Batch) → row ∷ more ≡ map shown_batch left
         → ((end : End) → Follow name at left end → Follow name start bs end)
@@ -131,19 +131,10 @@ next_batch name start bs before at row more text it = go it.left it.rows it.foll
     }
 
 -- at the end nothing is left
-pub no_line : (from : ℕ) (ls : List OpeningLine) (before : List ℕ) (at : ℕ) (text : List ℕ)
-    → LinesLeft from ls before at [] text → (text ≡ before ++ line_texts ls) × AreInPlace from ls
-no_line from ls before at text it = go it.left it.rows it.in_place it.texts
-  where
-    go : (left : List OpeningLine) → [] ≡ map shown_line left → (AreInPlace at left → AreInPlace from ls)
-        → text ++ line_texts left ≡ before ++ line_texts ls → (text ≡ before ++ line_texts ls) × AreInPlace from ls
-    go [] rows in_place texts = (sym (append-nil text) ∙ texts, in_place tt)
-    go (l ∷ left) rows in_place texts = absurd (let e = rows in cc)
-
-pub no_batch : (name : List ℕ) (start : End) (bs : List Batch) (before : List ℕ) (at : End) (text : List ℕ)
-    → BatchesLeft name start bs before at [] text
+pub no_batch : (name : List ℕ) (start : End) (bs : List Batch) (before : List ℕ) (at : End) (rest : List Row)
+    (text : List ℕ) → rest ≡ [] → BatchesLeft name start bs before at rest text
     → Follow name start bs at × (text ≡ before ++ batch_texts bs)
-no_batch name start bs before at text it = go it.left it.rows it.follow it.texts
+no_batch name start bs before at rest text is it = go it.left (sym is ∙ it.rows) it.follow it.texts
   where
     go : (left : List Batch) → [] ≡ map shown_batch left
         → ((end : End) → Follow name at left end → Follow name start bs end)
@@ -173,57 +164,26 @@ pub weaker : (P Q : FaultyRow → Type 0) → ((fault : FaultyRow) → P fault �
 weaker P Q f (error.Row fault) h = f fault h
 weaker P Q f error.OutOfMemory h = tt
 
--- ---- the opening
+-- ---- the opening's lines, joined
 
-pub no_lines : (ls : List OpeningLine) → [] ≡ map shown_line ls → ls ≡ []
-no_lines [] is = refl
-no_lines (l ∷ ls) is = absurd (let e = is in cc)
-
-pub record Lines (row : Row) (more : List Row) (ls : List OpeningLine) : Type 0 where
-  pub first : OpeningLine
-  pub others : List OpeningLine
-  pub row_is : row ≡ shown_line first
-  pub more_are : more ≡ map shown_line others
-  pub all : first ∷ others ≡ ls
-
-pub some_lines : (row : Row) (more : List Row) (ls : List OpeningLine) → row ∷ more ≡ map shown_line ls
-    → Lines row more ls
-some_lines row more [] is = absurd (let e = is in cc)
-some_lines row more (l ∷ ls) is = record {
-  first = l;
-  others = ls;
-  row_is = head_is row (shown_line l) more (map shown_line ls) is;
-  more_are = tail_is row (shown_line l) more (map shown_line ls) is;
-  all = refl;
-}
-
-abbrev pub ended_texts : List OpeningLine → List ℕ
-ended_texts = flat_map (λ (l : OpeningLine). ended l.text)
+abbrev line_texts : List OpeningLine → List ℕ
+line_texts = flat_map (λ (l : OpeningLine). codes "\n" ++ l.text)
 
 shifted_feed : (ls : List OpeningLine) → codes "\n" ++ ended_texts ls ≡ line_texts ls ++ codes "\n"
 shifted_feed [] = refl
 shifted_feed (m ∷ ms) = ap (λ t. 10 ∷ t) (append_assoc m.text (codes "\n") (ended_texts ms)
     ∙ ap (λ t. m.text ++ t) (shifted_feed ms) ∙ sym (append_assoc m.text (line_texts ms) (codes "\n")))
 
-pub joined_ended : (l : OpeningLine) (ls : List OpeningLine) → joined (l ∷ ls) ++ codes "\n" ≡ ended_texts (l ∷ ls)
+joined_ended : (l : OpeningLine) (ls : List OpeningLine) → joined (l ∷ ls) ++ codes "\n" ≡ ended_texts (l ∷ ls)
 joined_ended l ls = append_assoc l.text (line_texts ls) (codes "\n")
     ∙ ap (λ t. l.text ++ t) (sym (shifted_feed ls)) ∙ sym (append_assoc l.text (codes "\n") (ended_texts ls))
 
-pub feed_ends : (row : Row) (more : List Row) (ls : List OpeningLine) (before after : List ℕ)
-    → row ∷ more ≡ map shown_line ls
-    → before ≡ joined ls → after ≡ before ++ codes "\n" → after ≡ ended_texts ls
-feed_ends row more [] before after is joins made = absurd (let e = is in cc)
-feed_ends row more (l ∷ ls) before after is joins made = made ∙ ap (λ t. t ++ codes "\n") joins ∙ joined_ended l ls
+pub feed_off : (ls : List OpeningLine) (lines : List ℕ) → lines ++ codes "\n" ≡ ended_texts ls → lines ≡ joined ls
+feed_off [] [] is = absurd (let e = is in cc)
+feed_off [] (x ∷ lines) is = absurd (let e = is in cc)
+feed_off (l ∷ ls) lines is = append_cancel_right lines (joined (l ∷ ls)) (codes "\n") (is ∙ sym (joined_ended l ls))
 
-pub nothing_ended : (ls : List OpeningLine) (before : List ℕ) → [] ≡ map shown_line ls → before ≡ joined ls
-    → before ≡ ended_texts ls
-nothing_ended [] before is joins = joins
-nothing_ended (l ∷ ls) before is joins = absurd (let e = is in cc)
-
--- where the chain begins
-pub start_is : (name own text : List ℕ) (ls : List OpeningLine) (entry : ℕ) → own ≡ name → text ≡ joined ls
-    → record { next = entry; sum = log_sum name entry 0 text } ≡ begins_after own ls entry
-start_is name own text ls entry same joins = ap₂ (λ n t. begins n entry t) (sym same) joins
-  where
-    begins : List ℕ → ℕ → List ℕ → End
-    begins n e t = record { next = e; sum = log_sum n e 0 t }
+pub no_feed : (ls : List OpeningLine) (text : List ℕ) → ((front : List ℕ) → text ≢ front ++ codes "\n")
+    → text ≡ ended_texts ls → text ≡ joined ls
+no_feed [] text none is = is
+no_feed (l ∷ ls) text none is = absurd (none (joined (l ∷ ls)) (is ∙ sym (joined_ended l ls)))

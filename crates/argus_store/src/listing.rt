@@ -9,8 +9,7 @@ ghost use Rattle.argus_store.specs.{End.end_after, Listing.{AreOf, HasNoListing}
 ghost use Rattle.argus_store.specs.declared.listing_error.ListingError.TheVariants as error;
 ghost use Rattle.argus_store.specs.Chain.{AreInPlace, BeginsElsewhere, Follow, IsChained, IsFirstFaulty};
 ghost use Rattle.argus_store.specs.Chain.{IsFirstWrong, IsNext, IsOtherEnd, IsOutOfPlace, IsWrong};
-ghost use Rattle.argus_store.specs.Chain.{ended, faulty, StandsBefore, joined, listing_of};
-ghost use Rattle.argus_store.specs.Summing.{log_sum};
+ghost use Rattle.argus_store.specs.Chain.{begins_after, ended, faulty, StandsBefore, joined, listing_of};
 
 use crate::end::End;
 use crate::faulty_row::{FaultyRow, RowFault, Table};
@@ -42,37 +41,33 @@ pub fn listing_text(
     ensures faulty { (j : Journal) → AreOf j head.now opening.now batches.now
         → IfErr result (HasNoListing (IsFirstFaulty j)) }
 {
-    let mut text = join(alloc, opening)?;
+    let mut text = Vec::new(alloc);
+    push_lines(&mut text, opening)?;
     let entry = entry_behind(head, opening, batches)?;
     let start = start_of(head.name.as_str(), entry, text.as_slice());
-    end_last(&mut text, opening)?;
     let end = push_batches(&mut text, head.name.as_str(), start, batches)?;
-    match compare_ends(head.end, end) {
-        Ok(()) => Ok(text),
-        Err(error) => Err(error),
-    }
+    compare_ends(head.end, end)?;
+    Ok(text)
 }
 
 // Where the chain begins: behind the opening's lines, of which this is the text.
 fn start_of(name: &str, entry: u64, text: &[u8]) -> End
-    ensures { result ≡ record { next = entry; sum = log_sum name.now entry 0 text.now } }
+    ensures { (ls : List OpeningLine) → text.now ≡ flat_map (λ (l : OpeningLine). ended l.text) ls
+        → result ≡ begins_after name.now ls entry }
 {
     End {
         next: entry,
-        sum: sum_of(name.as_bytes(), entry, 0, text),
+        sum: sum_of(name.as_bytes(), entry, 0, without_last_feed(text)),
     }
 }
 
-// Appends the line feed behind the opening's last line.
-fn end_last(text: &mut Vec<u8>, opening: &[Row]) -> Result<(), ListingError>
-    ensures ended { (ls : List OpeningLine) → opening.now ≡ map shown_line ls
-        → text.old.items ≡ joined ls
-        → OnOk result (text.new.items ≡ flat_map (λ (l : OpeningLine). ended l.text) ls) }
-    ensures failed { IfErr result (λ e. e ≡ error.OutOfMemory) }
+fn without_last_feed(text: &[u8]) -> &[u8]
+    ensures { (ls : List OpeningLine) → text.now ≡ flat_map (λ (l : OpeningLine). ended l.text) ls
+        → result.now ≡ joined ls }
 {
-    match split(opening) {
-        Some(_) => append(text, b"\n"),
-        None => Ok(()),
+    match text.strip_suffix(b"\n") {
+        Some(lines) => lines,
+        None => text,
     }
 }
 
@@ -106,61 +101,18 @@ fn append(text: &mut Vec<u8>, more: &[u8]) -> Result<(), ListingError>
     }
 }
 
-// The opening's lines, with a line feed between any two.
-fn join(alloc: Global, rows: &[Row]) -> Result<Vec<u8>, ListingError>
-    ensures joined { (ls : List OpeningLine) → rows.now ≡ map shown_line ls
-        → IfOk result (λ text. (text.items ≡ joined ls) × AreInPlace 0 ls) }
-    ensures faulty { (ls : List OpeningLine) → rows.now ≡ map shown_line ls
-        → IfErr result (HasNoListing (IsOutOfPlace 0 ls)) }
-{
-    let mut text = Vec::new(alloc);
-    match push_opening(&mut text, rows) {
-        Ok(()) => Ok(text),
-        Err(error) => Err(error),
-    }
-}
-
-fn push_opening(text: &mut Vec<u8>, rows: &[Row]) -> Result<(), ListingError>
-    ensures pushed { (ls : List OpeningLine) → rows.now ≡ map shown_line ls
-        → OnOk result ((text.new.items ≡ text.old.items ++ joined ls) × AreInPlace 0 ls) }
-    ensures faulty { (ls : List OpeningLine) → rows.now ≡ map shown_line ls
-        → IfErr result (HasNoListing (IsOutOfPlace 0 ls)) }
-{
-    match split(rows) {
-        Some((first, more)) => push_first(text, first, more),
-        None => Ok(()),
-    }
-}
-
-// Appends the first line, and then the others.
-fn push_first(text: &mut Vec<u8>, first: &Row, more: &[Row]) -> Result<(), ListingError>
-    ensures pushed { (l : OpeningLine) (ls : List OpeningLine) → first.now ≡ shown_line l
-        → more.now ≡ map shown_line ls
-        → OnOk result ((text.new.items ≡ text.old.items ++ joined (l ∷ ls))
-        × AreInPlace 0 (l ∷ ls)) }
-    ensures faulty { (l : OpeningLine) (ls : List OpeningLine) → first.now ≡ shown_line l
-        → more.now ≡ map shown_line ls → IfErr result (HasNoListing (IsOutOfPlace 0 (l ∷ ls))) }
-{
-    match push_line(text, 0, first) {
-        Ok(()) => push_lines(text, 1, more),
-        Err(error) => Err(error),
-    }
-}
-
-// Appends a line feed and a line for each row; they have the numbers from this one on.
-fn push_lines(text: &mut Vec<u8>, from: u64, rows: &[Row]) -> Result<(), ListingError>
-    requires { from ≤ 1 }
+// Appends the opening's lines, which have the numbers from 0 on.
+fn push_lines(text: &mut Vec<u8>, rows: &[Row]) -> Result<(), ListingError>
     ensures pushed { (ls : List OpeningLine) → rows.now ≡ map shown_line ls
         → OnOk result ((text.new.items
-        ≡ text.old.items ++ flat_map (λ (l : OpeningLine). codes "\n" ++ l.text) ls)
-        × AreInPlace from ls) }
+        ≡ text.old.items ++ flat_map (λ (l : OpeningLine). ended l.text) ls) × AreInPlace 0 ls) }
     ensures faulty { (ls : List OpeningLine) → rows.now ≡ map shown_line ls
-        → IfErr result (HasNoListing (IsOutOfPlace from ls)) }
+        → IfErr result (HasNoListing (IsOutOfPlace 0 ls)) }
 {
-    let mut number = from;
+    let mut number = 0;
     let mut rest = rows;
     while let Some((row, more)) = split(rest) {
-        match push_next_line(text, number, row) {
+        match push_line(text, number, row) {
             Ok(()) => {}
             Err(error) => return Err(error),
         }
@@ -170,24 +122,11 @@ fn push_lines(text: &mut Vec<u8>, from: u64, rows: &[Row]) -> Result<(), Listing
     Ok(())
 }
 
-fn push_next_line(text: &mut Vec<u8>, number: u64, row: &Row) -> Result<(), ListingError>
-    ensures pushed { (l : OpeningLine) → row.now ≡ shown_line l
-        → OnOk result ((text.new.items ≡ text.old.items ++ (codes "\n" ++ l.text))
-        × (l.number ≡ pos number)) }
-    ensures faulty { (l : OpeningLine) → row.now ≡ shown_line l
-        → IfErr result (HasNoListing (λ fault. (l.number ≢ pos number)
-        × (fault ≡ faulty Opening l.number Number))) }
-{
-    match append(text, b"\n") {
-        Ok(()) => push_line(text, number, row),
-        Err(error) => Err(error),
-    }
-}
-
 // Appends the line of a row with this number.
 fn push_line(text: &mut Vec<u8>, number: u64, row: &Row) -> Result<(), ListingError>
     ensures pushed { (l : OpeningLine) → row.now ≡ shown_line l
-        → OnOk result ((text.new.items ≡ text.old.items ++ l.text) × (l.number ≡ pos number)) }
+        → OnOk result ((text.new.items ≡ text.old.items ++ ended l.text)
+        × (l.number ≡ pos number)) }
     ensures faulty { (l : OpeningLine) → row.now ≡ shown_line l
         → IfErr result (HasNoListing (λ fault. (l.number ≢ pos number)
         × (fault ≡ faulty Opening l.number Number))) }
@@ -198,7 +137,9 @@ fn push_line(text: &mut Vec<u8>, number: u64, row: &Row) -> Result<(), ListingEr
     let Some(line) = text_of(row) else {
         return Err(error_at(Table::Opening, key_of(row), RowFault::Kind));
     };
-    append(text, line)
+    append(text, line)?;
+    append(text, b"\n")?;
+    Ok(())
 }
 
 // The entry with which the batches begin, or the log ends if there are none, if the opening stands
@@ -251,17 +192,10 @@ fn stands_before(opening: &[Row], entry: u64) -> bool
     ensures { (ls : List OpeningLine) → opening.now ≡ map shown_line ls
         → IsTrue result ↔ StandsBefore entry ls }
 {
-    match opening {
-        [] => entry == 0,
-        [first, ..] => row_says(first, entry),
-    }
-}
-
-fn row_says(row: &Row, entry: u64) -> bool
-    ensures { (l : OpeningLine) → row.now ≡ shown_line l
-        → IsTrue result ↔ StandsBefore entry (l ∷ []) }
-{
-    match text_of(row) {
+    let [first, ..] = opening else {
+        return entry == 0;
+    };
+    match text_of(first) {
         Some(line) => says_entry(line, entry),
         None => false,
     }
@@ -271,28 +205,14 @@ fn says_entry(line: &[u8], entry: u64) -> bool
     ensures { IsTrue result ↔ ((rest : List ℕ)
         × (line.now ≡ codes "opening entries " ++ (decimal entry ++ (codes " " ++ rest)))) }
 {
-    match behind(b"opening entries ", line) {
-        Some(number) => says_number(number, entry),
-        None => false,
-    }
-}
-
-// Whether a text begins with a number and a blank.
-fn says_number(text: &[u8], entry: u64) -> bool
-    ensures { IsTrue result
-        ↔ ((rest : List ℕ) × (text.now ≡ decimal entry ++ (codes " " ++ rest))) }
-{
     let mut digits = Buffer::new();
-    match behind(digits.format(entry).as_bytes(), text) {
-        Some(end) => begins_blank(end),
-        None => false,
-    }
-}
-
-fn begins_blank(text: &[u8]) -> bool
-    ensures { IsTrue result ↔ ((rest : List ℕ) × (text.now ≡ codes " " ++ rest)) }
-{
-    behind(b" ", text).is_some()
+    let Some(number) = behind(b"opening entries ", line) else {
+        return false;
+    };
+    let Some(end) = behind(digits.format(entry).as_bytes(), number) else {
+        return false;
+    };
+    behind(b" ", end).is_some()
 }
 
 // The rest of a line that begins like this.

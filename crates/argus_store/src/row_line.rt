@@ -1,11 +1,10 @@
 //! `RowLine`: a line of a log's listing, in the row that has it.
 
 ghost use Rattle.std.specs.Prelude.{◌≡◌, ◌∷◌, ℕ, List, map};
-ghost use Rattle.argus_store.specs.declared.faulty_row.Table.TheVariants.{Batch as OfBatch};
 ghost use Rattle.sqlite.specs.declared.types.Value.{Value};
 ghost use Rattle.sqlite.specs.declared.types.Value.TheVariants.{Text as Words};
-ghost use Rattle.argus_store.specs.Journal.{Batch, Journal, OpeningLine, shown_batch, shown_line};
-ghost use Rattle.argus_store.specs.RowLine.{HaveLines, among, as_line, place, place_in};
+ghost use Rattle.argus_store.specs.Journal.{Journal, OpeningLine, shown_batch, shown_line};
+ghost use Rattle.argus_store.specs.RowLine.{HaveLines, among, place_in};
 ghost use Rattle.argus_store.specs.{Summing.entries_in};
 
 use crate::end::entries_in;
@@ -29,18 +28,8 @@ impl RowLine {
     {
         match line_among(Table::Opening, opening, line) {
             Ok(found) => Some(found),
-            Err(behind) => line_in_batch(batches, behind),
+            Err(behind) => line_among(Table::Batch, batches, behind).ok(),
         }
-    }
-}
-
-fn line_in_batch(batches: &[Row], line: u64) -> Option<RowLine>
-    ensures { (bs : List Batch) → batches.now ≡ map shown_batch bs
-        → result ≡ place (among OfBatch (map as_line bs) line) }
-{
-    match line_among(Table::Batch, batches, line) {
-        Ok(found) => Some(found),
-        Err(_) => None,
     }
 }
 

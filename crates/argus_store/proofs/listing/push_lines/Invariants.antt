@@ -4,8 +4,8 @@ use Rattle.argus_store.proofs.Chains.{LinesLeft}
 use Rattle.argus_store.proofs.listing.push_lines.Given as goal
 
 abbrev pub invariant-loop-row : goal.invariant-loop-row
-invariant-loop-row l = (l.number + length l.rest ≡ l.fn.from + length l.fn.rows)
-    × ((ls : List OpeningLine) → l.fn.rows ≡ map shown_line ls → LinesLeft l.fn.from ls l.fn.text.items l.number l.rest
+invariant-loop-row l = (l.number + length l.rest ≡ length l.fn.rows)
+    × ((ls : List OpeningLine) → l.fn.rows ≡ map shown_line ls → LinesLeft ls l.fn.text.items l.number l.rest
     l.text.items)
 
 abbrev pub decreases-loop-row : goal.decreases-loop-row
