@@ -18,7 +18,7 @@ use Rattle.sqlite.proofs.Callers.{statement_of, runs_as, one_step, one_permutati
 use Rattle.sqlite_value.proofs.OrderLemmas.{value_cmp-Int, value_cmp-Text}
 use Rattle.argus_store.specs.{Tables.{log_table, batch_table, log_schema}, Appending.{move_text, put_text, move_row}}
 use Rattle.argus_store.specs.Journal.{Batch, Journal, ending_at, batch_row, shown_batch, log_row, HoldsRows, AreBelow}
-use Rattle.argus_store.proofs.Statements.{move_query, move_program, move_is, move_plain, put_terms, put_is, put_plain}
+use Rattle.argus_store.proofs.Statements.{move_query, move_program, move_is, put_terms, put_is}
 
 either : (b : Bool) (x : Value) → cond b x x ≡ x
 either true x = refl
@@ -72,7 +72,7 @@ pub puts : (old new : State) (j : Journal) (b : Batch) (count : ℕ) → old.now
 puts old new j b count has rows below h =
     let db = old.now.trees in
     let text = statement_of put_text (understood log_schema put_text) in
-    let w = runs_as put_text (shown_batch b) old new log_schema has (Insert 2 (Values put_terms 4)) put_is put_plain
+    let w = runs_as put_text (shown_batch b) old new log_schema has (Insert 2 (Values put_terms 4)) put_is.0 put_is.1
     count h in
     let done = went (subst (λ s. Does old.step_limit (mode_of old) (shown_batch b) (record old.now { schema = s })
     text None (Insert 2 (Values put_terms 4)) (Ok (w.tally, new.now))) has w.changed) in
@@ -247,7 +247,7 @@ steps old new j e b next count has rows h =
     let db = old.now.trees in
     let params = given_row e b next in
     let text = statement_of move_text (understood log_schema move_text) in
-    let w = runs_as move_text params old new log_schema has (Update 0 move_program) move_is move_plain count h in
+    let w = runs_as move_text params old new log_schema has (Update 0 move_program) move_is.0 move_is.1 count h in
     let done = went (subst (λ s. Does old.step_limit (mode_of old) params (record old.now { schema = s }) text None
     (Update 0 move_program) (Ok (w.tally, new.now))) has w.changed) in
     let last = same_value (went (went done.2).2).2 in

@@ -15,9 +15,8 @@ use Rattle.argus_store.specs.Journal.{Journal, batch_row, line_row, shown_batch,
 use Rattle.argus_store.specs.Journal.{AreRising, first_of, number_of}
 use Rattle.argus_store.specs.Store.{HasLog}
 use Rattle.argus_store.proofs.{Changes.{one_or_none}, Logs.unchanged}
-use Rattle.argus_store.proofs.Statements.{end_text, end_query, end_is, end_plain, end_unlisted}
-use Rattle.argus_store.proofs.Statements.{ordered_query, read_text, read_terms, read_is, read_plain, read_unlisted}
-use Rattle.argus_store.proofs.Statements.{opening_text, opening_terms, opening_is, opening_plain, opening_unlisted}
+use Rattle.argus_store.proofs.Statements.{end_text, end_query, end_is, opening_text, opening_terms, opening_is}
+use Rattle.argus_store.proofs.Statements.{ordered_query, read_text, read_terms, read_is}
 
 -- of a table whose rows are kept and shown like this, in the order of their numbers
 module _ {X : Type 0} (number : X → ℤ) (kept shown : X → Row) (tree : ℕ) (project : List Term)
@@ -65,22 +64,22 @@ pub reads : (old new : State) (j : Journal) (rows : List Row) → old.now.schema
     → Shown read_text [] old new rows → rows ≡ map shown_batch j.batches
 reads old new j rows has holds h = answers first_of batch_row shown_batch 2 read_terms (λ _. refl)
     (overlay old.now.trees []) j.batches rows holds.rows.batches holds.rising
-    ((reads_as read_text [] old new log_schema has _ read_is read_plain read_unlisted rows h).answer Null)
+    ((reads_as read_text [] old new log_schema has _ read_is.0.0 read_is.0.1 read_is.1 rows h).answer Null)
 
 -- and the opening
 pub reads_opening : (old new : State) (j : Journal) (rows : List Row) → old.now.schema ≡ log_schema
     → HoldsLog old.now.trees j → Shown opening_text [] old new rows → rows ≡ map shown_line j.opening
 reads_opening old new j rows has holds h = answers number_of line_row shown_line 1 opening_terms (λ _. refl)
     (overlay old.now.trees []) j.opening rows holds.rows.opening holds.lines
-    ((reads_as opening_text [] old new log_schema has _ opening_is opening_plain opening_unlisted rows h).answer Null)
+    ((reads_as opening_text [] old new log_schema has _ opening_is.0.0 opening_is.0.1 opening_is.1 rows h).answer Null)
 
 -- and reading the log's end shows its row
 pub reads_end : (old new : State) (j : Journal) (rows : List Row) → old.now.schema ≡ log_schema
     → HoldsLog old.now.trees j → Shown end_text [] old new rows → rows ≡ shown_end j ∷ []
 reads_end old new j rows has holds h =
     let all = overlay old.now.trees [] in
-    let a : IsAnswer end_query all [] rows = (reads_as end_text [] old new log_schema has _ end_is end_plain
-    end_unlisted rows h).answer Null in
+    let a : IsAnswer end_query all [] rows = (reads_as end_text [] old new log_schema has _ end_is.0.0 end_is.0.1
+    end_is.1 rows h).answer Null in
     let one : map (output end_query) (matches_as Null all [] (inner 0 end) ([] ∷ [])) ≡ ([], shown_end j) ∷ [] =
     rw holds.rows.log refl in
     let kept : a.kept ≡ ([], shown_end j) ∷ [] = a.distinct ∙ ap (map (output end_query)) a.grouped ∙ one in

@@ -2,12 +2,19 @@
 use Rattle.std.proofs.Common.{◌≡◌, ℕ, pos, negsuc, List, [], ◌∷◌, codes, false, None, refl}
 use Rattle.sqlite.specs.{Collation.TheVariants.Binary, declared.types.Value.TheVariants.{Null, Int}}
 use Rattle.sqlite.specs.{Term.{Term, lit, col, op2}, Query.{Query, inner, end}, Source.TheVariants.Values}
-use Rattle.sqlite.specs.{Command.TheVariants.{Insert, Update, Select}, Listing.{understood, reads_listing}}
+use Rattle.sqlite.specs.{Command.{Command, TheVariants.{Insert, Update, Select}}, Listing.{understood, reads_listing}}
 use Rattle.sqlite_sql.specs.{declared.ops.BinaryOp.TheVariants.Compare, declared.ops.CompareOp.TheVariants.Eq}
 use Rattle.sqlite_schema.specs.declared.program.Program.{Program}
 use Rattle.sqlite_tied.specs.Compute.{everything}
 use Rattle.sqlite.proofs.Callers.{IsPlain, command_of}
 use Rattle.argus_store.specs.{Tables.log_schema, Appending.{move_text, put_text}}
+
+-- over the log's tables the text is this command's
+abbrev pub Means : List ℕ → Command → Type 0
+Means text command = (command_of (understood log_schema text) ≡ command) × IsPlain (understood log_schema text)
+
+abbrev pub Reads : List ℕ → Program → List (List ℕ) → Type 0
+Reads text program names = Means text (Select program names) × (reads_listing log_schema text ≡ false)
 
 -- ---- the log's end is moved
 
@@ -28,26 +35,18 @@ move_query = record {
 abbrev pub move_program : Program
 move_program = record { lets = []; body = move_query }
 
-pub move_is : command_of (understood log_schema move_text) ≡ Update 0 move_program
+pub move_is : Means move_text (Update 0 move_program)
 unfolding understood everything
-move_is = refl
-
-pub move_plain : IsPlain (understood log_schema move_text)
-unfolding understood everything
-move_plain = (refl, refl)
+move_is = (refl, (refl, refl))
 
 -- ---- a batch is put in
 
 abbrev pub put_terms : List Term
 put_terms = col 0 0 ∷ lit Null ∷ col 0 1 ∷ col 0 2 ∷ []
 
-pub put_is : command_of (understood log_schema put_text) ≡ Insert 2 (Values put_terms 4)
+pub put_is : Means put_text (Insert 2 (Values put_terms 4))
 unfolding understood everything
-put_is = refl
-
-pub put_plain : IsPlain (understood log_schema put_text)
-unfolding understood everything
-put_plain = (refl, refl)
+put_is = (refl, (refl, refl))
 
 -- ---- the log's end is read
 
@@ -60,18 +59,9 @@ end_query = record move_query { filter = []; project = col 1 2 ∷ col 1 6 ∷ c
 abbrev pub end_program : Program
 end_program = record { lets = []; body = end_query }
 
-pub end_is : command_of (understood log_schema end_text)
-    ≡ Select end_program (codes "name" ∷ codes "next_entry" ∷ codes "sum" ∷ [])
+pub end_is : Reads end_text end_program (codes "name" ∷ codes "next_entry" ∷ codes "sum" ∷ [])
 unfolding understood everything
-end_is = refl
-
-pub end_unlisted : reads_listing log_schema end_text ≡ false
-unfolding understood everything
-end_unlisted = refl
-
-pub end_plain : IsPlain (understood log_schema end_text)
-unfolding understood everything
-end_plain = (refl, refl)
+end_is = ((refl, (refl, refl)), refl)
 
 -- ---- these columns of a table's rows are read, in the order of its key
 
@@ -102,18 +92,9 @@ read_query = ordered_query 2 read_terms
 abbrev pub read_program : Program
 read_program = record { lets = []; body = read_query }
 
-pub read_is : command_of (understood log_schema read_text)
-    ≡ Select read_program (codes "first" ∷ codes "lines" ∷ codes "sum" ∷ [])
+pub read_is : Reads read_text read_program (codes "first" ∷ codes "lines" ∷ codes "sum" ∷ [])
 unfolding understood everything
-read_is = refl
-
-pub read_unlisted : reads_listing log_schema read_text ≡ false
-unfolding understood everything
-read_unlisted = refl
-
-pub read_plain : IsPlain (understood log_schema read_text)
-unfolding understood everything
-read_plain = (refl, refl)
+read_is = ((refl, (refl, refl)), refl)
 
 -- ---- the opening is read
 
@@ -126,15 +107,6 @@ opening_terms = col 1 0 ∷ col 1 2 ∷ []
 abbrev pub opening_program : Program
 opening_program = record { lets = []; body = ordered_query 1 opening_terms }
 
-pub opening_is : command_of (understood log_schema opening_text)
-    ≡ Select opening_program (codes "line" ∷ codes "text" ∷ [])
+pub opening_is : Reads opening_text opening_program (codes "line" ∷ codes "text" ∷ [])
 unfolding understood everything
-opening_is = refl
-
-pub opening_unlisted : reads_listing log_schema opening_text ≡ false
-unfolding understood everything
-opening_unlisted = refl
-
-pub opening_plain : IsPlain (understood log_schema opening_text)
-unfolding understood everything
-opening_plain = (refl, refl)
+opening_is = ((refl, (refl, refl)), refl)

@@ -3,7 +3,7 @@ use Rattle.std.proofs.Common.{[], ◌∷◌, ◌≡◌, ◌∙◌}
 use Rattle.sqlite.specs.Held.{state}
 use Rattle.argus_store.specs.Journal.{shown_end}
 use Rattle.argus_store.proofs.ReadBack.{reads_end, kept_by_reading, kept_at_fault, at_ok, at_fault}
-use Rattle.argus_store.proofs.Statements.{end_text, end_plain}
+use Rattle.argus_store.proofs.Statements.{end_text, end_is}
 use Rattle.argus_store.proofs.store.Store.head.Goals as goal
 
 pub returns-clause-found : goal.returns-clause-found
@@ -15,15 +15,15 @@ returns-clause-found g c j was clean =
 
 pub returns-clause-kept : goal.returns-clause-kept
 returns-clause-kept g c j was clean = at_ok c.head_in.result (kept_by_reading (state g.S.Store c.args.self.now)
-    (state g.S.Store c.query_all.new.self) j was end_text end_plain c.in_ok-rows.rows.items
+    (state g.S.Store c.query_all.new.self) j was end_text end_is.0.1 c.in_ok-rows.rows.items
     (rw c.self.view_is at (c.in_ok-rows.ensures.ok clean)))
 
 pub returns-clause-failed : goal.returns-clause-failed
 returns-clause-failed g c j was clean is_open = at_fault c.head_in.result (kept_by_reading
-    (state g.S.Store c.args.self.now) (state g.S.Store c.query_all.new.self) j was end_text end_plain
+    (state g.S.Store c.args.self.now) (state g.S.Store c.query_all.new.self) j was end_text end_is.0.1
     c.in_ok-rows.rows.items (rw c.self.view_is at (c.in_ok-rows.ensures.ok clean)))
 
 pub returns-in_err-rows-clause-failed : goal.returns-in_err-rows-clause-failed
 returns-in_err-rows-clause-failed g c j was clean is_open = at_fault c.from_residual.result (kept_at_fault
-    (state g.S.Store c.args.self.now) (state g.S.Store c.query_all.new.self) j was end_text end_plain
+    (state g.S.Store c.args.self.now) (state g.S.Store c.query_all.new.self) j was end_text end_is.0.1
     c.in_err-rows.field-0.0 (rw c.self.view_is at (c.in_err-rows.ensures.err clean)) is_open)
