@@ -1,6 +1,7 @@
 pub mod Statements
 pub mod Changes
 pub mod Logs
+pub mod Transaction
 pub mod ReadBack
 pub mod Makes
 pub mod Restarts

@@ -1,6 +1,6 @@
 -- From one log to the next: what holds of a store after an append, whether it returned or a crash came first.
 use Rattle.std.proofs.Common.{◌≡◌, ◌≢◌, ◌≤◌, ◌<◌, ◌+◌, ◌==◌, if◌then◌else◌, inl, inr, ℕ, ℤ, pos, List, [], ◌∷◌, ◌++◌}
-use Rattle.std.proofs.Common.{arith, IsTrue, true, false, fold, sym, ap, ap₂, subst, ◌∙◌, Less, int_cmp}
+use Rattle.std.proofs.Common.{arith, IsTrue, true, false, fold, refl, sym, ap, ap₂, subst, ◌∙◌, Less, int_cmp}
 use Rattle.std.proofs.{lemmas.Cmp.int_cmp_total, lemmas.Int.ints}
 use Rattle.std.specs.List.{AllByRecursion}
 use Rattle.sqlite.specs.{Tree.Trees, Store.Ghosts, Effect.Database, State.{State, HasCleanDisk, Survives}}
@@ -40,6 +40,21 @@ longer db j b next at more up below lines rows =
       lines = lines;
     }
 
+-- what was clean later was clean before
+pub was_clean : {old new : State} {P : Trees → Type 0} → Survives old new P → HasCleanDisk new → HasCleanDisk old
+was_clean s clean = omega (arith, clean, s.clean)
+
+-- a store whose database holds the log, all of it committed
+pub has_log : (s : State) (j : Journal) (db : Database) → db.schema ≡ log_schema → HoldsLog db.trees j
+    → IsTrue s.is_open → s.in_transaction ≡ false → s.now ≡ db → s.committed ≡ db → HasLog s j
+has_log s j db schema holds is_open autocommit now committed = record {
+  is_open = is_open;
+  autocommit = autocommit;
+  schema = ap (λ (d : Database). d.schema) now ∙ schema;
+  holds = subst (λ (d : Database). HoldsLog d.trees j) (sym now) holds;
+  committed = committed ∙ sym now;
+}
+
 module _ {S : Type 0} (g : Ghosts S) (old : Held S) (j : Journal) (name : List ℕ) (before : ℤ) (b : Batch) (next : ℤ)
     (was : HasLog (state g old) j) (more : int_cmp b.first next ≡ Less) where
   -- the database that the transaction makes
@@ -65,16 +80,9 @@ module _ {S : Type 0} (g : Ghosts S) (old : Held S) (j : Journal) (name : List �
   pub acknowledged : (new : State) → Appends g name before b next old new.committed → IsSettled new
       → (place_before name before b ≡ place_of j) × HasLog new (with_batch j b next)
   acknowledged new it settled =
-      let made = appended new.committed it in
-      let same = settled.committed in (
+      let made = appended new.committed it in (
         made.0,
-        record {
-          is_open = settled.is_open;
-          autocommit = settled.autocommit;
-          schema = subst (λ (d : Database). d.schema ≡ log_schema) same made.1;
-          holds = subst (λ (d : Database). HoldsLog d.trees (with_batch j b next)) same made.2;
-          committed = same;
-        },
+        has_log new _ new.committed made.1 made.2 settled.is_open settled.autocommit (sym settled.committed) refl,
       )
 
   -- whatever was returned, a crash leaves the log from before, or the longer one
@@ -95,13 +103,8 @@ settled s j law has db left = subst (λ t. HoldsLog t j) (sym
 -- a store that is as it was
 pub unchanged : (old new : State) (j : Journal) → HasLog old j → IsTrue new.is_open → new.in_transaction ≡ false
     → new.now ≡ old.now → new.committed ≡ old.committed → HasLog new j
-unchanged old new j was is_open autocommit now committed = record {
-  is_open = is_open;
-  autocommit = autocommit;
-  schema = ap (λ (d : Database). d.schema) now ∙ was.schema;
-  holds = subst (λ (d : Database). HoldsLog d.trees j) (sym now) was.holds;
-  committed = committed ∙ was.committed ∙ sym now;
-}
+unchanged old new j was is_open autocommit now committed = has_log new j old.now was.schema was.holds is_open
+    autocommit now (committed ∙ was.committed)
 
 at_least : (n : ℕ) (xs : List ℕ) → n ≤ fold after_line_byte n xs
 at_least n [] = omega arith

@@ -1,5 +1,5 @@
 -- What the statements that make a log have done.
-use Rattle.std.proofs.Common.{◌≡◌, ℕ, ℤ, pos, List, [], ◌∷◌, ◌++◌, codes, IsTrue, false, None, Ok, refl, sym, ap, subst}
+use Rattle.std.proofs.Common.{◌≡◌, ℕ, ℤ, pos, List, [], ◌∷◌, ◌++◌, codes, false, None, Ok, refl, sym, ap, subst}
 use Rattle.std.proofs.Common.{◌∙◌, arith}
 use Rattle.sqlite.specs.{declared.types.Value.TheVariants.{Null, Int}, Order.Row, Table.Table, Schema.Schema}
 use Rattle.sqlite.specs.{Term.{Term, lit, col}, Source.TheVariants.Values, Command.TheVariants.{CreateTable, Insert}}
@@ -10,9 +10,9 @@ use Rattle.sqlite_schema.specs.declared.schema.Keys.TheVariants.{Enforced}
 use Rattle.sqlite_tied.specs.Compute.{everything}
 use Rattle.sqlite.proofs.Callers.{IsPlain, command_of, statement_of, runs_as, one_step}
 use Rattle.argus_store.specs.Tables.{no_schema, log_table, opening_table, batch_table, object_table, log_schema}
-use Rattle.argus_store.specs.{Journal.{Journal, new_journal, log_row, HoldsRows, HoldsLog}, Store.HasLog}
+use Rattle.argus_store.specs.Journal.{new_journal, log_row, HoldsRows, HoldsLog}
 use Rattle.argus_store.specs.Making.{begin_row, begin_text}
-use Rattle.argus_store.proofs.Changes.{went, same_value, cast_int, cast_null}
+use Rattle.argus_store.proofs.{Changes.{went, same_value, cast_int, cast_null}, Statements.Means}
 
 -- a table's definition, which has no place yet
 abbrev defined : Table → Table
@@ -100,13 +100,9 @@ abbrev begin_terms : List Term
 begin_terms = lit (Int (pos 0)) ∷ lit Null ∷ col 0 0 ∷ col 0 1 ∷ lit (Int (pos 0)) ∷ lit (Int (pos 0)) ∷ lit
     (Int (pos 0)) ∷ col 0 2 ∷ []
 
-begin_is : command_of (understood log_schema begin_text) ≡ Insert 0 (Values begin_terms 8)
+begin_is : Means begin_text (Insert 0 (Values begin_terms 8))
 unfolding understood everything
-begin_is = refl
-
-begin_plain : IsPlain (understood log_schema begin_text)
-unfolding understood everything
-begin_plain = (refl, refl)
+begin_is = (refl, (refl, refl))
 
 -- the four tables are there and empty
 record IsEmptyLog (db : Trees) : Type 0 where
@@ -138,7 +134,7 @@ begins old new name version sum count has none h =
     let db = old.now.trees in
     let params = begin_row name version sum in
     let text = statement_of begin_text (understood log_schema begin_text) in
-    let w = runs_as begin_text params old new log_schema has (Insert 0 (Values begin_terms 8)) begin_is begin_plain
+    let w = runs_as begin_text params old new log_schema has (Insert 0 (Values begin_terms 8)) begin_is.0 begin_is.1
     count h in
     let done = went (subst (λ s. Does old.step_limit (mode_of old) params (record old.now { schema = s }) text None
     (Insert 0 (Values begin_terms 8)) (Ok (w.tally, new.now))) has w.changed) in
@@ -164,14 +160,10 @@ pub makes : (start first second third fourth last : State) (name version : List 
     last (Ok counts.4)
     → (last.now.schema ≡ log_schema) × HoldsLog last.now.trees (new_journal name version sum)
 makes start first second third fourth last name version sum counts has a b c d e =
-    let one : Makes no_schema (defined log_table) start first = creates no_schema log_text (defined log_table) start
-    first counts.0 log_is refl has a in
-    let two : Makes one_table (defined opening_table) first second = creates one_table opening_text
-    (defined opening_table) first second counts.1 opening_is refl one.0 b in
-    let three : Makes two_tables (defined batch_table) second third = creates two_tables batch_text
-    (defined batch_table) second third counts.2 batch_is refl two.0 c in
-    let four : Makes three_tables (defined object_table) third fourth = creates three_tables object_text
-    (defined object_table) third fourth counts.3 object_is refl three.0 d in
+    let one = creates no_schema log_text (defined log_table) start first counts.0 log_is refl has a in
+    let two = creates one_table opening_text (defined opening_table) first second counts.1 opening_is refl one.0 b in
+    let three = creates two_tables batch_text (defined batch_table) second third counts.2 batch_is refl two.0 c in
+    let four = creates three_tables object_text (defined object_table) third fourth counts.3 object_is refl three.0 d in
     let none : IsEmptyLog fourth.now.trees = record {
       log = four.2.0 ∙ three.2.0 ∙ two.2.0 ∙ one.1;
       opening = four.2.1.0 ∙ three.2.1.0 ∙ two.1;
@@ -180,14 +172,3 @@ makes start first second third fourth last name version sum counts has a b c d e
     } in
     let all = begins fourth last name version sum counts.4 four.0 none e in
     (all.0, record { rows = all.1; rising = tt; below = tt; lines = tt })
-
--- the store whose transaction made them
-pub has_new_log : (last new : State) (j : Journal) → (last.now.schema ≡ log_schema) × HoldsLog last.now.trees j
-    → IsTrue new.is_open → new.in_transaction ≡ false → new.now ≡ last.now → new.committed ≡ last.now → HasLog new j
-has_new_log last new j made is_open autocommit now committed = record {
-  is_open = is_open;
-  autocommit = autocommit;
-  schema = ap (λ (d : Database). d.schema) now ∙ made.0;
-  holds = subst (λ (d : Database). HoldsLog d.trees j) (sym now) made.1;
-  committed = committed ∙ sym now;
-}
