@@ -37,12 +37,19 @@ use std::str::from_utf8;
 
 // The statuses of argus.h that are neither an outcome's nor an error's.
 const DONE: u32 = 0;
+
 const NO_MEMORY: u32 = 10;
+
 const NOT_OPEN: u32 = 11;
+
 const NOT_UTF8: u32 = 12;
+
 const BAD_KIND: u32 = 16;
+
 const TOO_SMALL: u32 = 17;
+
 const NOT_THERE: u32 = 18;
+
 const UNMET: u32 = 22;
 
 // 10,000 times the first number of the version, plus 100 times the second, plus the third.
