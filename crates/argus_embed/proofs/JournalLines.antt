@@ -31,24 +31,20 @@ module _ (journal : JournalView) (from at count : ℕ) (before now : List ℕ) (
       ∙ ap (λ n. lines_from journal from count ++ line_at journal n) is ∙ sym (lines_more journal from count)
 
   -- where the last line is past what fits
-  pub line_past : (next most size : ℕ) (text : List ℕ) → size ≡ length before → length before ≤ most → at < next
-      → most < length now → text ≡ now → (size ≡ length (lines_from journal from (at - from))) × (size ≤ most)
-      × (((from + (at - from) ≡ next) × (text ≡ lines_from journal from (at - from)))
-      ⊎ ((from + (at - from) < next) × (text ≡ lines_from journal from (at - from + 1)) × (most < length text)))
-  line_past next most size text sized fits more past same =
+  pub line_past : (next most size : ℕ) → size ≡ length before → length before ≤ most → at < next → most < length now
+      → (size ≡ length (lines_from journal from (at - from))) × (size ≤ most)
+      × (((from + (at - from) ≡ next) × (now ≡ lines_from journal from (at - from)))
+      ⊎ ((from + (at - from) < next) × (now ≡ lines_from journal from (at - from + 1)) × (most < length now)))
+  line_past next most size sized fits more past =
       let so_many : count ≡ at - from = omega (arith, is) in (
         sized ∙ ap (λ (b : List ℕ). length b) so_far ∙ ap (λ n. length (lines_from journal from n)) so_many,
         omega (arith, sized, fits),
-        inr (
-          omega (arith, is, more),
-          same ∙ line_added ∙ ap (λ n. lines_from journal from (n + 1)) so_many,
-          subst (λ (t : List ℕ). most < length t) (sym same) past,
-        ),
+        inr (omega (arith, is, more), line_added ∙ ap (λ n. lines_from journal from (n + 1)) so_many, past),
       )
 
 -- the first bytes of the lines that were made are those of so many entries
 lines_in : (journal : JournalView) (from next most : ℕ) (f : Fitting) → IsFitting journal from next most f
-    → take f.size f.text.items ≡ lines_from journal from f.count
+    → take f.size (string_bytes f.text) ≡ lines_from journal from f.count
 lines_in journal from next most f fitting =
     let lines = lines_from journal from f.count in
     let last = line_at journal (from + f.count) in
@@ -73,7 +69,7 @@ not_all journal from next most f fitting =
 -- they are put into the room
 pub lines_put : (journal : JournalView) (from next most : ℕ) (f : Fitting) (old new bytes : List ℕ) (size : ℕ)
     → next ≡ next_of journal → most ≡ length old → IsFitting journal from next most f → f.count ≢ 0
-    → bytes ≡ take f.size f.text.items → size ≡ length bytes → IsPut bytes old new
+    → bytes ≡ take f.size (string_bytes f.text) → size ≡ length bytes → IsPut bytes old new
     → AreLines journal from old new (record { count = f.count; size = size })
 lines_put journal from next most f old new bytes size is room fitting some part sized put =
     let lines = lines_from journal from f.count in

@@ -1,8 +1,8 @@
 -- The objects of a fold, one after another, and that a guardian may begin with copies of them.
-use Rattle.std.proofs.Common.{List, None, Option, Some, [], ap, arith, length, map, refl, suc, sym, take}
+use Rattle.std.proofs.Common.{List, None, Option, Some, [], ap, arith, length, map, refl, suc, take}
 use Rattle.std.proofs.{Common.{true, zero, ℕ, ◌++◌, ◌+◌, ◌<◌, ◌∷◌, ◌≡◌, ◌≤◌}, lemmas.Bool.Decides.nat_tests}
 use Rattle.std.proofs.lemmas.Bool.{lt-ltb}
-use Rattle.std.proofs.{lemmas.List.{length-map, take_all}, lemmas.Option.slice_get_within}
+use Rattle.std.proofs.lemmas.{List.{length-map, take_all, take_more}, Option.{get_or_from_slice_get, slice_get_within}}
 use Rattle.std.specs.Prelude.{slice_get}
 use Rattle.argus_values.specs.{Content.PlainContent, Shape.PlainShape, contents_declared.content.Content.Content}
 use Rattle.argus_values.specs.{contents_declared.limits.TheConstants.MAX_OBJECTS, contents_declared.shape.Shape.Shape}
@@ -32,13 +32,11 @@ count_kept f [] = refl
 count_kept f (x ∷ xs) = ap suc (count_kept (λ n. f (suc n)) xs)
 
 -- so many and the next one
-next_taken : {A : Type 0} (xs : List A) (n : ℕ) (x : A) → slice_get xs n ≡ Some x → take n xs ++ x ∷ [] ≡ take (suc n) xs
-next_taken [] n x found = cc
-next_taken (y ∷ ys) zero x found = let same : y ≡ x = cc in ap (λ z. z ∷ []) (sym same)
-next_taken (y ∷ ys) (suc n) x found = ap (λ l. y ∷ l) (next_taken ys n x found)
-
 pub one_more : {A : Type 0} (xs : List A) (n : ℕ) (x : A) → slice_get xs n ≡ Some x → take n xs ++ x ∷ [] ≡ take (n + 1) xs
-one_more xs n x found = grind (arith, nat_tests, next_taken)
+one_more xs n x found =
+    let more = take_more xs n x (slice_get_within xs n x found) in
+    let next = get_or_from_slice_get xs n x x found in
+    cc
 
 -- there is one at each number below their count
 none_past : {A : Type 0} (xs : List A) (n : ℕ) → None ≡ slice_get xs n → n < length xs → ⊥

@@ -1,5 +1,4 @@
 pub mod Crossing
-pub mod Names
 pub mod Granted
 pub mod CallEach
 pub mod Outcomes
@@ -8,6 +7,5 @@ pub mod Listed
 pub mod JournalLines
 pub mod KeptObjects
 pub mod Quiet
-pub mod Dropped
 pub mod Told
 pub mod Listings

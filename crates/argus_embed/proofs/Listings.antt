@@ -1,7 +1,8 @@
 -- Each call that a host makes can be read, and a listing of such calls is taken back.
-use Rattle.std.proofs.Common.{Bool, List, [], ap, append_assoc, append-nil, arith, cond, drop, false, filter, inl, inr}
-use Rattle.std.proofs.Common.{refl, subst, sym, take, true, ℕ, ◌++◌, ◌+◌, ◌-◌, ◌<◌, ◌^◌, ◌∙◌, ◌∷◌, ◌≡◌, ◌≢◌, ◌≤◌}
-use Rattle.std.proofs.lemmas.List.{take-append-drop}
+use Rattle.std.proofs.Common.{All, List, [], ap, append_assoc, append-nil, arith, drop, inl, inr, length, refl, subst}
+use Rattle.std.proofs.Common.{sym, take, ℕ, ◌++◌, ◌<◌, ◌^◌, ◌∙◌, ◌∷◌, ◌≡◌, ◌≢◌, ◌≤◌}
+use Rattle.std.proofs.lemmas.List.Elements.{All-filter, All-head, All-map, All-nil, All-push, All-tail, All-take}
+use Rattle.std.proofs.{lemmas.List.take-append-drop, Math.Seq.take-append_seam}
 use Rattle.argus_values.specs.contents_declared.limits.TheConstants.{MAX_VALUE_DEPTH}
 use Rattle.argus_guardian.specs.AbortingLive.{IsPartlyAborted, after_aborts, live_topactions, live_without_parent}
 use Rattle.argus_guardian.specs.{Calls.IsReadableCall, JournalText.journal_text, SoundFront.sound_front}
@@ -11,7 +12,7 @@ use Rattle.argus_guardian.specs.resume_declared.line_fault.LineFault.TheVariants
 use Rattle.argus_guardian.specs.resume_declared.taken_end.TakenEnd.TheVariants as taken_end
 use Rattle.argus_journal.proofs.Within.{actions_within}
 use Rattle.argus_journal.specs.{Call.{PlainCall, abort}, Events.history, JournalView.{JournalView, after}, Legal.Legal}
-use Rattle.argus_journal.specs.{Numbering.all_in_program, Opening.KeepsNumbers}
+use Rattle.argus_journal.specs.{Numbering.in_program, Opening.KeepsNumbers}
 use Rattle.argus_model.specs.Event.{Began}
 use Rattle.argus_model.specs.History.{History, Opened, begun_actions, next_action, ◌▹◌}
 use Rattle.argus_embed.specs.{Embedded.EmbeddedState, Listed.{CanBeRead, IsNoFault, IsTakenBack, IsWhole}}
@@ -38,62 +39,44 @@ call_read old new call is can readable = subst CanBeRead (sym is) (one_read old 
 
 -- ABORTS
 
--- each of the numbers is below this one
-abbrev AreBelow : ℕ → List ℕ → Type 0
-AreBelow n [] = Unit {0}
-AreBelow n (x ∷ xs) = (x < n) × AreBelow n xs
+-- the program's number is within 32 bits
+abbrev IsWithin : ℕ → Type 0
+IsWithin a = a < 2 ^ 32
 
-below_append : (n : ℕ) (xs ys : List ℕ) → AreBelow n xs → AreBelow n ys → AreBelow n (xs ++ ys)
-below_append n [] ys h k = k
-below_append n (x ∷ xs) ys h k = (h.0, below_append n xs ys h.1 k)
+begun_within : {V : Type 0} (h : History V) → next_action h ≤ 2 ^ 32
+    → All (λ x. IsWithin (in_program x)) (begun_actions h)
+begun_within (Opened k) le = All-nil _
+begun_within (Began from ▹ h) le =
+    All-push (λ x. IsWithin (in_program x)) (begun_actions h) (next_action h) (begun_within h (omega (arith, le)))
+    (omega (arith, le))
+begun_within (_ ▹ h) le = begun_within h le
 
-below_front : (n : ℕ) (xs ys : List ℕ) → AreBelow n (xs ++ ys) → AreBelow n xs
-below_front n [] ys h = tt
-below_front n (x ∷ xs) ys h = (h.0, below_front n xs ys h.1)
-
-below_if : (n : ℕ) (b : Bool) (x : ℕ) (xs : List ℕ) → x < n → AreBelow n xs → AreBelow n (cond b (x ∷ xs) xs)
-below_if n true x xs lt h = (lt, h)
-below_if n false x xs lt h = h
-
-below_filter : (n : ℕ) (p : ℕ → Bool) (xs : List ℕ) → AreBelow n xs → AreBelow n (filter p xs)
-below_filter n p [] h = tt
-below_filter n p (x ∷ xs) h = below_if n (p x) x (filter p xs) h.0 (below_filter n p xs h.1)
-
-below_program : (n : ℕ) (xs : List ℕ) → AreBelow n xs → AreBelow n (all_in_program xs)
-below_program n [] h = tt
-below_program n (x ∷ xs) h = let lt = h.0 in (omega (arith, lt), below_program n xs h.1)
-
-begun_below : {V : Type 0} (n : ℕ) (h : History V) → next_action h ≤ n → AreBelow n (begun_actions h)
-begun_below n (Opened k) le = tt
-begun_below n (Began from ▹ h) le =
-    below_append n (begun_actions h) (next_action h ∷ []) (begun_below n h (omega (arith, le))) (omega (arith, le), tt)
-begun_below n (_ ▹ h) le = begun_below n h le
-
-aborts_read : (journal : JournalView) (actions : List ℕ) → CanBeRead journal → AreBelow (2 ^ 32) actions
+aborts_read : (journal : JournalView) (actions : List ℕ) → CanBeRead journal → All IsWithin actions
     → CanBeRead (after_aborts journal actions)
-aborts_read journal [] can below = can
-aborts_read journal (a ∷ actions) can below =
-    aborts_read (after journal (abort a)) actions (one_read journal (abort a) can (below.0, tt)) below.1
+aborts_read journal [] can within = can
+aborts_read journal (a ∷ actions) can within =
+    aborts_read (after journal (abort a)) actions
+    (one_read journal (abort a) can (All-head IsWithin a actions within, tt)) (All-tail IsWithin a actions within)
 
 module _ (old : JournalView) (can : CanBeRead old) (legal : Legal old.opening old.entries)
     (limits : KeepsNumbers old.opening) where
-  live_below : AreBelow (2 ^ 32) (live_topactions old)
-  live_below =
+  live_within : All IsWithin (live_topactions old)
+  live_within =
       let h = history old.opening old.entries in
       let most = actions_within old.opening old.entries limits.actions legal in
-      below_program (2 ^ 32) (live_without_parent h)
-      (below_filter (2 ^ 32) _ (begun_actions h) (begun_below (2 ^ 32) h (omega (arith, most))))
+      All-map IsWithin in_program (live_without_parent h)
+      (All-filter _ (λ x. IsWithin (in_program x)) (begun_actions h) (begun_within h (omega (arith, most))))
 
   -- all live actions were aborted
   pub all_aborted_read : (new : JournalView) → new ≡ after_aborts old (live_topactions old) → CanBeRead new
-  all_aborted_read new is = subst CanBeRead (sym is) (aborts_read old (live_topactions old) can live_below)
+  all_aborted_read new is = subst CanBeRead (sym is) (aborts_read old (live_topactions old) can live_within)
 
   -- some of them
   pub part_aborted_read : (new : JournalView) → IsPartlyAborted old new → CanBeRead new
   part_aborted_read new part =
-      let below = subst (AreBelow (2 ^ 32)) part.in_turn live_below in
+      let within = All-take IsWithin (length part.ended) _ (subst (All IsWithin) part.in_turn live_within) in
       subst CanBeRead (sym part.journal)
-      (aborts_read old part.ended can (below_front (2 ^ 32) part.ended (live_topactions new) below))
+      (aborts_read old part.ended can (subst (All IsWithin) (take-append_seam part.ended (live_topactions new)) within))
 
 -- THE LISTING
 

@@ -41,16 +41,9 @@ pub outcome_here : (listed now : List ListedCall) (items : List Reply) (at : ℕ
     → set now at x ≡ with_outcomes listed (take (at + 1) (map plain_reply items))
 outcome_here listed now items at d e outcome codes x so_far here there is are from =
     let replies = map plain_reply items in
-    let before = with_outcomes listed (take at replies) in
     let r = plain_reply e in
-    let last : outcome ≡ outcome_of (get_or replies at r) =
-    from ∙ ap (λ (p : PlainReply). outcome_of p) (sym (get_or-map plain_reply items at e r there)) in
-    let told : codes ≡ outcome_codes (outcome_of (get_or replies at r)) =
-    are ∙ ap (λ (o : Outcome). outcome_codes o) last in
+    let last = get_or-map plain_reply items at e r there in
+    let within = subst (λ (n : ℕ). at < n) (sym (length-map items plain_reply)) there in
+    let next = set_next listed replies at d r here within in
     let more : suc at ≡ at + 1 = omega arith in
-    let made : x ≡ with_codes (get_or before at d) (outcome_codes (outcome_of (get_or replies at r))) =
-    is ∙ ap (λ (l : List ListedCall). with_codes (get_or l at d) codes) so_far
-    ∙ ap (λ (k : ℕ × ℤ). with_codes (get_or before at d) k) told in
-    ap (λ (l : List ListedCall). set l at x) so_far ∙ ap (λ (c : ListedCall). set before at c) made
-    ∙ set_next listed replies at d r here (subst (λ (n : ℕ). at < n) (sym (length-map items plain_reply)) there)
-    ∙ ap (λ (n : ℕ). with_outcomes listed (take n replies)) more
+    cc

@@ -1,6 +1,6 @@
 -- Whole lines of the journal, as many as fit into a room.
 use Rattle.std.specs.{List.{flat_map, range_with_len}, Option.option_map}
-use Rattle.std.specs.Prelude.{List, drop, if◌then◌else◌, length, ℕ, ◌+◌, ◌++◌, ◌<◌, ◌==◌, ◌≡◌, ◌≤◌, ◌⊎◌}
+use Rattle.std.specs.Prelude.{List, drop, if◌then◌else◌, length, string_bytes, ℕ, ◌+◌, ◌++◌, ◌<◌, ◌==◌, ◌≡◌, ◌≤◌, ◌⊎◌}
 use Rattle.argus_journal.specs.{EntrySpelling.entry_spelling, Folding.next_entry_number, Journal.entry_at}
 use Rattle.argus_journal.specs.JournalView.{JournalView}
 use Rattle.argus_embed.specs.{Embedded.text_line, declared.lines.Lines.Lines, declared.lines_writing.Fitting.Fitting}
@@ -47,6 +47,6 @@ pub record AreLines (journal : JournalView) (from : ℕ) (old new : List ℕ) (l
 abbrev pub IsFitting : JournalView → ℕ → ℕ → ℕ → Fitting → Type 0
 IsFitting journal from next most f =
     (f.size ≡ length (lines_from journal from f.count)) × (f.size ≤ most)
-    × (((from + f.count ≡ next) × (f.text.items ≡ lines_from journal from f.count))
-    ⊎ ((from + f.count < next) × (f.text.items ≡ lines_from journal from (f.count + 1))
-    × (most < length f.text.items)))
+    × (((from + f.count ≡ next) × (string_bytes f.text ≡ lines_from journal from f.count))
+    ⊎ ((from + f.count < next) × (string_bytes f.text ≡ lines_from journal from (f.count + 1))
+    × (most < length (string_bytes f.text))))

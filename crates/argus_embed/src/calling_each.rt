@@ -1,10 +1,7 @@
 //! How a host makes several calls at once.
 
 ghost use Rattle.std.specs.Prelude.{[], IfErr, IfOk, OnErr, OnOk, length, map, ◌+◌, ◌<◌, ◌≡◌, ◌≤◌};
-ghost use Rattle.argus_embed.specs.CallEach.{AreCalled, AreMade, IsNext, IsUnreadAfter, with_error};
-ghost use Rattle.argus_embed.specs.CallEach.{with_lines};
-ghost use Rattle.argus_embed.specs.declared.list_end.ListEnd.TheVariants.{Failed};
-ghost use Rattle.argus_embed.specs.declared.embed_error.EmbedError.TheVariants as error;
+ghost use Rattle.argus_embed.specs.CallEach.{AreCalled, AreMade, IsNext, IsUnreadAfter, with_lines};
 ghost use Rattle.argus_journal.specs.Reply.{plain_reply};
 
 use crate::calls_made::CallsMade;
@@ -43,9 +40,10 @@ impl Embedded {
     pub fn call_each(&mut self, calls: &mut [ListedCall<'_>]) -> CallsMade
         ensures { AreCalled calls.old calls.new self.old self.new result }
     {
-        let mut replies = match Vec::with_capacity(self.heap.room(), calls.len()) {
-            Ok(replies) => replies,
-            Err(_) => return fail(calls),
+        let Ok(mut replies) = Vec::with_capacity(self.heap.room(), calls.len()) else {
+            let end = ListEnd::Failed(EmbedError::OutOfMemory);
+            write_end(calls, 0, end);
+            return CallsMade { count: 0, end };
         };
         let end = self.call_listed(calls, &mut replies);
         let count = replies.len();
@@ -107,15 +105,4 @@ impl Embedded {
         }
         let _before = replace(&mut self.kept, KeptAnswer::Replies(replies));
     }
-}
-
-/// For a list for whose replies there is no memory.
-fn fail(calls: &mut [ListedCall<'_>]) -> CallsMade
-    ensures count { result.count ≡ 0 }
-    ensures end { result.end ≡ Failed error.OutOfMemory }
-    ensures codes { calls.new ≡ with_error calls.old 0 error.OutOfMemory }
-{
-    let end = ListEnd::Failed(EmbedError::OutOfMemory);
-    write_end(calls, 0, end);
-    CallsMade { count: 0, end }
 }

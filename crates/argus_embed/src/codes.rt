@@ -1,18 +1,11 @@
 //! The numbers of signals, refusals, statuses and sizes, as a host gets them.
 
 ghost use Rattle.std.specs.Prelude.{◌≡◌};
-ghost use Rattle.argus_embed.specs.Codes.{as_number, flag_code, refusal_code, signal_code};
-ghost use Rattle.argus_embed.specs.Codes.{status_code};
+ghost use Rattle.argus_embed.specs.Codes.{as_number, refusal_code, signal_code, status_code};
 
 use argus_actions::Status;
 use argus_journal::Refusal;
 use argus_values::Signal;
-
-pub(crate) fn flag_code(truth: bool) -> i64
-    ensures { result ≡ flag_code truth }
-{
-    if truth { 1 } else { 0 }
-}
 
 pub(crate) fn signal_code(signal: Signal) -> i64
     ensures { result ≡ signal_code signal }

@@ -1,8 +1,8 @@
 //! An entry's line, and the listings, as texts.
 
 ghost use Rattle.std.specs.{Option.option_map, Prelude.{IfOk, None, OnErr, ◌≡◌, ◌≢◌}};
-ghost use Rattle.argus_embed.specs.Questions.{object_name, object_names};
-ghost use Rattle.argus_journal.specs.{EntrySpelling.entry_spelling, Journal.entry_at};
+ghost use Rattle.argus_embed.specs.Questions.{object_name, object_names, text_to};
+ghost use Rattle.argus_embed.specs.declared.question.Question.TheVariants as question;
 ghost use Rattle.argus_journal.specs.Objects.{declared};
 ghost use Rattle.argus_guardian.specs.Listing.{listing_of};
 
@@ -18,10 +18,8 @@ pub(crate) fn entry_text(
     at: u64,
 ) -> Result<Option<Vec<u8, Room>>, OutOfMemory>
     ensures text { IfOk result (λ told. option_map (λ t. t.items) told
-        ≡ option_map (entry_spelling at)
-        (entry_at guardian.now.opening guardian.now.entries at)) }
-    ensures there { OnErr result (option_map (entry_spelling at)
-        (entry_at guardian.now.opening guardian.now.entries at) ≢ None) }
+        ≡ text_to guardian.now (question.Entry at)) }
+    ensures there { OnErr result (text_to guardian.now (question.Entry at) ≢ None) }
 {
     let Some(entry) = guardian.journal().journal().get(at) else {
         return Ok(None);

@@ -16,7 +16,7 @@ use argus_values::{Heap, OutOfMemory, Room};
 /// The lines that fit, and after them the one that doesn't, if there is one.
 #[derive(Drop)]
 struct Fitting {
-    text: Vec<u8, Room>,
+    text: String<Room>,
     // This many entries fit, in this many bytes.
     count: u64,
     size: usize,
@@ -52,12 +52,13 @@ impl Embedded {
             return Err(EmbedError::NotThere);
         }
         let fitting = fitting_lines(self.heap, &self.guardian, from, next, room.len())?;
+        let text = fitting.text.as_bytes();
         let count = fitting.count;
         if count == 0 {
-            let size = fitting.text.len();
+            let size = text.len();
             return Ok(Lines { count, size });
         }
-        let size = put(room, &fitting.text.as_slice()[..fitting.size]);
+        let size = put(room, &text[..fitting.size]);
         Ok(Lines { count, size })
     }
 }
@@ -80,20 +81,12 @@ fn fitting_lines(
         append_line(guardian, at, &mut text)?;
         if most < text.len() {
             let count = at - from;
-            return Ok(Fitting {
-                text: text.into_bytes(),
-                count,
-                size,
-            });
+            return Ok(Fitting { text, count, size });
         }
     }
     let size = text.len();
     let count = next - from;
-    Ok(Fitting {
-        text: text.into_bytes(),
-        count,
-        size,
-    })
+    Ok(Fitting { text, count, size })
 }
 
 /// Appends the line of the entry with this number, if the journal has it.

@@ -2,7 +2,6 @@
 
 ghost use Rattle.std.specs.Prelude.{IfErr, IfOk, Some, map, ◌≡◌};
 ghost use Rattle.argus_embed.specs.CallEach.{IsUnreadWith, SaysWith, action_begun, action_by};
-ghost use Rattle.argus_embed.specs.CallEach.{request_of};
 ghost use Rattle.argus_guardian.specs.Calls.{IsReadableCall};
 ghost use Rattle.argus_journal.specs.{Call.plain_call, Reply.plain_reply};
 
@@ -35,19 +34,14 @@ pub(crate) fn listed_call_of(
     let Ok(text) = from_utf8(each.text) else {
         return Err(EmbedError::NotUtf8);
     };
-    call_of(heap, &request_of(each, action), text)
-}
-
-fn request_of(each: &ListedCall<'_>, action: u32) -> Request
-    ensures { result ≡ request_of each.now action }
-{
-    Request {
+    let request = Request {
         kind: each.kind,
         action,
         object: each.object,
         first: each.first,
         second: each.second,
-    }
+    };
+    call_of(heap, &request, text)
 }
 
 /// The action itself, or the one that a call of the list began, counted from 1; `None` if that

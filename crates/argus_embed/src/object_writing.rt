@@ -2,12 +2,10 @@
 
 ghost use Rattle.std.specs.{Fmt.decimal, Option.option_map};
 ghost use Rattle.std.specs.Prelude.{IfOk, None, OnErr, OnOk, map, string_bytes, ◌++◌, ◌≡◌, ◌≢◌};
-ghost use Rattle.argus_values.specs.{Content.plain_option, ShapeSpelling.shape_spelling};
-ghost use Rattle.argus_embed.specs.Questions.{action_line, action_lines, seen_line, seen_lines};
-ghost use Rattle.argus_guardian.specs.Objects.{version_pair, where_declared};
-ghost use Rattle.argus_guardian.specs.OpeningLanguages.{content_text};
-ghost use Rattle.argus_journal.specs.JournalFacts.{base_of, readers_of, versions_of};
-ghost use Rattle.argus_journal.specs.Objects.{shape_of};
+ghost use Rattle.argus_values.specs.Content.{plain_option};
+ghost use Rattle.argus_embed.specs.Questions.{action_lines, seen_lines, text_to};
+ghost use Rattle.argus_embed.specs.declared.question.Question.TheVariants as question;
+ghost use Rattle.argus_guardian.specs.{Objects.version_pair, OpeningLanguages.content_text};
 
 use argus_actions::ActionId;
 use argus_guardian::Guardian;
@@ -21,10 +19,8 @@ pub(crate) fn base_text(
     o: ObjId,
 ) -> Result<Option<Vec<u8, Room>>, OutOfMemory>
     ensures text { IfOk result (λ told. option_map (λ t. t.items) told
-        ≡ option_map content_text (where_declared guardian.now o.0
-        (base_of guardian.now.opening guardian.now.entries o.0))) }
-    ensures there { OnErr result (option_map content_text (where_declared guardian.now o.0
-        (base_of guardian.now.opening guardian.now.entries o.0)) ≢ None) }
+        ≡ text_to guardian.now (question.Base o)) }
+    ensures there { OnErr result (text_to guardian.now (question.Base o) ≢ None) }
 {
     let Some(content) = guardian.base(o) else {
         return Ok(None);
@@ -41,10 +37,8 @@ pub(crate) fn shape_text(
     o: ObjId,
 ) -> Result<Option<Vec<u8, Room>>, OutOfMemory>
     ensures text { IfOk result (λ told. option_map (λ t. t.items) told
-        ≡ option_map shape_spelling
-        (shape_of guardian.now.opening guardian.now.entries o.0)) }
-    ensures there { OnErr result (option_map shape_spelling
-        (shape_of guardian.now.opening guardian.now.entries o.0) ≢ None) }
+        ≡ text_to guardian.now (question.Shape o)) }
+    ensures there { OnErr result (text_to guardian.now (question.Shape o) ≢ None) }
 {
     let Some(shape) = guardian.shape(o) else {
         return Ok(None);
@@ -61,10 +55,8 @@ pub(crate) fn readers_text(
     o: ObjId,
 ) -> Result<Option<Vec<u8, Room>>, OutOfMemory>
     ensures text { IfOk result (λ told. option_map (λ t. t.items) told
-        ≡ option_map action_lines (where_declared guardian.now o.0
-        (readers_of guardian.now.opening guardian.now.entries o.0))) }
-    ensures there { OnErr result (option_map action_lines (where_declared guardian.now o.0
-        (readers_of guardian.now.opening guardian.now.entries o.0)) ≢ None) }
+        ≡ text_to guardian.now (question.Readers o)) }
+    ensures there { OnErr result (text_to guardian.now (question.Readers o) ≢ None) }
 {
     let Some(readers) = guardian.holders(o) else {
         return Ok(None);
@@ -81,10 +73,8 @@ pub(crate) fn versions_text(
     o: ObjId,
 ) -> Result<Option<Vec<u8, Room>>, OutOfMemory>
     ensures text { IfOk result (λ told. option_map (λ t. t.items) told
-        ≡ option_map seen_lines (where_declared guardian.now o.0
-        (versions_of guardian.now.opening guardian.now.entries o.0))) }
-    ensures there { OnErr result (option_map seen_lines (where_declared guardian.now o.0
-        (versions_of guardian.now.opening guardian.now.entries o.0)) ≢ None) }
+        ≡ text_to guardian.now (question.Versions o)) }
+    ensures there { OnErr result (text_to guardian.now (question.Versions o) ≢ None) }
 {
     let Some(versions) = guardian.versions(o) else {
         return Ok(None);
@@ -99,7 +89,8 @@ fn append_readers(readers: &[ActionId], text: &mut String<Room>) -> Result<(), O
         ≡ string_bytes text.old ++ action_lines (map (λ a. a.0) readers.now)) }
 {
     for reader in readers {
-        append_reader(*reader, text)?;
+        append_number("a", reader.0, text)?;
+        text.push_str("\n")?;
     }
     Ok(())
 }
@@ -109,31 +100,11 @@ fn append_versions(versions: &[Version], text: &mut String<Room>) -> Result<(), 
         ≡ string_bytes text.old ++ seen_lines (map version_pair versions.now)) }
 {
     for version in versions {
-        append_version(version.holder, &version.content, text)?;
+        append_number("a", version.holder.0, text)?;
+        text.push_str(" ")?;
+        append_content(&version.content, text)?;
+        text.push_str("\n")?;
     }
-    Ok(())
-}
-
-fn append_reader(reader: ActionId, text: &mut String<Room>) -> Result<(), OutOfMemory>
-    ensures { OnOk result (string_bytes text.new ≡ string_bytes text.old ++ action_line reader.0) }
-{
-    append_number("a", reader.0, text)?;
-    text.push_str("\n")?;
-    Ok(())
-}
-
-fn append_version(
-    holder: ActionId,
-    content: &Option<Content>,
-    text: &mut String<Room>,
-) -> Result<(), OutOfMemory>
-    ensures { OnOk result (string_bytes text.new
-        ≡ string_bytes text.old ++ seen_line (holder.0, plain_option content.now)) }
-{
-    append_number("a", holder.0, text)?;
-    text.push_str(" ")?;
-    append_content(content, text)?;
-    text.push_str("\n")?;
     Ok(())
 }
 

@@ -3,7 +3,7 @@
 ghost use Rattle.std.specs.Prelude.{◌<◌, ◌≡◌};
 ghost use Rattle.argus_embed.specs.Codes.{outcome_codes};
 
-use crate::codes::{flag_code, refusal_code, signal_code};
+use crate::codes::{refusal_code, signal_code};
 use argus_journal::Refusal;
 use argus_values::Signal;
 
@@ -50,7 +50,8 @@ impl Outcome {
             Outcome::Object(o) => (1, i64::from(o)),
             Outcome::Action(a) => (2, i64::from(a)),
             Outcome::Number(number) => (3, number),
-            Outcome::Flag(truth) => (4, flag_code(truth)),
+            Outcome::Flag(false) => (4, 0),
+            Outcome::Flag(true) => (4, 1),
             Outcome::Value => (5, 0),
             Outcome::Content => (6, 0),
             Outcome::Text => (7, 0),

@@ -53,7 +53,7 @@ fn renewed(heap: Heap, guardian: &Guardian) -> Result<Guardian, EmbedError>
     ensures error { IfErr result (λ e. (e ≡ error.Busy) ⊎ (e ≡ error.Full)
         ⊎ (e ≡ error.OutOfMemory)) }
 {
-    if guardian.live(0).is_some() {
+    if !is_quiet(guardian) {
         return Err(EmbedError::Busy);
     }
     let first_entry = guardian.journal().journal().len();
@@ -62,6 +62,13 @@ fn renewed(heap: Heap, guardian: &Guardian) -> Result<Guardian, EmbedError>
     }
     let objects = kept_objects(heap, guardian)?;
     Ok(Guardian::starting_at(heap, objects, 0, first_entry)?)
+}
+
+/// Whether no action is live.
+fn is_quiet(guardian: &Guardian) -> bool
+    ensures { result ≡ is_quiet guardian.now }
+{
+    guardian.live(0).is_none()
 }
 
 /// Copies of the objects: their shapes and bases.

@@ -1,11 +1,11 @@
 //! The text that is kept, as the host gets it.
 
-ghost use Rattle.std.specs.{Option.option_map, Prelude.{◌≢◌}};
 ghost use Rattle.std.specs.Prelude.{IfOk, None, OnErr, OnOk, length, map, string_bytes, ◌++◌, ◌≡◌};
-ghost use Rattle.argus_values.specs.{Answer.plain_answer, Value.plain_value};
-ghost use Rattle.argus_embed.specs.{Kept.{IsAppended, IsCopied, IsPut}, Embedded.value_text};
-ghost use Rattle.argus_embed.specs.Embedded.{answer_text, reply_lines, reply_text, text_line};
-ghost use Rattle.argus_journal.specs.{EntrySpelling.reply_spelling, Reply.plain_reply};
+ghost use Rattle.std.specs.{Option.option_map, Prelude.{◌≢◌}};
+ghost use Rattle.argus_values.specs.Value.{plain_value};
+ghost use Rattle.argus_embed.specs.Embedded.{reply_lines, reply_text, text_line, value_text};
+ghost use Rattle.argus_embed.specs.Kept.{IsAppended, IsCopied, IsPut};
+ghost use Rattle.argus_journal.specs.Reply.{plain_reply};
 
 use crate::embedded::Embedded;
 use crate::kept_answer::KeptAnswer;
@@ -34,8 +34,9 @@ impl Embedded {
                 None => Ok(None),
             },
             KeptAnswer::Given(reply) => {
-                let text = given_bytes(self.heap, reply)?;
-                Ok(Some(put(room, text.as_slice())))
+                let mut text = String::new(self.heap.room());
+                write_reply(reply, &mut text)?;
+                Ok(Some(put(room, text.as_bytes())))
             }
             KeptAnswer::Replies(replies) => {
                 let lines = lines_bytes(self.heap, replies.as_slice())?;
@@ -57,15 +58,6 @@ fn reply_bytes(heap: Heap, reply: &Reply) -> Result<Option<Vec<u8, Room>>, OutOf
     } else {
         Ok(None)
     }
-}
-
-/// The reply as its line has it.
-fn given_bytes(heap: Heap, reply: &Reply) -> Result<Vec<u8, Room>, OutOfMemory>
-    ensures { IfOk result (λ bytes. bytes.items ≡ reply_spelling (plain_reply reply.now)) }
-{
-    let mut text = String::new(heap.room());
-    write_reply(reply, &mut text)?;
-    Ok(text.into_bytes())
 }
 
 /// A line for each reply that has a text.
@@ -96,27 +88,19 @@ fn append_text(reply: &Reply, text: &mut String<Room>) -> Result<bool, OutOfMemo
     ensures there { OnErr result (reply_text (plain_reply reply.now) ≢ None) }
 {
     match reply {
-        Reply::Answered(answer) => append_answer(answer, text),
-        Reply::Object(_) | Reply::Begun(_) | Reply::Refused(_) => Ok(false),
-    }
-}
-
-/// Appends the written form of an answer that is a content, or a value that isn't a number.
-fn append_answer(answer: &Answer, text: &mut String<Room>) -> Result<bool, OutOfMemory>
-    ensures appended { IfOk result (λ is_there. IsAppended (answer_text (plain_answer answer.now))
-        is_there (string_bytes text.old) (string_bytes text.new)) }
-    ensures there { OnErr result (answer_text (plain_answer answer.now) ≢ None) }
-{
-    match answer {
-        Answer::Val(value) => append_value(value, text),
-        Answer::Body(content) => {
+        Reply::Answered(Answer::Val(value)) => append_value(value, text),
+        Reply::Answered(Answer::Body(content)) => {
             write_content(content, text)?;
             Ok(true)
         }
-        Answer::Done | Answer::Num(_) | Answer::Flag(_) | Answer::Signal(_) => Ok(false),
+        Reply::Answered(Answer::Done | Answer::Num(_) | Answer::Flag(_) | Answer::Signal(_))
+        | Reply::Object(_)
+        | Reply::Begun(_)
+        | Reply::Refused(_) => Ok(false),
     }
 }
 
+/// Appends the written form of a value that isn't a number.
 fn append_value(value: &Value, text: &mut String<Room>) -> Result<bool, OutOfMemory>
     ensures appended { IfOk result (λ is_there. IsAppended (value_text (plain_value value.now))
         is_there (string_bytes text.old) (string_bytes text.new)) }

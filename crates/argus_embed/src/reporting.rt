@@ -1,8 +1,8 @@
 //! The outcome that a reply is.
 
 ghost use Rattle.std.specs.Prelude.{◌≡◌};
-ghost use Rattle.argus_values.specs.{Answer.plain_answer, Value.plain_value};
-ghost use Rattle.argus_embed.specs.Embedded.{answer_outcome, outcome_of, value_outcome};
+ghost use Rattle.argus_values.specs.Value.{plain_value};
+ghost use Rattle.argus_embed.specs.Embedded.{outcome_of, value_outcome};
 ghost use Rattle.argus_journal.specs.Reply.{plain_reply};
 
 use crate::outcome::Outcome;
@@ -15,21 +15,13 @@ pub(crate) fn outcome_of(reply: &Reply) -> Outcome
     match reply {
         Reply::Object(o) => Outcome::Object(o.0),
         Reply::Begun(a) => Outcome::Action(a.0),
-        Reply::Answered(answer) => answer_outcome(answer),
+        Reply::Answered(Answer::Done) => Outcome::Done,
+        Reply::Answered(Answer::Val(value)) => value_outcome(value),
+        Reply::Answered(Answer::Num(number)) => Outcome::Number(*number),
+        Reply::Answered(Answer::Flag(truth)) => Outcome::Flag(*truth),
+        Reply::Answered(Answer::Body(_)) => Outcome::Content,
+        Reply::Answered(Answer::Signal(signal)) => Outcome::Signal(*signal),
         Reply::Refused(refusal) => Outcome::Refused(*refusal),
-    }
-}
-
-fn answer_outcome(answer: &Answer) -> Outcome
-    ensures { result ≡ answer_outcome (plain_answer answer.now) }
-{
-    match answer {
-        Answer::Done => Outcome::Done,
-        Answer::Val(value) => value_outcome(value),
-        Answer::Num(number) => Outcome::Number(*number),
-        Answer::Flag(truth) => Outcome::Flag(*truth),
-        Answer::Body(_) => Outcome::Content,
-        Answer::Signal(signal) => Outcome::Signal(*signal),
     }
 }
 

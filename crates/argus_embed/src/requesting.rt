@@ -8,6 +8,7 @@ ghost use Rattle.argus_values.specs.Spelling.{Within, spelling};
 ghost use Rattle.argus_values.specs.contents_declared.limits.TheConstants.{MAX_VALUE_DEPTH};
 ghost use Rattle.argus_embed.specs.Requests.{HasNumbers, IsNoPart, IsRead, IsUnread, LacksPart};
 ghost use Rattle.argus_embed.specs.Requests.{Says, SaysChange, SaysQuery, TakesPart, TakesValue};
+ghost use Rattle.argus_embed.specs.declared.embed_error.EmbedError.TheVariants as error;
 ghost use Rattle.argus_embed.specs.declared.kinds.TheConstants as kinds;
 ghost use Rattle.argus_journal.specs.Call.{plain_call};
 ghost use Rattle.argus_entries.specs.Laws.{ChangeWithin, QueryWithin};
@@ -18,7 +19,8 @@ use crate::kinds::{
     ABORT, ABORT_OTHERS, ADDH, ADDH_BOOL, ADDH_INT, ADDL, ADDL_BOOL, ADDL_INT, BEGIN_NESTED,
     BEGIN_SUB, BEGIN_TOP, BOTTOM, CHANGE_TAG, CHANGE_TAG_BOOL, CHANGE_TAG_INT, COMMIT, CREATE,
     DECLARE, FETCH, FIELD, HIGH, IS_TAG, LOW, REMH, REML, SET_FIELD, SET_FIELD_BOOL, SET_FIELD_INT,
-    SET_LOW, SIZE, STORE, STORE_BOOL, STORE_INT, TEST_READ, TEST_WRITE, TOP, TOUCH, TRIM, WHOLE,
+    SET_LOW, SIZE, STORE, STORE_BOOL, STORE_INT, TAG_VALUE, TEST_READ, TEST_WRITE, TOP, TOUCH,
+    TRIM, WHOLE,
 };
 use crate::request::Request;
 use argus_actions::ActionId;
@@ -34,10 +36,12 @@ pub(crate) fn call_of(heap: Heap, request: &Request, text: &str) -> Result<Call,
     ensures read { OnOk result (IsRead request.now text.now) }
     ensures unread { IfErr result (λ e. IsUnread request.now text.now e) }
 {
-    let a = action_of(request.action);
-    let o = object_of(request.object);
+    let (a, o) = ids_of(request.action, request.object);
     match request.kind {
-        DECLARE => declaration_of(heap, request, text),
+        DECLARE => match read_shape(heap, text)? {
+            Some(shape) => Ok(Call::Declare(shape)),
+            None => Err(EmbedError::BadShape),
+        },
         BEGIN_TOP => Ok(Call::BeginTop),
         BEGIN_SUB => Ok(Call::BeginSub(a)),
         BEGIN_NESTED => Ok(Call::BeginNested(a)),
@@ -46,54 +50,17 @@ pub(crate) fn call_of(heap: Heap, request: &Request, text: &str) -> Result<Call,
         ABORT_OTHERS => Ok(Call::AbortOthers(a)),
         TEST_READ => Ok(Call::TestRead(a, o)),
         TEST_WRITE => Ok(Call::TestWrite(a, o)),
-        _ => access_of(heap, request, text),
+        WHOLE..=TAG_VALUE => Ok(Call::Ask(a, o, query_of(request)?)),
+        _ => Ok(Call::Alter(a, o, change_of(heap, request, text)?)),
     }
 }
 
-/// The action with this number, which is within 32 bits.
-fn action_of(number: u32) -> ActionId
-    ensures number { result.0 ≡ number }
-    ensures range { result.0 < 2 ^ 32 }
+/// The action and the object with these numbers, which are within 32 bits.
+fn ids_of(action: u32, object: u32) -> (ActionId, ObjId)
+    ensures action { (result.0.0 ≡ action) × (result.0.0 < 2 ^ 32) }
+    ensures object { (result.1.0 ≡ object) × (result.1.0 < 2 ^ 32) }
 {
-    ActionId(number)
-}
-
-/// The object with this number, which is within 32 bits.
-fn object_of(number: u32) -> ObjId
-    ensures number { result.0 ≡ number }
-    ensures range { result.0 < 2 ^ 32 }
-{
-    ObjId(number)
-}
-
-fn declaration_of(heap: Heap, request: &Request, text: &str) -> Result<Call, EmbedError>
-    requires { request.now.kind ≡ kinds.DECLARE }
-    ensures says { IfOk result (λ call. Says request.now text.now (plain_call call)) }
-    ensures readable { IfOk result (λ call. IsReadableCall (plain_call call)) }
-    ensures read { OnOk result (IsRead request.now text.now) }
-    ensures unread { IfErr result (λ e. IsUnread request.now text.now e) }
-{
-    match read_shape(heap, text) {
-        Ok(Some(shape)) => Ok(Call::Declare(shape)),
-        Ok(None) => Err(EmbedError::BadShape),
-        Err(_) => Err(EmbedError::OutOfMemory),
-    }
-}
-
-fn access_of(heap: Heap, request: &Request, text: &str) -> Result<Call, EmbedError>
-    requires { kinds.WHOLE ≤ request.now.kind }
-    ensures says { IfOk result (λ call. Says request.now text.now (plain_call call)) }
-    ensures readable { IfOk result (λ call. IsReadableCall (plain_call call)) }
-    ensures read { OnOk result (IsRead request.now text.now) }
-    ensures unread { IfErr result (λ e. IsUnread request.now text.now e) }
-{
-    let a = action_of(request.action);
-    let o = object_of(request.object);
-    if request.kind < CREATE {
-        Ok(Call::Ask(a, o, query_of(request)?))
-    } else {
-        Ok(Call::Alter(a, o, change_of(heap, request, text)?))
-    }
+    (ActionId(action), ObjId(object))
 }
 
 fn query_of(request: &Request) -> Result<Query, EmbedError>
@@ -101,7 +68,7 @@ fn query_of(request: &Request) -> Result<Query, EmbedError>
     ensures says { IfOk result (λ query. SaysQuery request.now.kind request.now.first query) }
     ensures within { IfOk result (λ query. QueryWithin query) }
     ensures numbers { OnOk result (HasNumbers request.now) }
-    ensures unread { IfErr result (λ e. (text : List ℕ) → IsUnread request.now text e) }
+    ensures unread { IfErr result (λ e. (e ≡ error.BadNumber) × LacksPart request.now) }
 {
     match request.kind {
         WHOLE => Ok(Query::Whole),
@@ -178,7 +145,7 @@ fn part_of(request: &Request) -> Result<u8, EmbedError>
     requires { TakesPart request.now.kind }
     ensures part { IfOk result (λ part. request.now.first ≡ pos part) }
     ensures ok { OnOk result (IsNoPart request.now.first → ⊥) }
-    ensures unread { IfErr result (λ e. (text : List ℕ) → IsUnread request.now text e) }
+    ensures unread { IfErr result (λ e. (e ≡ error.BadNumber) × LacksPart request.now) }
 {
     let number = request.first;
     if number < 0 || 255 < number {

@@ -1,4 +1,4 @@
-use Rattle.std.proofs.Common.{ap, arith, vec_items, ◌+◌, ◌∙◌}
+use Rattle.std.proofs.Common.{arith, ◌+◌, ◌∙◌}
 use Rattle.argus_embed.proofs.JournalLines.{line_added, line_past, long_is}
 use Rattle.argus_embed.proofs.lines_writing.fitting_lines.Goals as goal
 
@@ -7,9 +7,8 @@ returns-then-most-len c =
     let inv = c.loop-at.invariant in
     let long = long_is c.append_line.new.text in
     line_past c.args.guardian.now c.args.from c.loop-at.at inv.0 _ _ inv.1 inv.2 c.in_ok-append_line.ensures
-    c.args.next c.args.most c.len-size.result c.into_bytes.result.items (c.len-size.ensures ∙ long_is c.loop-at.text)
-    inv.3 c.loop-at-test.true (omega (arith, c.if-most-len.true, c.len.ensures, long))
-    (ap vec_items c.into_bytes.ensures.value)
+    c.args.next c.args.most c.len-size.result (c.len-size.ensures ∙ long_is c.loop-at.text) inv.3 c.loop-at-test.true
+    (omega (arith, c.if-most-len.true, c.len.ensures, long))
 
 pub loop-at-preserved : goal.loop-at-preserved
 loop-at-preserved c =

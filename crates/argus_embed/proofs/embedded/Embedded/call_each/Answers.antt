@@ -33,6 +33,6 @@ returns c =
       c.keep_each.ensures ∙ ap (λ s. with_lines s replies) made.2
           ∙ ap (λ (l : List PlainReply). with_lines (after_nexts c.args.self.now made.0) l) made.3,
       c.len-count.ensures ∙ sym c.as_slice.ensures.len ∙ ap (λ l. length l) c.as_slice.ensures.value ∙ count,
-      c.write_end.ensures ∙ ap (λ (l : List ListedCall). with_end l c.len-count.result end) outcomes,
+      c.write_end-2.ensures ∙ ap (λ (l : List ListedCall). with_end l c.len-count.result end) outcomes,
       subst (λ (l : List PlainReply). IsEnd listed l end) made.3 made.4,
     )

@@ -10,5 +10,5 @@ returns-clause-lines c =
     (c.journal-journal.ensures.entries ∙ c.journal.ensures.entries) c.len-next.result c.len-next.ensures in
     rw (← c.self.view_is)
     (lines_put journal c.args.from c.len-next.result _ f c.args.room.now c.put-size.new.room _ c.put-size.result next
-    refl c.in_ok-fitting.ensures c.if-count-eq0.false (ap (λ l. take f.size l) c.as_slice.ensures.value)
+    refl c.in_ok-fitting.ensures c.if-count-eq0.false (ap (λ l. take f.size l) c.as_bytes-text.ensures.value)
     c.put-size.ensures.size c.put-size.ensures.put)
