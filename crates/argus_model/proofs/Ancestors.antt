@@ -1,27 +1,22 @@
 -- Lineages go down in number, and an ancestor's ancestors are ancestors.
-use Rattle.std.proofs.Common.{List, [], ap, arith, cond, inl, inr, refl, sym, true, ℕ, ⊎_elim, ◌++◌, ◌+◌, ◌<◌, ◌∷◌}
-use Rattle.std.proofs.{Common.{◌≡◌, ◌≢◌, ◌≤◌, ◌⊎◌}, lemmas.Bool.{cases_eq, eqb-true, ne_eqb, or_cases}}
-use Rattle.std.proofs.lemmas.Bool.Decides.{nat_tests}
+use Rattle.std.proofs.Common.{List, [], ap, arith, cond, refl, sym, true, ℕ, ⊎_elim, ◌++◌, ◌<◌, ◌∷◌, ◌≡◌, ◌≢◌, ◌≤◌, ◌⊎◌}
+use Rattle.std.proofs.{lemmas.Bool.{cases_eq, eqb-true, ne_eqb, or_cases}, lemmas.Bool.Decides.nat_tests}
 use Rattle.std.specs.Prelude.{◌==◌}
 use Rattle.argus_model.specs.{Ancestors.{is_ancestor, is_under, lineage, parent, to_base}, Numbers.contains}
-use Rattle.argus_model.specs.Event.{Aborted, Accessed, Began, Committed, Origin, origin_parent}
-use Rattle.argus_model.specs.History.{History, Opened, folded, next_action, ◌▹◌}
+use Rattle.argus_model.specs.{Event.{Began, Origin, origin_parent}, History.{History, Opened, folded, next_action, ◌▹◌}}
 use Rattle.argus_model.proofs.Numbers.{any_found, any_from, contains_first, joined}
 
 -- each parent was begun before
 abbrev pub ParentsAreOlder : {V : Type 0} → History V → Type 0
 ParentsAreOlder (Opened n) = Unit {0}
 ParentsAreOlder (Began from ▹ older) = ((origin_parent from) < next_action older) × ParentsAreOlder older
-ParentsAreOlder (Committed a ▹ older) = ParentsAreOlder older
-ParentsAreOlder (Aborted a ▹ older) = ParentsAreOlder older
-ParentsAreOlder (Accessed a o v ▹ older) = ParentsAreOlder older
+ParentsAreOlder (_ ▹ older) = ParentsAreOlder older
 
 -- the next number is positive
 pub next_pos : {V : Type 0} (h : History V) → 0 < next_action h
-next_pos (Committed a ▹ h) = next_pos h
-next_pos (Aborted a ▹ h) = next_pos h
-next_pos (Accessed a o v ▹ h) = next_pos h
-next_pos _ = omega arith
+next_pos (Opened n) = omega arith
+next_pos (Began from ▹ h) = omega arith
+next_pos (_ ▹ h) = next_pos h
 
 -- the lineage of what began last is itself, then its parent's; every other lineage stays
 pub lineage_cases : {V : Type 0} (h : History V) (from : Origin) (y : ℕ)
@@ -33,9 +28,7 @@ lineage_cases h from y = grind (arith, nat_tests)
 pub ancestor_self : {V : Type 0} (h : History V) (y : ℕ) → is_ancestor h y y ≡ true
 ancestor_self (Opened n) y = grind (arith, nat_tests, contains_first 0, contains_first y (0 ∷ []), cases_eq y 0)
 ancestor_self (Began from ▹ h) y = grind (arith, nat_tests, ancestor_self h y, lineage_cases h from y, contains_first)
-ancestor_self (Committed a ▹ h) y = ancestor_self h y
-ancestor_self (Aborted a ▹ h) y = ancestor_self h y
-ancestor_self (Accessed a o v ▹ h) y = ancestor_self h y
+ancestor_self (_ ▹ h) y = ancestor_self h y
 
 -- before anything has begun there is the base
 opened_lineage : (y : ℕ) → y ≢ 0 → to_base y ≡ y ∷ 0 ∷ []
@@ -49,9 +42,7 @@ pub ancestor_le : {V : Type 0} (h : History V) (x y : ℕ) → ParentsAreOlder h
     → is_ancestor h x y ≡ true → x ≤ y
 ancestor_le (Opened n) x y f l a = ⊎_elim (λ e. omega arith) (λ k. omega (arith, k.0)) (opened_ancestor x y a)
 ancestor_le (Began from ▹ h) x y f l a = grind (arith, nat_tests, ancestor_le h x, ancestor_le h x y f.1)
-ancestor_le (Committed b ▹ h) x y f l a = ancestor_le h x y f l a
-ancestor_le (Aborted b ▹ h) x y f l a = ancestor_le h x y f l a
-ancestor_le (Accessed b o v ▹ h) x y f l a = ancestor_le h x y f l a
+ancestor_le (_ ▹ h) x y f l a = ancestor_le h x y f l a
 
 -- a lineage ty that ends with the lineage tx of x; all before that is greater than x
 pub record Split (ty tx : List ℕ) (x : ℕ) : Type 0 where
@@ -72,13 +63,6 @@ split_more y x t tx l s =
           (or_cases (z == y) (contains s.front z) h);
     }
 
-split_step : (n p x y : ℕ) (tp ty tx t tx' : List ℕ) → p < n → y < n + 1 → x ≢ y
-    → ((y ≡ n) × (t ≡ y ∷ tp)) ⊎ ((y ≢ n) × (t ≡ ty)) → (x ≢ n → tx' ≡ tx) → (contains tp x ≡ true → x ≤ p)
-    → (y < n → contains ty x ≡ true → x ≤ y) → (contains tp x ≡ true → Split tp tx x)
-    → (y < n → contains ty x ≡ true → Split ty tx x) → contains t x ≡ true → Split t tx' x
-split_step n p x y tp ty tx t tx' pn yn ne (inl k) kx lp ly sp sy a = grind (arith, nat_tests, split_more)
-split_step n p x y tp ty tx t tx' pn yn ne (inr k) kx lp ly sp sy a = grind (arith, nat_tests)
-
 -- a begin leaves the lineage of every other
 pub lineage_old : {V : Type 0} (h : History V) (from : Origin) (y : ℕ) → y ≢ next_action h
     → lineage (Began from ▹ h) y ≡ lineage h y
@@ -93,18 +77,10 @@ pub split_lineage : {V : Type 0} (h : History V) (x y : ℕ) → ParentsAreOlder
 split_lineage (Opened n) x y f l a =
     grind (arith, nat_tests, split_same, opened_lineage, split_more, split_here, opened_ancestor)
 split_lineage (Began from ▹ h) x y f l a =
-    ⊎_elim
-    (λ e. split_same x y (lineage (Began from ▹ h) y) (lineage (Began from ▹ h) x) (ap (lineage (Began from ▹ h)) e))
-    (λ ne. split_step (next_action h) (origin_parent from) x y (lineage h (origin_parent from)) (lineage h y)
-    (lineage h x)
-    (lineage (Began from ▹ h) y) (lineage (Began from ▹ h) x) f.0 l ne
-    (lineage_cases h from y) (lineage_old h from x) (ancestor_le h x (origin_parent from) f.1 f.0)
-    (ancestor_le h x y f.1)
-    (split_lineage h x (origin_parent from) f.1 f.0) (split_lineage h x y f.1) a)
-    (cases_eq x y)
-split_lineage (Committed b ▹ h) x y f l a = split_lineage h x y f l a
-split_lineage (Aborted b ▹ h) x y f l a = split_lineage h x y f l a
-split_lineage (Accessed b o v ▹ h) x y f l a = split_lineage h x y f l a
+    let p = origin_parent from in let below = ancestor_le h x p f.1 f.0 in let le = ancestor_le h x y f.1 in
+    let new = split_lineage h x p f.1 f.0 in let old = split_lineage h x y f.1 in
+    grind (arith, nat_tests, split_same, split_more, lineage_cases, lineage_old, below, le, new, old, cases_eq x y)
+split_lineage (_ ▹ h) x y f l a = split_lineage h x y f l a
 
 -- an ancestor's ancestor is an ancestor
 pub ancestor_trans : {V : Type 0} (h : History V) (x y z : ℕ) → ParentsAreOlder h → z < next_action h
@@ -117,21 +93,12 @@ pub parent_cases : {V : Type 0} (h : History V) (from : Origin) (y : ℕ)
     ⊎ ((y ≢ next_action h) × (parent (Began from ▹ h) y ≡ parent h y))
 parent_cases h from y = grind (arith, nat_tests)
 
--- the parent is older, and the lineage goes on with its lineage
-parent_step : (n p y q q' : ℕ) (tp ty tq tq' t : List ℕ) → p < n → 0 < y → y < n + 1
-    → ((y ≡ n) × (t ≡ y ∷ tp)) ⊎ ((y ≢ n) × (t ≡ ty)) → ((y ≡ n) × (q' ≡ p)) ⊎ ((y ≢ n) × (q' ≡ q))
-    → (q' ≢ n → q' ≡ p → tq' ≡ tp) → (q' ≢ n → q' ≡ q → tq' ≡ tq) → (y < n → (q < y) × (ty ≡ y ∷ tq))
-    → (q' < y) × (t ≡ y ∷ tq')
-parent_step n p y q q' tp ty tq tq' t pn y0 yn k kq ep eq ih = (grind arith, grind arith)
-
 -- an action's parent is older, and its lineage is itself, then its parent's
 pub parent_older : {V : Type 0} (h : History V) (y : ℕ) → ParentsAreOlder h → 0 < y → y < next_action h
     → (parent h y < y) × (lineage h y ≡ y ∷ lineage h (parent h y))
 parent_older (Opened n) y f y0 l = (y0, opened_lineage y (omega arith))
 parent_older (Began from ▹ h) y f y0 l = grind (arith, nat_tests, parent_older h y f.1 y0)
-parent_older (Committed b ▹ h) y f y0 l = parent_older h y f y0 l
-parent_older (Aborted b ▹ h) y f y0 l = parent_older h y f y0 l
-parent_older (Accessed b o v ▹ h) y f y0 l = parent_older h y f y0 l
+parent_older (_ ▹ h) y f y0 l = parent_older h y f y0 l
 
 -- a child of x on the way down to y
 pub record Child {V : Type 0} (h : History V) (x y : ℕ) : Type 0 where
@@ -184,17 +151,13 @@ child_on_path (Began from ▹ h) x y f l ne a =
     (λ e. let w = child_on_path h x y f.1 (omega arith) ne (ancestor_old_is h from x y e a) in
     child_up h from x y y w (ancestor_old h from w.child y e w.below))
     (cases_eq y (next_action h))
-child_on_path (Committed b ▹ h) x y f l ne a = grind (arith, nat_tests, child_on_path h x y f l ne a)
-child_on_path (Aborted b ▹ h) x y f l ne a = grind (arith, nat_tests, child_on_path h x y f l ne a)
-child_on_path (Accessed b o v ▹ h) x y f l ne a = grind (arith, nat_tests, child_on_path h x y f l ne a)
+child_on_path (_ ▹ h) x y f l ne a = grind (arith, nat_tests, child_on_path h x y f l ne a)
 
 -- what is folded is older than what comes
 pub folded_next : {V : Type 0} (h : History V) → folded h < next_action h
 folded_next (Opened n) = omega arith
 folded_next (Began from ▹ h) = let ih = folded_next h in omega arith
-folded_next (Committed a ▹ h) = folded_next h
-folded_next (Aborted a ▹ h) = folded_next h
-folded_next (Accessed a o v ▹ h) = folded_next h
+folded_next (_ ▹ h) = folded_next h
 
 -- what is below an action that is under one of these is under one of them, too
 pub under_below : {V : Type 0} (h : History V) (zs : List ℕ) (x y : ℕ) → ParentsAreOlder h → y < next_action h

@@ -1,11 +1,10 @@
 -- Each action that has begun has its begin, which names its parent and its creator.
 use Rattle.std.proofs.Common.{List, [], arith, cond, ap, refl, true, ℕ, ⊎_elim, ◌<◌, ◌∙◌, ◌∷◌, ◌≡◌, ◌++◌}
-use Rattle.std.proofs.lemmas.Bool.{cases_eq, ne_eqb}
+use Rattle.std.proofs.{lemmas.Bool.{cases_eq, ne_eqb}, lemmas.Bool.Decides.nat_tests}
 use Rattle.argus_model.specs.{Ancestors.{begun_by, parent}, Status.is_begun}
 use Rattle.argus_model.specs.Event.{Aborted, Accessed, Began, Committed, Event, Origin, origin_begun_by, origin_parent}
 use Rattle.argus_model.specs.History.{History, ItsBegin, Opened, folded, followed_by, next_action, ◌▹◌}
 use Rattle.argus_model.proofs.Live.{is_begun_parts}
-use Rattle.std.proofs.lemmas.Bool.Decides.{nat_tests}
 
 followed_more : {V : Type 0} (h : History V) (later : List (Event V)) (e : Event V)
     → followed_by h (later ++ e ∷ []) ≡ e ▹ followed_by h later
@@ -22,9 +21,7 @@ begin_of (Began from ▹ h) a l m =
     (λ e. record { older = h; from = from; later = []; is = refl; number = e })
     (λ n. later_begin h (Began from) a (begin_of h a l (omega arith)))
     (cases_eq a (next_action h))
-begin_of (Committed s ▹ h) a l m = later_begin h (Committed s) a (begin_of h a l m)
-begin_of (Aborted z ▹ h) a l m = later_begin h (Aborted z) a (begin_of h a l m)
-begin_of (Accessed b o v ▹ h) a l m = later_begin h (Accessed b o v) a (begin_of h a l m)
+begin_of (event ▹ h) a l m = later_begin h event a (begin_of h a l m)
 
 -- an action that has begun has its begin
 pub its_begin : {V : Type 0} (h : History V) (a : ℕ) → is_begun h a ≡ true → ItsBegin h a

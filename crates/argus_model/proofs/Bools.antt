@@ -18,12 +18,6 @@ pub eqb_sym : (a b : ℕ) → a == b ≡ b == a
 eqb_sym a b =
     same_bool (a == b) (b == a) (λ e. eq-eqb b a (sym (eqb-true a b e))) (λ e. eq-eqb a b (sym (eqb-true b a e)))
 
--- what fails by its first two parts fails with a third
-pub and_off : (a b c : Bool) → (a && b) ≡ false → (a && (b && c)) ≡ false
-and_off false b c e = refl
-and_off true true c e = grind arith
-and_off true false c e = refl
-
 -- a part that fails makes the whole fail
 pub and_none : (b : Bool) → (b && false) ≡ false
 and_none true = refl

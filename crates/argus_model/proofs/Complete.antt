@@ -1,33 +1,29 @@
 -- The work of an action is each access that it owns, once.
 use Rattle.std.proofs.Common.{Bool, List, None, Option, Some, [], ap, arith, cond, false, refl, subst, sym, true, ℕ}
-use Rattle.std.proofs.{Common.{⊎_elim, ◌++◌, ◌<◌, ◌∙◌, ◌∷◌, ◌≡◌, ◌≢◌}, lemmas.Bool.Decides.nat_tests}
+use Rattle.std.proofs.Common.{⊎_elim, ◌++◌, ◌<◌, ◌∙◌, ◌∷◌, ◌≡◌, ◌≢◌}
+use Rattle.std.proofs.{lemmas.Bool.Decides.nat_tests, lemmas.List.Sorted.{IsPermutation-refl, IsPermutation-trans}}
 use Rattle.std.proofs.lemmas.Bool.{cases_Bool, cases_eq, eq-eqb, eqb-true, false≢true, ne_eqb}
 use Rattle.std.proofs.lemmas.List.Sorted.{IsPermutation-append, IsPermutation-cons, IsPermutation-middle}
-use Rattle.std.proofs.lemmas.List.Sorted.{IsPermutation-refl, IsPermutation-trans}
-use Rattle.std.specs.{List.Sorted.IsPermutation, Prelude.{◌||◌}}
-use Rattle.argus_model.specs.{Ancestors.{parent}, Event.{Aborted, Accessed, Began, Committed}}
+use Rattle.std.specs.{List.Sorted.IsPermutation, Prelude.◌||◌}
+use Rattle.argus_model.specs.{Ancestors.parent, Event.{Aborted, Accessed, Began, Committed}}
 use Rattle.argus_model.specs.{History.{History, Opened, folded, next_action, ◌▹◌}, Work.{accesses_by, work}}
 use Rattle.argus_model.specs.OwnerSteps.{is_exactly, owner_by_steps, owner_inherited, stands, unless_lost}
-use Rattle.argus_model.proofs.Standing.{Orderly, at_some, owner_begun, owner_cases, parents_are_older}
-use Rattle.argus_model.proofs.Standing.{stands_begun, stands_commit, stands_old, stands_unfolded, stands_upward}
-use Rattle.argus_model.proofs.Work.{no_work}
+use Rattle.argus_model.proofs.Standing.{Orderly, at_some, owner_begun, owner_cases, parents_are_older, stands_begun}
+use Rattle.argus_model.proofs.{Standing.{stands_commit, stands_old, stands_unfolded, stands_upward}, Work.no_work}
 
 -- tests that agree on what has begun find the same accesses
 pub accesses_agree : {V : Type 0} (t u : ℕ → Bool) (h : History V) → Orderly h
     → ((a : ℕ) → folded h < a → a < next_action h → t a ≡ u a) → accesses_by t h ≡ accesses_by u h
 accesses_agree t u (Opened n) w same = refl
 accesses_agree t u (Began from ▹ h) w same = accesses_agree t u h w.1 (λ a l m. same a l (omega arith))
-accesses_agree t u (Committed s ▹ h) w same = accesses_agree t u h w.1 same
-accesses_agree t u (Aborted z ▹ h) w same = accesses_agree t u h w.1 same
 accesses_agree {V} t u (Accessed a o v ▹ h) w same =
     grind (arith, nat_tests, stands_unfolded, stands_begun, accesses_agree t u h w.1 same)
+accesses_agree t u (_ ▹ h) w same = accesses_agree t u h w.1 same
 
 no_accesses : {V : Type 0} (h : History V) → accesses_by (λ a. false) h ≡ []
 no_accesses (Opened n) = refl
 no_accesses (Began from ▹ h) = no_accesses h
-no_accesses (Committed s ▹ h) = no_accesses h
-no_accesses (Aborted z ▹ h) = no_accesses h
-no_accesses (Accessed a o v ▹ h) = no_accesses h
+no_accesses (_ ▹ h) = no_accesses h
 
 one_more : {X : Type 0} (b : Bool) (x : X) (xs ys : List X) → IsPermutation xs ys
     → IsPermutation (cond b (x ∷ xs) xs) (cond b (x ∷ ys) ys)
@@ -48,10 +44,8 @@ one_of_two false false x xs ys zs n p = p
 two_tests : {V : Type 0} (t u : ℕ → Bool) → ((a : ℕ) → t a ≡ true → u a ≡ false) → (h : History V)
     → IsPermutation (accesses_by t h ++ accesses_by u h) (accesses_by (λ a. t a || u a) h)
 two_tests t u n (Opened m) = IsPermutation-refl []
-two_tests t u n (Began from ▹ h) = two_tests t u n h
-two_tests t u n (Committed s ▹ h) = two_tests t u n h
-two_tests t u n (Aborted z ▹ h) = two_tests t u n h
 two_tests t u n (Accessed a o v ▹ h) = grind (arith, nat_tests, one_of_two, two_tests t u n h)
+two_tests t u n (_ ▹ h) = two_tests t u n h
 
 not_both : (q : Option ℕ) (s y : ℕ) → y ≢ s → is_exactly q s ≡ true → is_exactly q y ≡ false
 not_both None s y n e = refl

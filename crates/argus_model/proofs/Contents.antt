@@ -1,12 +1,11 @@
 -- What a list of accesses leaves in an object.
-use Rattle.std.proofs.Common.{Bool, List, [], ap, cond, false, refl, true, ℕ, ◌++◌, ◌∷◌, ◌≡◌}
-use Rattle.std.specs.Prelude.{◌&&◌, ◌==◌, ◌||◌}
-use Rattle.argus_model.specs.{Event.{Aborted, Accessed, Began, Committed}, History.{History, Opened, ◌▹◌}}
-use Rattle.argus_model.specs.{HolderSteps.has_used, Meaning.{Meaning}, Work.{Access, content_after}}
-use Rattle.argus_model.specs.WorkSteps.{Replays, accesses_by}
-use Rattle.argus_model.proofs.{Work.touches}
-use Rattle.std.proofs.Common.{arith}
+use Rattle.std.proofs.Common.{Bool, List, [], ap, cond, false, refl, true, ℕ, ◌++◌, ◌∷◌, ◌≡◌, arith}
 use Rattle.std.proofs.lemmas.Bool.Decides.{nat_tests}
+use Rattle.std.specs.Prelude.{◌&&◌, ◌==◌, ◌||◌}
+use Rattle.argus_model.specs.{Event.{Aborted, Accessed, Began, Committed}, WorkSteps.{Replays, accesses_by}}
+use Rattle.argus_model.specs.{History.{History, Opened, ◌▹◌}, HolderSteps.has_used, Work.{Access, content_after}}
+use Rattle.argus_model.specs.Meaning.{Meaning}
+use Rattle.argus_model.proofs.Work.{touches}
 
 module _ {V C A : Type 0} (meaning : Meaning V C A) (contents : ℕ → C) where
   -- where two lists leave the same in an object, they do so with the same later accesses, too
@@ -16,12 +15,6 @@ module _ {V C A : Type 0} (meaning : Meaning V C A) (contents : ℕ → C) where
   content_front o [] fs gs e = e
   content_front o (x ∷ es) fs gs e =
       ap (λ c. cond (x.object == o) (meaning.after x.what c) c) (content_front o es fs gs e)
-
-  -- an access that does not write the object leaves it
-  pub content_stays : (o : ℕ) (x : Access V) (es : List (Access V))
-      → (x.object == o && (false || meaning.writes x.what)) ≡ false
-      → content_after meaning contents o (x ∷ es) ≡ content_after meaning contents o es
-  content_stays o x es n = grind (arith, nat_tests)
 
   -- accesses that don't write the object leave it as it was
   pub content_past : (o : ℕ) (es fs : List (Access V)) → touches meaning.writes es o false ≡ false
@@ -34,10 +27,8 @@ module _ {V C A : Type 0} (meaning : Meaning V C A) (contents : ℕ → C) where
       → ((a : ℕ) → has_used meaning.writes k a o false ≡ true → t a ≡ u a)
       → content_after meaning contents o (accesses_by t k) ≡ content_after meaning contents o (accesses_by u k)
   accesses_by_agree o t u (Opened n) same = refl
-  accesses_by_agree o t u (Began from ▹ k) same = accesses_by_agree o t u k same
-  accesses_by_agree o t u (Committed s ▹ k) same = accesses_by_agree o t u k same
-  accesses_by_agree o t u (Aborted z ▹ k) same = accesses_by_agree o t u k same
   accesses_by_agree o t u (Accessed b o' v ▹ k) same = grind (arith, nat_tests, accesses_by_agree o t u k)
+  accesses_by_agree o t u (_ ▹ k) same = accesses_by_agree o t u k same
 
   -- a block that replays after fs does after gs, where gs replays and leaves what the block touches alike
   pub replays_on : (es fs gs : List (Access V))

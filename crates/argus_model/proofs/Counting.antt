@@ -1,20 +1,19 @@
 -- For whom an action's work counts, as time goes on.
-use Rattle.std.proofs.Common.{Bool, List, None, Option, Some, ap, arith, cond, false, refl, subst, sym, true, ℕ, ⊎_elim}
-use Rattle.std.proofs.{Common.{◌<◌, ◌∙◌, ◌≡◌, ◌≢◌}, lemmas.Bool.false≢true, lemmas.Bool.Decides.nat_tests}
-use Rattle.std.proofs.lemmas.Bool.{ne_eqb, cases_Bool, cases_eq}
+use Rattle.std.proofs.Common.{Bool, List, None, Option, Some, ap, arith, cond, false, refl, sym, true, ℕ, ◌∙◌, ◌≡◌, ◌≢◌}
+use Rattle.std.proofs.{lemmas.Bool.{false≢true, ne_eqb, cases_Bool, cases_eq}, lemmas.Bool.Decides.nat_tests}
 use Rattle.std.specs.{List.IsDistinct, Prelude.{◌&&◌, ◌==◌}}
-use Rattle.argus_model.specs.{Ancestors.{is_ancestor, is_under, parent}, History.{History, Opened, next_action, ◌▹◌}}
-use Rattle.argus_model.specs.{Event.{Aborted, Accessed, Began, Committed, Event}, Numbers.contains}
-use Rattle.argus_model.specs.{Owner.{Base, Gone, Held, Owner, is_base, owner}, Work.committed_topactions}
+use Rattle.argus_model.specs.Ancestors.{is_ancestor, is_under, parent}
+use Rattle.argus_model.specs.{History.{History, Opened, ◌▹◌}, Status.{has_committed, is_begun, is_doomed, is_live}}
+use Rattle.argus_model.specs.{Event.{Aborted, Accessed, Began, Committed, Event}, Work.committed_topactions}
+use Rattle.argus_model.specs.{Numbers.contains, Owner.{Base, Gone, Held, Owner, is_base, owner}}
 use Rattle.argus_model.specs.OwnerSteps.{as_owner, owner_inherited, owner_by_steps, stands, unless_lost}
-use Rattle.argus_model.specs.Status.{has_committed, is_begun, is_doomed, is_live}
-use Rattle.argus_model.proofs.{Ancestors.{parent_cases, parent_older}, Numbers.different, Serial.base_stands}
+use Rattle.argus_model.proofs.{Ancestors.{parent_cases, parent_older}, Owner.{owner_is, parent_unfolded}}
+use Rattle.argus_model.proofs.Numbers.{different}
+use Rattle.argus_model.proofs.{Serial.base_stands, Standing.{stands_begun, stands_new, stands_old, stands_upward}}
 use Rattle.argus_model.proofs.{Live.{is_begun_from, is_begun_parts, live_stands, stands_is_live}, Topactions.tops_over}
-use Rattle.argus_model.proofs.Owner.{owner_is, parent_unfolded}
 use Rattle.argus_model.proofs.OwnerRules.{committed_begun, committed_unfolded, owner_ancestor, owner_gone, owner_passed}
-use Rattle.argus_model.proofs.Standing.{Orderly, at_some, handed_cases, handed_stays, kept_cases, kept_stays}
 use Rattle.argus_model.proofs.Standing.{owned_begun, owner_cases, parent_is, parents_are_older, some_at, stands_abort}
-use Rattle.argus_model.proofs.Standing.{stands_begun, stands_commit, stands_new, stands_old, stands_upward}
+use Rattle.argus_model.proofs.Standing.{Orderly, at_some, handed_cases, handed_stays, kept_cases, kept_stays}
 
 -- who answers for an action answers for itself, too
 pub owner_stands : {V : Type 0} (h : History V) → Orderly h → (a x : ℕ) → owner_by_steps h a ≡ Some x
@@ -23,17 +22,9 @@ owner_stands {V} (Opened n) w a x e = grind (arith, nat_tests, some_at, cases_eq
 owner_stands (Began from ▹ h) w a x e =
     grind (arith, nat_tests, stands_new, owner_stands h w.1 a x, stands_begun, stands_old, owner_cases)
 owner_stands (Committed s ▹ h) w a x e =
-    let f = parents_are_older h w.1 in
-    let i = parent_is h f s w.0.not_base w.0.standing in
-    let p = parent h s in
-    let stays : (y : ℕ) → stands h y ≡ true → y ≢ s → stands (Committed s ▹ h) y ≡ true =
-    λ y l n. some_at (owner_by_steps (Committed s ▹ h) y) y
-    (handed_stays s p (owner_by_steps h y) y (at_some (owner_by_steps h y) y l) n) in
-    ⊎_elim
-    (λ k. subst (λ u. stands (Committed s ▹ h) u ≡ true) (sym k.1)
-    (stays p (stands_upward h w.1 p s w.0.standing i.1) (λ q. omega (arith, i.0))))
-    (λ k. stays x (owner_stands h w.1 a x k.0) k.1)
-    (handed_cases s p (owner_by_steps h a) x e)
+    let f = parents_are_older h w.1 in let up = stands_upward h w.1 in let ih = owner_stands h w.1 a x in
+    let k = handed_cases s (parent h s) (owner_by_steps h a) x e in
+    grind (arith, nat_tests, f, parent_is h, some_at, handed_stays, at_some, up, ih, k)
 owner_stands (Aborted z ▹ h) w a x e =
     grind (arith, nat_tests, kept_cases, owner_stands h w.1 a x, some_at, kept_stays, at_some)
 owner_stands (Accessed b o v ▹ h) w a x e = owner_stands h w.1 a x e
@@ -90,15 +81,6 @@ base_stays h (Committed s) w a b = handed_stays s (parent h s) (owner_by_steps h
 base_stays h (Aborted z) w a b = kept_stays (is_under h z) (owner_by_steps h a) 0 b (base_spared h z w)
 base_stays h (Accessed d o v) w a b = b
 
--- what stands stood before, or has just begun
-stood : {V : Type 0} (h : History V) (e : Event V) → Orderly (e ▹ h) → (a : ℕ) → a < next_action h
-    → stands (e ▹ h) a ≡ true → stands h a ≡ true
-stood h (Began from) w a l s = sym (stands_old h from a (λ q. omega arith)) ∙ s
-stood h (Committed b) w a l s =
-    (stands_commit h (parents_are_older h w.1) (stands_upward h w.1) b a w.0.not_base w.0.standing s).0
-stood h (Aborted z) w a l s = (stands_abort h z a s).0
-stood h (Accessed b o v) w a l s = s
-
 -- an action that is over is never live again
 pub over_stays : {V : Type 0} (h : History V) (e : Event V) → Orderly (e ▹ h) → (a : ℕ) → is_begun h a ≡ true
     → is_live h a ≡ false → is_live (e ▹ h) a ≡ false
@@ -118,11 +100,8 @@ owner_when_live h w a l =
 pub owner_when_committed : {V : Type 0} (h : History V) → Orderly h → (a : ℕ) → is_begun h a ≡ true
     → has_committed h a ≡ true → parent h a ≢ 0 → owner h a ≡ owner h (parent h a)
 owner_when_committed h w a k c n =
-    let q = is_begun_parts h a k in
-    let p = parent_older h a (parents_are_older h w) (omega (arith, q.0)) q.1 in
-    owner_is h w a k ∙ ap as_owner (owner_passed h w a c)
-    ∙ sym (owner_is h w (parent h a)
-    (is_begun_from h (parent h a) (parent_unfolded h w a q.0 q.1 n) (omega (arith, p.0, q.1))))
+    let q = is_begun_parts h a k in let p = parent_older h a (parents_are_older h w) in
+    grind (arith, nat_tests, q, p, owner_is h w, owner_passed h w a c, is_begun_from h, parent_unfolded h w a)
 
 -- what a committed topaction did is there for good
 pub owner_when_top : {V : Type 0} (h : History V) → Orderly h → (a : ℕ) → is_begun h a ≡ true → has_committed h a ≡ true
@@ -133,20 +112,16 @@ owner_when_top h w a k c e = grind (arith, nat_tests, owner_is, owner_passed, at
 pub held_by_live : {V : Type 0} (h : History V) → Orderly h → (a x : ℕ) → is_begun h a ≡ true → owner h a ≡ Held x
     → (is_live h x ≡ true) × (is_ancestor h x a ≡ true)
 held_by_live h w a x k e =
-    let q = some_of (owner_by_steps h a) x (sym (owner_is h w a k) ∙ e) in
-    let n : x ≢ 0 =
-    λ z. false≢true
-    (ap is_base (sym (ap Held z ∙ refl) ∙ sym e ∙ owner_is h w a k ∙ ap as_owner (q ∙ ap Some z))) in
-    (sym (stands_is_live h w x n) ∙ owner_stands h w a x q, owner_ancestor h w a x q)
+    let o = owner_is h w a k in let s = owner_stands h w a x in let above = owner_ancestor h w a x in
+    grind (arith, nat_tests, some_of, o, stands_is_live h w x, s, above, cases_eq x 0)
 
 -- the list of committed topactions has who has committed and has the base as parent, and no other
 pub tops_are : {V : Type 0} (h : History V) → Orderly h → (t : ℕ)
     → contains (committed_topactions h) t ≡ (has_committed h t && parent h t == 0)
 tops_are (Opened n) w t = refl
 tops_are (Began from ▹ h) w t = grind (arith, nat_tests, tops_are h w.1 t, committed_begun, parent_cases)
-tops_are (Aborted z ▹ h) w t = tops_are h w.1 t
-tops_are (Accessed a o v ▹ h) w t = tops_are h w.1 t
 tops_are (Committed s ▹ h) w t = grind (arith, nat_tests, tops_are h w.1 t, cases_eq t s, cases_Bool (parent h s == 0))
+tops_are (_ ▹ h) w t = tops_are h w.1 t
 
 -- what those on the list of committed topactions did is there for good
 pub tops_stay : {V : Type 0} (h : History V) → Orderly h → (t : ℕ) → contains (committed_topactions h) t ≡ true
@@ -172,8 +147,6 @@ good_stays h e w u a k g =
 pub tops-IsDistinct : {V : Type 0} (h : History V) → Orderly h → IsDistinct ◌==◌ (committed_topactions h)
 unfolding IsDistinct
 tops-IsDistinct (Opened n) w = tt
-tops-IsDistinct (Began from ▹ h) w = tops-IsDistinct h w.1
-tops-IsDistinct (Aborted z ▹ h) w = tops-IsDistinct h w.1
-tops-IsDistinct (Accessed a o v ▹ h) w = tops-IsDistinct h w.1
 tops-IsDistinct (Committed s ▹ h) w =
     grind (arith, nat_tests, tops-IsDistinct h w.1, different s, tops_over h w.1 s, cases_Bool (parent h s == 0))
+tops-IsDistinct (_ ▹ h) w = tops-IsDistinct h w.1

@@ -1,12 +1,12 @@
 -- The depth that is read off the rows is that of the lineage.
-use Rattle.std.proofs.{lemmas.Bool.Decides.nat_tests, Common.{ℕ, ⊎_elim, inl, inr}, lemmas.Bool.cases_eq}
-use Rattle.std.proofs.Common.{◌+◌, ◌-◌, ◌∷◌, ◌≡◌, Bool, List, [], arith, length, refl, true}
+use Rattle.std.proofs.lemmas.Bool.Decides.{nat_tests}
+use Rattle.std.proofs.Common.{ℕ, inr, ◌+◌, ◌-◌, ◌∷◌, ◌≡◌, Bool, List, [], arith, length, refl, true}
 use Rattle.std.specs.Prelude.{◌⊎◌}
-use Rattle.argus_model.specs.{Ancestors.lineage, Event.{Aborted, Accessed, Began, Committed, origin_parent}}
-use Rattle.argus_model.specs.{History.{History, Opened, folded, ◌▹◌}, OwnerSteps.stands, Status.{Status, is_begun}}
-use Rattle.argus_model.specs.Rows.{Row, depth_at, mark, rows}
-use Rattle.argus_model.proofs.{Live.{is_begun_from, is_begun_parts}, Rows.{length-mark, rows_length}}
-use Rattle.argus_model.proofs.Standing.{Orderly, stands_begun, stands_unfolded}
+use Rattle.argus_model.specs.{Ancestors.lineage, Event.{Began, origin_parent}, Status.{Status, is_begun}}
+use Rattle.argus_model.specs.{History.{History, Opened, folded, ◌▹◌}, Rows.{Row, depth_at, mark, rows}}
+use Rattle.argus_model.specs.OwnerSteps.{stands}
+use Rattle.argus_model.proofs.{Live.{is_begun_from, is_begun_parts}, Standing.{Orderly, stands_begun, stands_unfolded}}
+use Rattle.argus_model.proofs.Rows.{length-mark, rows_length}
 
 depth_at-mark : (n : ℕ) (which : ℕ → Bool) (s : Status) (rs : List Row) (a : ℕ)
     → depth_at n (mark n which s rs) a ≡ depth_at n rs a
@@ -19,8 +19,7 @@ abbrev IsKnown : {V : Type 0} → History V → ℕ → Type 0
 IsKnown h a = (a ≡ 0) ⊎ (is_begun h a ≡ true)
 
 stands_known : {V : Type 0} (h : History V) (a : ℕ) → stands h a ≡ true → IsKnown h a
-stands_known h a l =
-    ⊎_elim (λ e. inl e) (λ n. inr (is_begun_from h a (stands_unfolded h a n l) (stands_begun h a l))) (cases_eq a 0)
+stands_known h a l = grind (arith, nat_tests, is_begun_from h a, stands_unfolded h a, stands_begun h a l)
 
 depth_up : {V : Type 0} (h : History V) → Orderly h → (a : ℕ) → IsKnown h a
     → depth_at (folded h) (rows h) a + 1 ≡ length (lineage h a)
@@ -36,9 +35,7 @@ depth_up (Began from ▹ h) w a k =
       is_begun_parts,
       is_begun_from,
     )
-depth_up (Committed s ▹ h) w a k = grind (arith, nat_tests, depth_at-mark, depth_up h w.1 a k)
-depth_up (Aborted zs ▹ h) w a k = grind (arith, nat_tests, depth_at-mark, depth_up h w.1 a k)
-depth_up (Accessed d o v ▹ h) w a k = depth_up h w.1 a k
+depth_up (_ ▹ h) w a k = grind (arith, nat_tests, depth_at-mark, depth_up h w.1 a k)
 
 -- the depth that the rows give an action is the length of its lineage without the base
 pub depth_is : {V : Type 0} (h : History V) → Orderly h → (a : ℕ) → is_begun h a ≡ true

@@ -1,22 +1,19 @@
 -- The table of what the committed topactions left has the bases, and an event adds at most one effect at the end.
-use Rattle.std.proofs.{lemmas.Bool.Decides.nat_tests, Common.{false, refl, sym, true, ℕ}}
-use Rattle.std.proofs.Common.{⊎_elim, ◌++◌, ◌∙◌, ◌∷◌, ◌≡◌, ◌≢◌, Bool, List, Some, [], ap, append-nil, arith, cond}
-use Rattle.std.proofs.lemmas.Bool.{cases_Bool, eq-eqb, false≢true, ne_eqb}
-use Rattle.std.proofs.lemmas.List.{reverse-append}
+use Rattle.std.proofs.{lemmas.Bool.Decides.nat_tests, lemmas.Bool.{cases_Bool, eq-eqb, false≢true, ne_eqb}}
+use Rattle.std.proofs.{lemmas.List.reverse-append, Common.{arith, cond}}
+use Rattle.std.proofs.Common.{false, refl, sym, true, ℕ, ◌++◌, ◌∙◌, ◌∷◌, ◌≡◌, ◌≢◌, Bool, List, Some, [], ap, append-nil}
 use Rattle.std.specs.Prelude.{map, reverse, ◌==◌}
 use Rattle.argus_model.specs.{Ancestors.{is_under, lineage, parent}, Event.{Aborted, Accessed, Began, Committed, Event}}
 use Rattle.argus_model.specs.Effects.{content_by, effect_of, effects, effects_of, table, written_objects}
-use Rattle.argus_model.specs.{History.{History, Opened, HistoryOpening, ◌▹◌}, HolderSteps.{has_used, holds}}
-use Rattle.argus_model.specs.{Meaning.Meaning, Numbers.{contains}, WorkSteps.{LawfulSteps, visible_accesses}}
-use Rattle.argus_model.specs.OwnerSteps.{is_exactly, owner_by_steps, stands}
-use Rattle.argus_model.specs.Work.{Access, all_of, committed_topactions, content_after, serial_order_to, work}
-use Rattle.argus_model.proofs.{Ancestors.parent_older, Bools.{eqb_sym, same_bool}, Contents.content_past}
+use Rattle.argus_model.specs.{History.{History, Opened, HistoryOpening, ◌▹◌}, WorkSteps.{LawfulSteps, visible_accesses}}
+use Rattle.argus_model.specs.{HolderSteps.{has_used, holds}, OwnerSteps.{owner_by_steps, stands}, Meaning.Meaning}
+use Rattle.argus_model.specs.{Numbers.contains, Work.{Access, all_of, committed_topactions, content_after, work}}
+use Rattle.argus_model.proofs.{Ancestors.parent_older, Standing.parents_are_older, Contents.content_past}
+use Rattle.argus_model.proofs.{Bools.eqb_sym, Numbers.{IsRising, contains_first, contains_insert, insert-IsRising}}
+use Rattle.argus_model.proofs.Standing.{some_at, stands_begun, Orderly, at_some, handed_cases, kept_cases, owner_cases}
 use Rattle.argus_model.proofs.{Exclusion.{has_used_begun, has_used_cases}, HolderSteps.{used_by_found, used_by_from}}
-use Rattle.argus_model.proofs.Numbers.{IsRising, contains_first, contains_insert, insert-IsRising}
 use Rattle.argus_model.proofs.Serial.{base_serial, lineage-base, orderly, serial_to-base, serials}
-use Rattle.argus_model.proofs.Standing.{Orderly, at_some, handed_cases, kept_cases, owner_cases, parents_are_older}
-use Rattle.argus_model.proofs.{Standing.{some_at, stands_begun}, Topactions.{serial_tops, tops_over}}
-use Rattle.argus_model.proofs.Work.{all_of_agree, touches, user_of, work_final}
+use Rattle.argus_model.proofs.{Topactions.{serial_tops, tops_over}, Work.{all_of_agree, touches, user_of, work_final}}
 
 -- functions that agree everywhere give the same list
 pub map_agree : {X : Type 0} (f g : ℕ → X) (xs : List ℕ) → ((x : ℕ) → f x ≡ g x) → map f xs ≡ map g xs
@@ -93,13 +90,8 @@ module _ {V C A : Type 0} (meaning : Meaning V C A) where
   pub written_holds : (h : History V) → Orderly h → (y o : ℕ) → stands h y ≡ true
       → contains (written_objects meaning (work h y)) o ≡ holds meaning.writes h o false y
   written_holds h w y o l =
-      contains_written (work h y) o
-      ∙ same_bool (touches meaning.writes (work h y) o false) (holds meaning.writes h o false y)
-      (λ m. let u = user_of meaning.writes h w y o false l m in
-      used_by_from meaning.writes (λ b. is_exactly (owner_by_steps h b) y) o false h u.action u.uses
-      (some_at (owner_by_steps h u.action) y u.owned))
-      (λ m. let q = used_by_found meaning.writes (λ b. is_exactly (owner_by_steps h b) y) o false h m in
-      work_of_user h w q.0 y o false q.1 (at_some (owner_by_steps h q.0) y q.2))
+      let user = user_of meaning.writes h w y o false l in let works = work_of_user h w in
+      grind (arith, nat_tests, contains_written, user, used_by_from, some_at, used_by_found, works, at_some)
 
 module _ {V C A : Type 0} (meaning : Meaning V C A) (opening : HistoryOpening C) where
   effects_of_agree : (f g : ℕ → List (Access V)) (ts : List ℕ) → ((t : ℕ) → contains ts t ≡ true → f t ≡ g t)
@@ -148,21 +140,13 @@ module _ {V C A : Type 0} (meaning : Meaning V C A) (opening : HistoryOpening C)
       let before = all_of done ts in
       let m = effect_of meaning opening.contents (done t) before in
       let ms = effects_of meaning opening.contents done ts in
-      ap (λ l. table opening.contents l o) (reverse-append (m ∷ []) ms)
-      ∙ table-more opening.contents (reverse ms) m o
-      ∙ ap (content_by m o) (table_effects_of done ts o)
-      ∙ content_by_is (λ x. content_after meaning opening.contents x (done t ++ before))
-      (written_objects meaning (done t)) o (content_after meaning opening.contents o before)
-      ∙ ⊎_elim
-      (λ k. ap (λ b.
-      cond b (content_after meaning opening.contents o (done t ++ before))
-      (content_after meaning opening.contents o before)) k)
-      (λ k. ap (λ b.
-      cond b (content_after meaning opening.contents o (done t ++ before))
-      (content_after meaning opening.contents o before)) k
-      ∙ sym (content_past meaning opening.contents o (done t) before
-      (sym (contains_written meaning (done t) o) ∙ k)))
-      (cases_Bool (contains (written_objects meaning (done t)) o))
+      let after = λ (x : ℕ). content_after meaning opening.contents x (done t ++ before) in
+      let old = content_after meaning opening.contents o before in
+      let last = content_by_is after (written_objects meaning (done t)) o old in
+      let more = table-more opening.contents (reverse ms) m o in
+      let past = content_past meaning opening.contents o (done t) before in
+      let written = contains_written meaning (done t) o in
+      grind (arith, nat_tests, reverse-append (m ∷ []) ms, more, table_effects_of done ts o, last, written, past)
 
   -- the table of all effects is what the base sees
   pub table_base : (h : History V) → LawfulSteps meaning opening.contents h → (o : ℕ)
@@ -177,16 +161,9 @@ module _ {V C A : Type 0} (meaning : Meaning V C A) (opening : HistoryOpening C)
       ≡ map (λ o. (o, content_after meaning opening.contents o (visible_accesses h s)))
       (written_objects meaning (work h s))
   effect_seen h w s s0 l e =
-      let f = parents_are_older h (orderly meaning opening.contents h w) in
-      let t = parent_older h s f (omega arith) (stands_begun h s l) in
-      let all : serial_order_to h s ≡ work h s ++ work h 0 =
-      ap (all_of (work h)) (t.1 ∙ ap (λ u. s ∷ lineage h u) e ∙ ap (λ u. s ∷ u) (lineage-base h))
-      ∙ ap (λ u. work h s ++ u) (append-nil (work h 0)) in
-      map_agree (λ o. (o, content_after meaning opening.contents o (work h s ++ work h 0)))
-      (λ o. (o, content_after meaning opening.contents o (visible_accesses h s)))
-      (written_objects meaning (work h s))
-      (λ o. ap (λ c. (o, c))
-      (sym (ap (content_after meaning opening.contents o) all) ∙ (serials meaning opening.contents h w s l).sees o))
+      let p = parent_older h s (parents_are_older h (orderly meaning opening.contents h w)) in
+      let seen = serials meaning opening.contents h w s l in
+      grind (arith, nat_tests, p, stands_begun h s l, lineage-base h, append-nil, map_agree, seen)
 
   -- effects that make the opening's contents, and then those of the history, make what the base sees
   pub table_goes_on : (s : ℕ → C) (l : List (List (ℕ × C))) → ((o : ℕ) → table s l o ≡ opening.contents o)

@@ -1,17 +1,13 @@
 -- Of a write holder and any other holder, one is an ancestor of the other.
-use Rattle.std.proofs.Common.{Bool, List, None, Option, Some, arith, cond, false, inl, inr, refl, sym, true, ℕ, ◌<◌}
-use Rattle.std.proofs.Common.{◌∙◌, ◌≡◌, ◌≢◌, ◌⊎◌}
-use Rattle.std.proofs.lemmas.Bool.{and_from, false≢true}
+use Rattle.std.proofs.Common.{Bool, List, Some, arith, false, inl, inr, refl, sym, true, ℕ, ◌<◌, ◌∙◌, ◌≡◌, ◌≢◌, ◌⊎◌}
+use Rattle.std.proofs.{lemmas.Bool.false≢true, lemmas.Bool.Decides.nat_tests}
 use Rattle.std.specs.Prelude.{◌&&◌, ◌==◌, ◌||◌}
-use Rattle.argus_model.specs.{Ancestors.{is_ancestor, parent}}
-use Rattle.argus_model.specs.Event.{Aborted, Accessed, Began, Committed, Origin}
+use Rattle.argus_model.specs.{Ancestors.{is_ancestor, parent}, OwnerSteps.{StandsAlone, owner_by_steps, stands}}
+use Rattle.argus_model.specs.{Event.{Aborted, Accessed, Began, Committed, Origin}, HolderSteps.{has_used, may_by_steps}}
 use Rattle.argus_model.specs.History.{History, Opened, next_action, ◌▹◌}
-use Rattle.argus_model.specs.HolderSteps.{has_used, if_owned, may_by_steps}
-use Rattle.argus_model.specs.OwnerSteps.{StandsAlone, owner_by_steps, stands}
 use Rattle.argus_model.proofs.Ancestors.{ParentsAreOlder, ancestor_old, ancestor_self, ancestor_trans, parent_older}
-use Rattle.argus_model.proofs.Standing.{Orderly, handed_cases, owner_begun, owner_cases, parent_is}
-use Rattle.argus_model.proofs.Standing.{parents_are_older, stands_begun}
-use Rattle.std.proofs.lemmas.Bool.Decides.{nat_tests}
+use Rattle.argus_model.proofs.Standing.{Orderly, handed_cases, owner_begun, owner_cases, parent_is, parents_are_older}
+use Rattle.argus_model.proofs.Standing.{stands_begun}
 
 -- an ancestor of an action that stands, other than the action itself, is an ancestor of its parent
 pub above_parent : {V : Type 0} (history : History V) → ParentsAreOlder history → (action above : ℕ) → action ≢ 0
@@ -36,24 +32,14 @@ same_owner : {V : Type 0} (history : History V) (standing action owner : ℕ) �
     → stands history standing ≡ true → owner_by_steps history action ≡ Some owner → owner ≡ standing
 same_owner history standing action owner same stands_now owned = grind (arith, nat_tests)
 
--- a test that each owner of what counts passes, is passed
-test_passes : (counts : Bool) (test : ℕ → Bool) (found : Option ℕ)
-    → (counts ≡ true → (owner : ℕ) → found ≡ Some owner → test owner ≡ true)
-    → cond counts (if_owned test found) true ≡ true
-test_passes true test (Some owner) each = each refl owner refl
-test_passes true test None each = refl
-test_passes false test found each = refl
-
 -- Of each lemma here `all` says which accesses it speaks of: all of them, or the write accesses alone.
 module _ {V : Type 0} (writes : V → Bool) where
   -- each access was allowed by the holders
   abbrev pub Guarded : History V → Type 0
   Guarded (Opened before) = Unit {0}
-  Guarded (Began from ▹ older) = Guarded older
-  Guarded (Committed action ▹ older) = Guarded older
-  Guarded (Aborted actions ▹ older) = Guarded older
   Guarded (Accessed action object what ▹ older) =
       (may_by_steps writes older action object (writes what) older ≡ true) × Guarded older
+  Guarded (_ ▹ older) = Guarded older
 
   -- who has used the object after one more access did so by that access, or had used it before
   pub has_used_cases : (history : History V) (accessor accessed : ℕ) (what : V) (action object : ℕ) (all : Bool)
@@ -78,11 +64,9 @@ module _ {V : Type 0} (writes : V → Bool) where
   pub has_used_all : (history : History V) (action object : ℕ) (all : Bool)
       → has_used writes history action object false ≡ true → has_used writes history action object all ≡ true
   has_used_all (Opened before) action object all wrote = absurd (false≢true wrote)
-  has_used_all (Began from ▹ older) action object all wrote = has_used_all older action object all wrote
-  has_used_all (Committed child ▹ older) action object all wrote = has_used_all older action object all wrote
-  has_used_all (Aborted actions ▹ older) action object all wrote = has_used_all older action object all wrote
   has_used_all (Accessed accessor accessed what ▹ older) action object all wrote =
       grind (arith, nat_tests, has_used_all older action object all)
+  has_used_all (_ ▹ older) action object all wrote = has_used_all older action object all wrote
 
   -- who has used an object has begun
   pub has_used_begun : (history : History V) → Orderly history → (action object : ℕ) (all : Bool)
@@ -90,49 +74,30 @@ module _ {V : Type 0} (writes : V → Bool) where
   has_used_begun (Opened before) orderly action object all used = absurd (false≢true used)
   has_used_begun (Began from ▹ older) orderly action object all used =
       let begun_before = has_used_begun older orderly.1 action object all used in omega arith
-  has_used_begun (Committed child ▹ older) orderly action object all used =
-      has_used_begun older orderly.1 action object all used
-  has_used_begun (Aborted actions ▹ older) orderly action object all used =
-      has_used_begun older orderly.1 action object all used
   has_used_begun (Accessed accessor accessed what ▹ older) orderly action object all used =
       grind (arith, nat_tests, has_used_cases, stands_begun, has_used_begun older orderly.1 action object all)
+  has_used_begun (_ ▹ older) orderly action object all used = has_used_begun older orderly.1 action object all used
 
   -- where a lock is free for an action, each owner of an access in `older` to the object is an ancestor of it
   pub may_tells : (history older : History V) (action object user owner : ℕ) (all : Bool)
       → may_by_steps writes history action object all older ≡ true → has_used writes older user object all ≡ true
       → owner_by_steps history user ≡ Some owner → is_ancestor history owner action ≡ true
   may_tells history (Opened before) action object user owner all free used owned = absurd (false≢true used)
-  may_tells history (Began from ▹ older) action object user owner all free used owned =
-      may_tells history older action object user owner all free used owned
-  may_tells history (Committed child ▹ older) action object user owner all free used owned =
-      may_tells history older action object user owner all free used owned
-  may_tells history (Aborted actions ▹ older) action object user owner all free used owned =
-      may_tells history older action object user owner all free used owned
   may_tells history (Accessed accessor accessed what ▹ older) action object user owner all free used owned =
       grind (arith, nat_tests, may_tells history older action object user owner all)
+  may_tells history (_ ▹ older) action object user owner all free used owned =
+      may_tells history older action object user owner all free used owned
 
   -- where each owner of an access in `older` to the object is an ancestor of an action, the lock is free for it
   pub may_from : (history older : History V) (action object : ℕ) (all : Bool)
       → ((user owner : ℕ) → has_used writes older user object all ≡ true → owner_by_steps history user ≡ Some owner
       → is_ancestor history owner action ≡ true) → may_by_steps writes history action object all older ≡ true
   may_from history (Opened before) action object all each = refl
-  may_from history (Began from ▹ older) action object all each = may_from history older action object all each
-  may_from history (Committed child ▹ older) action object all each = may_from history older action object all each
-  may_from history (Aborted actions ▹ older) action object all each = may_from history older action object all each
   may_from history (Accessed accessor accessed what ▹ older) action object all each =
-      let counts = accessed == object && (all || writes what) in
-      let is_above = λ (holder : ℕ). is_ancestor history holder action in
-      let found = owner_by_steps history accessor in
-      let now : cond counts (if_owned is_above found) true ≡ true =
-      test_passes counts is_above found
-      (λ counted owner owned. each accessor owner (has_used_now older accessor accessed what object all counted) owned)
-      in
-      let before : may_by_steps writes history action object all older ≡ true =
-      may_from history older action object all
-      (λ user owner used owned.
-      each user owner (has_used_more older accessor accessed what user object all used) owned) in
-      and_from (cond counts (if_owned is_above found) true) (may_by_steps writes history action object all older) now
-      before
+      let now = has_used_now older accessor accessed what object all in
+      let more = has_used_more older accessor accessed what in
+      grind (arith, nat_tests, may_from history older action object all, now, more, each accessor)
+  may_from history (_ ▹ older) action object all each = may_from history older action object all each
 
   -- of the owners of a write access and of any access to the object, one is an ancestor of the other
   abbrev pub Exclusive : History V → Type 0
@@ -151,15 +116,8 @@ module _ {V : Type 0} (writes : V → Bool) where
   exclusive_begin : (history : History V) (from : Origin) → Orderly history → Exclusive history
       → Exclusive (Began from ▹ history)
   exclusive_begin history from orderly exclusive writer user object holder other wrote used held other_held =
-      let older = parents_are_older history orderly in
-      let held_before = owner_before history from orderly writer object holder false wrote held in
-      let other_before = owner_before history from orderly user object other true used other_held in
-      let holder_begun = owner_begun history writer holder older held_before in
-      let other_begun = owner_begun history user other older other_before in
-      elim (exclusive writer user object holder other wrote used held_before other_before) [
-        | inl above ↦ inl (ancestor_old history from holder other (omega arith) above)
-        | inr below ↦ inr (ancestor_old history from other holder (omega arith) below)
-      ]
+      let before = owner_before history from orderly in let older = parents_are_older history orderly in
+      grind (arith, nat_tests, exclusive writer user object, before, owner_begun history, older, ancestor_old)
 
   module _ (history : History V) (child : ℕ) (orderly : Orderly history) (alone : StandsAlone history child) where
     -- the owner is the parent, in the place of the child that has committed, or who it was before

@@ -2,22 +2,13 @@
 use Rattle.std.proofs.Common.{Bool, List, None, Option, Some, arith, false, refl, true, ℕ, ◌∙◌, ◌≡◌, ◌≢◌}
 use Rattle.std.proofs.{lemmas.Bool.{cases_eq, false≢true}, lemmas.Bool.Decides.nat_tests}
 use Rattle.std.specs.Prelude.{not, ◌&&◌, ◌==◌, ◌||◌}
-use Rattle.argus_model.specs.{Ancestors.{is_ancestor, is_under, parent}, History.{History, Opened, ◌▹◌}}
+use Rattle.argus_model.specs.Ancestors.{is_ancestor, is_under, parent}
+use Rattle.argus_model.specs.{History.{History, Opened, ◌▹◌}, HolderSteps.{has_used, holds, may_by_steps, used_by}}
 use Rattle.argus_model.specs.Event.{Aborted, Accessed, Began, Committed, Origin}
-use Rattle.argus_model.specs.HolderSteps.{has_used, holds, may_by_steps, used_by}
 use Rattle.argus_model.specs.OwnerSteps.{owner_inherited, is_exactly, owner_by_steps, stands, unless_lost}
 use Rattle.argus_model.proofs.Exclusion.{Guarded, exclusion, has_used_begun, has_used_cases, has_used_more}
 use Rattle.argus_model.proofs.Exclusion.{has_used_now, may_from, may_tells}
 use Rattle.argus_model.proofs.Standing.{Orderly, at_some, handed_from, handed_stays, owner_cases, some_at}
-
--- laws of tests
-or_apart : (here a b r s : Bool) → ((here && (a || b)) || (r || s)) ≡ (((here && a) || r) || ((here && b) || s))
-or_apart true a b r s = grind arith
-or_apart false a b r s = grind arith
-
-and_apart : (here a c r : Bool) → ((here && (a && c)) || (r && c)) ≡ (((here && a) || r) && c)
-and_apart true a c r = grind arith
-and_apart false a c r = grind arith
 
 at_handed_parent : (s p : ℕ) (q : Option ℕ) → p ≢ s
     → is_exactly (owner_inherited s p q) p ≡ (is_exactly q s || is_exactly q p)
@@ -40,27 +31,21 @@ module _ {V : Type 0} (writes : V → Bool) where
   pub used_by_agree : (t u : ℕ → Bool) (o : ℕ) (all : Bool) (k : History V)
       → ((b : ℕ) → has_used writes k b o all ≡ true → t b ≡ u b) → used_by writes t o all k ≡ used_by writes u o all k
   used_by_agree t u o all (Opened n) same = refl
-  used_by_agree t u o all (Began from ▹ k) same = used_by_agree t u o all k same
-  used_by_agree t u o all (Committed a ▹ k) same = used_by_agree t u o all k same
-  used_by_agree t u o all (Aborted a ▹ k) same = used_by_agree t u o all k same
   used_by_agree t u o all (Accessed b o' v ▹ k) same =
       grind (arith, nat_tests, used_by_agree t u o all k, has_used_more, has_used_now)
+  used_by_agree t u o all (_ ▹ k) same = used_by_agree t u o all k same
 
   used_by_or : (t u : ℕ → Bool) (o : ℕ) (all : Bool) (k : History V)
       → used_by writes (λ b. t b || u b) o all k ≡ (used_by writes t o all k || used_by writes u o all k)
   used_by_or t u o all (Opened n) = refl
-  used_by_or t u o all (Began from ▹ k) = used_by_or t u o all k
-  used_by_or t u o all (Committed a ▹ k) = used_by_or t u o all k
-  used_by_or t u o all (Aborted a ▹ k) = used_by_or t u o all k
-  used_by_or t u o all (Accessed b o' v ▹ k) = grind (arith, nat_tests, used_by_or t u o all k, or_apart)
+  used_by_or t u o all (Accessed b o' v ▹ k) = grind (arith, nat_tests, used_by_or t u o all k)
+  used_by_or t u o all (_ ▹ k) = used_by_or t u o all k
 
   used_by_and : (t : ℕ → Bool) (c : Bool) (o : ℕ) (all : Bool) (k : History V)
       → used_by writes (λ b. t b && c) o all k ≡ (used_by writes t o all k && c)
   used_by_and t c o all (Opened n) = refl
-  used_by_and t c o all (Began from ▹ k) = used_by_and t c o all k
-  used_by_and t c o all (Committed a ▹ k) = used_by_and t c o all k
-  used_by_and t c o all (Aborted a ▹ k) = used_by_and t c o all k
-  used_by_and t c o all (Accessed b o' v ▹ k) = grind (arith, nat_tests, used_by_and t c o all k, and_apart)
+  used_by_and t c o all (Accessed b o' v ▹ k) = grind (arith, nat_tests, used_by_and t c o all k)
+  used_by_and t c o all (_ ▹ k) = used_by_and t c o all k
 
   -- a begin leaves the holders of each object
   pub holds_begin : (h : History V) (from : Origin) (o : ℕ) (all : Bool) (x : ℕ) → Orderly h
@@ -102,9 +87,6 @@ module _ {V : Type 0} (writes : V → Bool) where
   pub used_by_found : (t : ℕ → Bool) (o : ℕ) (all : Bool) (k : History V) → used_by writes t o all k ≡ true
       → (b : ℕ) × (has_used writes k b o all ≡ true) × (t b ≡ true)
   used_by_found t o all (Opened n) m = absurd (false≢true m)
-  used_by_found t o all (Began from ▹ k) m = used_by_found t o all k m
-  used_by_found t o all (Committed a ▹ k) m = used_by_found t o all k m
-  used_by_found t o all (Aborted a ▹ k) m = used_by_found t o all k m
   used_by_found t o all (Accessed b o' v ▹ k) m =
       grind (
         arith,
@@ -113,16 +95,15 @@ module _ {V : Type 0} (writes : V → Bool) where
         used_by_found t o all k,
         has_used_more writes k b o' v,
       )
+  used_by_found t o all (_ ▹ k) m = used_by_found t o all k m
 
   -- one user of the object that passes the test is enough
   pub used_by_from : (t : ℕ → Bool) (o : ℕ) (all : Bool) (k : History V) (b : ℕ) → has_used writes k b o all ≡ true
       → t b ≡ true → used_by writes t o all k ≡ true
   used_by_from t o all (Opened n) b u m = absurd (false≢true u)
-  used_by_from t o all (Began from ▹ k) b u m = used_by_from t o all k b u m
-  used_by_from t o all (Committed a ▹ k) b u m = used_by_from t o all k b u m
-  used_by_from t o all (Aborted a ▹ k) b u m = used_by_from t o all k b u m
   used_by_from t o all (Accessed d o' v ▹ k) b u m =
       grind (arith, nat_tests, has_used_cases writes k d o' v b o all u, used_by_from t o all k b)
+  used_by_from t o all (_ ▹ k) b u m = used_by_from t o all k b u m
 
   -- where a lock is free for a, each holder is an ancestor of a
   pub may_asks : (h : History V) (a o : ℕ) (all : Bool) → may_by_steps writes h a o all h ≡ true → (x : ℕ)

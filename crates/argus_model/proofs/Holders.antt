@@ -1,28 +1,25 @@
 -- The lists of holders and the two lock rules are those of the owners by steps.
-use Rattle.std.proofs.Common.{Bool, arith, false, refl, true, ℕ, ◌++◌, ◌<◌, ◌≡◌, ◌≢◌}
+use Rattle.std.proofs.{Common.{Bool, arith, false, refl, true, ℕ, ◌++◌, ◌<◌, ◌≡◌, ◌≢◌}, lemmas.Bool.Decides.nat_tests}
 use Rattle.std.proofs.lemmas.Bool.{false≢true}
-use Rattle.std.specs.{List.list_all, Prelude.{◌||◌}}
-use Rattle.argus_model.specs.{Ancestors.is_ancestor, Event.{Aborted, Accessed, Began, Committed}, Numbers.contains}
-use Rattle.argus_model.specs.{History.{History, Opened, begun_actions, folded, next_action, ◌▹◌}, Status.is_begun}
+use Rattle.std.specs.{List.list_all, Prelude.◌||◌}
+use Rattle.argus_model.specs.{Ancestors.is_ancestor, History.{History, Opened, begun_actions, folded, next_action, ◌▹◌}}
+use Rattle.argus_model.specs.{Event.{Aborted, Accessed, Began, Committed}, Numbers.contains, Status.is_begun}
 use Rattle.argus_model.specs.{HolderSteps.{has_used, holds, may_by_steps, used_by}, Meaning.{Meaning, reads}}
 use Rattle.argus_model.specs.Holders.{has_access, holders, is_holder, may_read, may_write, readers, writers}
-use Rattle.argus_model.proofs.{Exclusion.{has_used_begun, has_used_cases}}
-use Rattle.argus_model.proofs.{HolderSteps.{may_asks, may_if, used_by_agree, used_by_found}, Numbers.rising_filter}
+use Rattle.argus_model.proofs.Exclusion.{has_used_begun, has_used_cases}
+use Rattle.argus_model.proofs.{HolderSteps.{may_asks, may_if, used_by_agree, used_by_found}, Numbers.joined_cases}
+use Rattle.argus_model.proofs.Numbers.{rising_filter, IsRising, contains_filter, every_at, every_from, filter_contains}
 use Rattle.argus_model.proofs.Live.{begun_contains, begun_rising, contains_unfolded, is_begun_from}
-use Rattle.argus_model.proofs.Numbers.{IsRising, contains_filter, every_at, every_from, filter_contains, joined_cases}
 use Rattle.argus_model.proofs.Owner.{base_above, is_held_by_is, owner_is, owner_unfolded}
 use Rattle.argus_model.proofs.Standing.{Orderly, at_some, owner_begun, parents_are_older, stands_unfolded}
-use Rattle.std.proofs.lemmas.Bool.Decides.{nat_tests}
 
 module _ {V : Type 0} (kind : V → Bool) where
   -- who has an access of this kind has a number past the folded ones
   pub has_used_unfolded : (h : History V) → Orderly h → (a o : ℕ) → has_used kind h a o false ≡ true → folded h < a
   has_used_unfolded (Opened n) w a o u = absurd (false≢true u)
-  has_used_unfolded (Began from ▹ h) w a o u = has_used_unfolded h w.1 a o u
-  has_used_unfolded (Committed s ▹ h) w a o u = has_used_unfolded h w.1 a o u
-  has_used_unfolded (Aborted z ▹ h) w a o u = has_used_unfolded h w.1 a o u
   has_used_unfolded (Accessed d o' v ▹ h) w a o u =
       grind (arith, nat_tests, stands_unfolded, has_used_unfolded h w.1 a o, has_used_cases)
+  has_used_unfolded (_ ▹ h) w a o u = has_used_unfolded h w.1 a o u
 
   -- who has an access of this kind began since the opening
   pub has_used_begun_action : (h : History V) → Orderly h → (a o : ℕ) → has_used kind h a o false ≡ true
@@ -32,10 +29,8 @@ module _ {V : Type 0} (kind : V → Bool) where
 
   has_access_is : (t : ℕ → Bool) (o : ℕ) (k : History V) → has_access kind t o k ≡ used_by kind t o false k
   has_access_is t o (Opened n) = refl
-  has_access_is t o (Began from ▹ k) = has_access_is t o k
-  has_access_is t o (Committed a ▹ k) = has_access_is t o k
-  has_access_is t o (Aborted a ▹ k) = has_access_is t o k
   has_access_is t o (Accessed a o' v ▹ k) = grind (arith, nat_tests, has_access_is t o k)
+  has_access_is t o (_ ▹ k) = has_access_is t o k
 
   -- who is a holder is one by steps, and the other way round
   pub is_holder_is : (h : History V) → Orderly h → (o x : ℕ) → x ≢ 0 → is_holder kind h o x ≡ holds kind h o false x
@@ -59,10 +54,8 @@ module _ {V C A : Type 0} (meaning : Meaning V C A) where
   pub used_by_kinds : (t : ℕ → Bool) (o : ℕ) (k : History V)
       → used_by meaning.writes t o true k ≡ (used_by (reads meaning) t o false k || used_by meaning.writes t o false k)
   used_by_kinds t o (Opened n) = refl
-  used_by_kinds t o (Began from ▹ k) = used_by_kinds t o k
-  used_by_kinds t o (Committed a ▹ k) = used_by_kinds t o k
-  used_by_kinds t o (Aborted a ▹ k) = used_by_kinds t o k
   used_by_kinds t o (Accessed a o' v ▹ k) = grind (arith, nat_tests, used_by_kinds t o k)
+  used_by_kinds t o (_ ▹ k) = used_by_kinds t o k
 
   -- where all listed holders are ancestors of a, each holder by steps is one
   pub every_holder : (kind : V → Bool) (h : History V) → Orderly h → (a o : ℕ)

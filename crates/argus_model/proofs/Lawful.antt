@@ -1,15 +1,13 @@
 -- A lawful history is lawful by the events' own forms.
-use Rattle.std.proofs.Common.{List, false, subst, sym, true, ℕ, ◌∙◌, ◌≡◌}
+use Rattle.std.proofs.{Common.{List, false, subst, sym, true, ℕ, ◌∙◌, ◌≡◌, arith}, lemmas.Bool.Decides.nat_tests}
 use Rattle.std.specs.{List.list_all, Prelude.{◌==◌, ◌||◌}}
-use Rattle.argus_model.specs.Event.{Aborted, Accessed, Began, Committed, Event, Origin, Sub}
-use Rattle.argus_model.specs.{Event.{origin_begun_by, origin_parent}, History.{History, Opened, HistoryOpening, ◌▹◌}}
-use Rattle.argus_model.specs.{HolderSteps.may_by_steps, Meaning.{Fits, Meaning}}
-use Rattle.argus_model.specs.{Lawful.{Allowed, Lawful, may_access}, OwnerSteps.{AllStand, StandsAlone, stands}}
-use Rattle.argus_model.specs.{Status.{has_live_child, is_live}, WorkSteps.LawfulSteps}
-use Rattle.argus_model.proofs.{Holders.{may_read_is, may_write_is}, Live.{child_is, live_stands}, Numbers.every_at}
-use Rattle.argus_model.proofs.{Sees.sees_is, Serial.{base_stands, orderly}, Standing.Orderly}
-use Rattle.std.proofs.Common.{arith}
-use Rattle.std.proofs.lemmas.Bool.Decides.{nat_tests}
+use Rattle.argus_model.specs.Event.{Aborted, Accessed, Began, Committed, Event, Origin, Sub, origin_begun_by}
+use Rattle.argus_model.specs.Event.{origin_parent}
+use Rattle.argus_model.specs.{History.{History, Opened, HistoryOpening, ◌▹◌}, Lawful.{Allowed, Lawful, may_access}}
+use Rattle.argus_model.specs.{HolderSteps.may_by_steps, Meaning.{Fits, Meaning}, WorkSteps.LawfulSteps}
+use Rattle.argus_model.specs.{OwnerSteps.{AllStand, StandsAlone, stands}, Status.{has_live_child, is_live}}
+use Rattle.argus_model.proofs.{Holders.{may_read_is, may_write_is}, Numbers.every_at, Serial.{base_stands, orderly}}
+use Rattle.argus_model.proofs.{Live.{child_is, live_stands}, Sees.sees_is, Standing.Orderly}
 
 -- the parent of an action that may begin stands
 pub parent_stands : {V : Type 0} (h : History V) → Orderly h → (from : Origin)

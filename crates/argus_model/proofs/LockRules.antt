@@ -1,24 +1,18 @@
 -- Holders of objects are live, and what the two lock rules require.
-use Rattle.std.proofs.Common.{Bool, false, subst, sym, true, ℕ, ◌++◌, ◌↔◌, ◌∙◌, ◌≡◌, ◌≢◌}
-use Rattle.std.proofs.lemmas.Bool.{both_ways}
-use Rattle.argus_model.specs.{Ancestors.is_ancestor, History.History, Meaning.{Meaning}, Numbers.contains}
-use Rattle.argus_model.specs.{Holders.{holders, may_read, may_write, readers, writers}, Status.is_live}
-use Rattle.argus_model.specs.OwnerSteps.{is_exactly, owner_by_steps}
-use Rattle.argus_model.proofs.{Counting.owner_stands, HolderSteps.used_by_found, Holders.listed, Live.stands_is_live}
-use Rattle.argus_model.proofs.{NextHolders.no_base_holder, Standing.{Orderly, at_some}}
-use Rattle.argus_model.proofs.Numbers.{every_at, every_from, joined, joined_cases, joined_left}
-use Rattle.std.proofs.Common.{arith}
-use Rattle.std.proofs.lemmas.Bool.Decides.{nat_tests}
+use Rattle.std.proofs.{Common.{Bool, true, ℕ, ◌++◌, ◌↔◌, ◌≡◌, arith}, lemmas.Bool.Decides.nat_tests}
+use Rattle.std.proofs.lemmas.Bool.{cases_eq}
+use Rattle.argus_model.specs.{Ancestors.is_ancestor, Holders.{holders, may_read, may_write, readers, writers}}
+use Rattle.argus_model.specs.{History.History, Numbers.contains, Meaning.Meaning, Status.is_live}
+use Rattle.argus_model.proofs.{Counting.owner_stands, Numbers.{every_at, every_from, joined, joined_cases, joined_left}}
+use Rattle.argus_model.proofs.{HolderSteps.used_by_found, NextHolders.no_base_holder, Standing.{Orderly, at_some}}
+use Rattle.argus_model.proofs.{Holders.listed, Live.stands_is_live}
 
 module _ {V C A : Type 0} (meaning : Meaning V C A) where
   holder_lives : (h : History V) → Orderly h → (kind : V → Bool) (o x : ℕ) → contains (holders kind h o) x ≡ true
       → is_live h x ≡ true
   holder_lives h w kind o x m =
-      let n : x ≢ 0 =
-      λ e. both_ways (contains (holders kind h o) 0) (no_base_holder kind h o)
-      (subst (λ y. contains (holders kind h o) y ≡ true) e m) in
-      let q = used_by_found kind (λ b. is_exactly (owner_by_steps h b) x) o false h (listed kind h w o x m) in
-      sym (stands_is_live h w x n) ∙ owner_stands h w q.0 x (at_some (owner_by_steps h q.0) x q.2)
+      let held = listed kind h w o x m in let live = stands_is_live h w x in let none = no_base_holder kind h o in
+      grind (arith, nat_tests, none, used_by_found kind, held, live, owner_stands h w, at_some, cases_eq x 0)
 
   -- who holds an object is live
   pub holders_live : (h : History V) → Orderly h → (o x : ℕ)

@@ -1,45 +1,26 @@
 -- Which actions are live, and the owners, after one more event.
-use Rattle.std.proofs.{lemmas.Bool.Decides.nat_tests, Common.{true, ℕ, ⊎_elim}}
-use Rattle.std.proofs.Common.{◌∙◌, ◌∷◌, ◌≡◌, ◌≢◌, Bool, List, None, Option, Some, ap, arith, false, refl, subst, sym}
-use Rattle.std.proofs.lemmas.Bool.{ne_eqb, not-true, cases_Bool, cases_eq, eq-eqb}
+use Rattle.std.proofs.{lemmas.Bool.Decides.nat_tests, lemmas.Bool.{cases_Bool, cases_eq}, Common.{refl, sym}}
+use Rattle.std.proofs.Common.{true, ℕ, ⊎_elim, ◌∙◌, ◌∷◌, ◌≡◌, ◌≢◌, Bool, List, None, Option, Some, ap, arith, false}
 use Rattle.std.specs.Prelude.{not, ◌&&◌, ◌==◌, ◌||◌}
-use Rattle.argus_model.specs.{Ancestors.{is_under, lineage, parent}, History.{History, next_action, ◌▹◌}}
+use Rattle.argus_model.specs.{Ancestors.{is_under, lineage, parent}, Owner.{Held, owner, passed_up, unless_gone}}
+use Rattle.argus_model.specs.{History.{History, next_action, ◌▹◌}, Status.{is_begun, is_live}}
 use Rattle.argus_model.specs.Event.{Aborted, Accessed, Began, Committed, Origin, origin_parent}
-use Rattle.argus_model.specs.Owner.{Held, owner, passed_up, unless_gone}
-use Rattle.argus_model.specs.OwnerSteps.{as_owner, owner_inherited, owner_by_steps, stands, unless_lost}
-use Rattle.argus_model.specs.Status.{is_begun, is_live}
+use Rattle.argus_model.specs.OwnerSteps.{as_owner, owner_inherited, owner_by_steps, unless_lost}
 use Rattle.argus_model.proofs.{Ancestors.{folded_next, lineage_cases, next_pos}, Owner.owner_is}
-use Rattle.argus_model.proofs.{Counting.{as_held, base_spared, begun_stays}, Standing.{stands_new, stands_old}}
-use Rattle.argus_model.proofs.Standing.{Orderly, at_some, handed_from, handed_stays, kept_stays}
-use Rattle.argus_model.proofs.Standing.{owner_cases, some_at, stands_abort}
-use Rattle.argus_model.proofs.Live.{is_begun_from, is_begun_parts, stands_is_live}
+use Rattle.argus_model.proofs.{Live.{is_begun_from, is_begun_parts, stands_is_live}, Standing.owner_cases}
+use Rattle.argus_model.proofs.Counting.{as_held, base_spared, begun_stays}
+use Rattle.argus_model.proofs.Standing.{stands_new, stands_old, Orderly, at_some, handed_from, handed_stays}
 
 -- the base is not called live
 pub zero_not_live : {V : Type 0} (h : History V) → is_live h 0 ≡ false
 zero_not_live h = grind (arith, nat_tests)
 
--- a test of the owner, for each action but the base
-from_stands : {V : Type 0} (h g : History V) → Orderly h → Orderly g → (test : ℕ → Bool)
-    → ((x : ℕ) → stands g x ≡ (stands h x && test x)) → (x : ℕ) → is_live g x ≡ (is_live h x && test x)
-from_stands h g w u test same x = grind (arith, nat_tests, zero_not_live, stands_is_live)
-
 -- after a begin are live the new action and who was live
 pub live_after_begin : {V : Type 0} (h : History V) (from : Origin) → Orderly (Began from ▹ h) → (x : ℕ)
     → is_live (Began from ▹ h) x ≡ ((x == next_action h) || is_live h x)
 live_after_begin h from w x =
-    let g = Began from ▹ h in
-    ⊎_elim
-    (λ e. subst (λ y. is_live g y ≡ ((y == next_action h) || is_live h y)) (sym e)
-    (zero_not_live g
-    ∙ sym (ap (λ b. b || is_live h 0) (ne_eqb 0 (next_action h) (let k = next_pos h in omega arith))
-    ∙ zero_not_live h)))
-    (λ n. sym (stands_is_live g w x n)
-    ∙ ⊎_elim
-    (λ e. stands_new h from x e ∙ sym (ap (λ b. b || is_live h x) (eq-eqb x (next_action h) e)))
-    (λ ne. stands_old h from x ne ∙ stands_is_live h w.1 x n
-    ∙ sym (ap (λ b. b || is_live h x) (ne_eqb x (next_action h) ne)))
-    (cases_eq x (next_action h)))
-    (cases_eq x 0)
+    let then = stands_is_live (Began from ▹ h) w x in let now = stands_is_live h w.1 x in let p = next_pos h in
+    grind (arith, nat_tests, zero_not_live, p, then, now, stands_new h from x, stands_old h from x, cases_eq x 0)
 
 -- after a commit are live all who were, but for the action itself
 pub live_after_commit : {V : Type 0} (h : History V) (s : ℕ) → Orderly (Committed s ▹ h) → (x : ℕ)
@@ -49,16 +30,14 @@ live_after_commit h s w = grind (arith, nat_tests)
 -- after an abort are live all who were, but for those under the aborted ones
 pub live_after_abort : {V : Type 0} (h : History V) (z : List ℕ) → Orderly (Aborted z ▹ h) → (x : ℕ)
     → is_live (Aborted z ▹ h) x ≡ (is_live h x && not (is_under h z x))
-live_after_abort h z w = grind (arith, nat_tests, from_stands h, stands_abort, some_at, kept_stays, at_some, not-true)
+live_after_abort h z w x = grind (arith, nat_tests)
 
 -- a begin leaves the owner of each begun action
 pub owner_after_begin : {V : Type 0} (h : History V) (from : Origin) → Orderly (Began from ▹ h) → (x : ℕ)
     → is_begun h x ≡ true → owner (Began from ▹ h) x ≡ owner h x
 owner_after_begin h from w x k =
-    let q = is_begun_parts h x k in
-    owner_is (Began from ▹ h) w x (begun_stays h (Began from) x k)
-    ∙ ap as_owner (⊎_elim (λ c. absurd (omega (arith, c.0, q.1))) (λ c. c.1) (owner_cases h from x))
-    ∙ sym (owner_is h w.1 x k)
+    let now = owner_is (Began from ▹ h) w x in let old = owner_is h w.1 x k in let q = is_begun_parts h x k in
+    grind (arith, nat_tests, q, now, begun_stays h (Began from) x k, owner_cases h from x, old)
 
 -- an access leaves the owner of each begun action
 pub owner_after_access : {V : Type 0} (h : History V) (a o : ℕ) (v : V) → Orderly (Accessed a o v ▹ h) → (x : ℕ)

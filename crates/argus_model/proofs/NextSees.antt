@@ -1,18 +1,16 @@
 -- What a live action sees, and the bases, after one more event.
-use Rattle.std.proofs.Common.{Bool, List, Some, ap, arith, cond, false, refl, sym, true, ℕ, ⊎_elim, ◌∙◌, ◌≡◌, ◌≢◌}
-use Rattle.std.proofs.lemmas.Bool.{and_from, and_left, and_right, cases_Bool}
+use Rattle.std.proofs.Common.{List, Some, ap, arith, cond, false, refl, sym, true, ℕ, ◌∙◌, ◌≡◌, ◌≢◌}
+use Rattle.std.proofs.{lemmas.Bool.cases_Bool, lemmas.Bool.Decides.nat_tests}
 use Rattle.std.specs.Prelude.{◌&&◌, ◌==◌}
-use Rattle.argus_model.specs.{Ancestors.{is_ancestor, parent}, Contents.{base, sees}, HolderSteps.has_used}
-use Rattle.argus_model.specs.{Event.{Aborted, Accessed, Began, Committed, Origin, origin_parent}, Holders.writers}
-use Rattle.argus_model.specs.{History.{History, HistoryOpening, next_action, ◌▹◌}, Meaning.Meaning, Numbers.contains}
-use Rattle.argus_model.specs.{OwnerSteps.{owner_by_steps, stands}, Work.content_after}
-use Rattle.argus_model.specs.WorkSteps.{visible_accesses}
-use Rattle.argus_model.proofs.{Ancestors.next_pos, Bools.or_none, Exclusion.Guarded, Holders.{contains_holders, listed}}
-use Rattle.argus_model.proofs.{HolderSteps.{used_by_found, used_by_from}, Sees.{base_is, sees_is}}
-use Rattle.argus_model.proofs.Serial.{base_stands, lineage-base, seen_abort, seen_access_other, seen_access_own}
-use Rattle.argus_model.proofs.Serial.{seen_as_s, seen_aside, seen_begin_new, seen_begin_old, seen_same}
+use Rattle.argus_model.specs.{Ancestors.{is_ancestor, parent}, Contents.{base, sees}, WorkSteps.visible_accesses}
+use Rattle.argus_model.specs.{HolderSteps.has_used, Event.{Aborted, Accessed, Began, Committed, Origin, origin_parent}}
+use Rattle.argus_model.specs.{Holders.writers, Meaning.Meaning, Numbers.contains, Work.content_after}
+use Rattle.argus_model.specs.{History.{History, HistoryOpening, next_action, ◌▹◌}, OwnerSteps.{owner_by_steps, stands}}
+use Rattle.argus_model.proofs.{Ancestors.next_pos, Sees.{base_is, sees_is}}
+use Rattle.argus_model.proofs.{Exclusion.Guarded, Serial.{lineage-base, seen_abort, seen_access_other, seen_access_own}}
+use Rattle.argus_model.proofs.Serial.{seen_as_s, seen_aside, seen_begin_new, seen_begin_old, seen_same, base_stands}
+use Rattle.argus_model.proofs.{Holders.{contains_holders, listed}, HolderSteps.{used_by_found, used_by_from}}
 use Rattle.argus_model.proofs.Standing.{Orderly, alone, at_some, parents_are_older, some_at, stands_upward}
-use Rattle.std.proofs.lemmas.Bool.Decides.{nat_tests}
 
 module _ {V C A : Type 0} (meaning : Meaning V C A) (opening : HistoryOpening C) where
   -- the base sees what is there for good
@@ -100,25 +98,11 @@ module _ {V C A : Type 0} (meaning : Meaning V C A) (opening : HistoryOpening C)
         ≡ cond (contains (writers meaning h o) s && is_ancestor h (parent h s) y) (sees meaning opening h s o)
         (sees meaning opening h y o)
     sees_after_commit =
-        let g = Committed s ▹ h in
-        let up = is_ancestor h (parent h s) y in
-        let wr = contains (writers meaning h o) s in
-        let at = λ (b : Bool). cond b (sees meaning opening h s o) (sees meaning opening h y o) in
-        ⊎_elim
-        (λ k. ⊎_elim
-        (λ a. both g h w w.1 y s o
-        (let q = wrote k in seen_as_s meaning opening.contents h s y w.1 gd w.0 ly ne a o q.0 q.1 q.2)
-        ∙ sym (ap at (and_from wr up k a)))
-        (λ a. both g h w w.1 y y o (seen_aside meaning opening.contents h s y w.1 gd w.0 ly ne a o)
-        ∙ sym (ap at (and_right wr up a)))
-        (cases_Bool up))
-        (λ k. both g h w w.1 y y o
-        (⊎_elim
-        (λ a. seen_same meaning opening.contents h s y w.1 gd w.0 ly ne a o (wrote_nothing k))
-        (λ a. seen_aside meaning opening.contents h s y w.1 gd w.0 ly ne a o)
-        (cases_Bool up))
-        ∙ sym (ap at (and_left wr up k)))
-        (cases_Bool wr)
+        let as_s = seen_as_s meaning opening.contents h s y w.1 gd w.0 ly ne in
+        let aside = seen_aside meaning opening.contents h s y w.1 gd w.0 ly ne in
+        let same = seen_same meaning opening.contents h s y w.1 gd w.0 ly ne in
+        let agree = both (Committed s ▹ h) h w w.1 y in let up = cases_Bool (is_ancestor h (parent h s) y) in
+        grind (arith, nat_tests, agree, wrote, wrote_nothing, as_s, aside, same, up)
 
   -- after a topaction's commit what it saw, where it wrote, is there for good; all else stays
   pub base_after_commit : (h : History V) (s : ℕ) → Orderly (Committed s ▹ h) → Guarded meaning.writes h → (o : ℕ)
@@ -126,10 +110,6 @@ module _ {V C A : Type 0} (meaning : Meaning V C A) (opening : HistoryOpening C)
       ≡ cond (contains (writers meaning h o) s && parent h s == 0) (sees meaning opening h s o)
       (base meaning opening h o)
   base_after_commit h s w gd o =
-      let wr = contains (writers meaning h o) s in
-      let above : is_ancestor h (parent h s) 0 ≡ (parent h s == 0) =
-      ap (λ t. contains t (parent h s)) (lineage-base h) ∙ sym (or_none (parent h s == 0)) in
-      sym (sees_base (Committed s ▹ h) w o)
-      ∙ sees_after_commit h s w gd 0 (base_stands h w.1) (λ e. w.0.not_base (sym e)) o
-      ∙ ap (λ b. cond (wr && b) (sees meaning opening h s o) (sees meaning opening h 0 o)) above
-      ∙ ap (λ c. cond (wr && parent h s == 0) (sees meaning opening h s o) c) (sees_base h w.1 o)
+      let now = sees_base (Committed s ▹ h) w o in let then = sees_base h w.1 o in
+      let sees_now = sees_after_commit h s w gd 0 (base_stands h w.1) in
+      grind (arith, nat_tests, lineage-base h, now, sees_now, then)

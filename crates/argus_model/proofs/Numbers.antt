@@ -1,9 +1,8 @@
 -- Members of lists of numbers, and rising lists.
-use Rattle.std.proofs.Common.{Bool, List, [], arith, false, inr, refl, subst, sym, true, ℕ, ⊎_elim, ◌++◌, ◌<◌, ◌∙◌}
-use Rattle.std.proofs.{Common.{◌∷◌, ◌≡◌, ◌⊎◌}, lemmas.Bool.Decides.nat_tests}
-use Rattle.std.proofs.lemmas.Bool.{cases_Bool, cases_eq, eqb-true, false≢true, or_cases, or_parts, or_right}
-use Rattle.std.specs.{List.{AllByRecursion, list_all, list_any}, List.Sorted.IsStrictlyIncreasing}
-use Rattle.std.specs.Prelude.{filter, nat_lt, ◌==◌, ◌||◌}
+use Rattle.std.proofs.Common.{Bool, List, [], arith, false, inr, refl, sym, true, ℕ, ◌++◌, ◌<◌, ◌∙◌, ◌∷◌, ◌≡◌, ◌⊎◌}
+use Rattle.std.proofs.{lemmas.Bool.Decides.nat_tests, lemmas.Bool.{cases_Bool, cases_eq, false≢true, or_parts}}
+use Rattle.std.specs.{List.{AllByRecursion, list_all, list_any}, Prelude.{filter, nat_lt, ◌==◌, ◌||◌}}
+use Rattle.std.specs.List.Sorted.{IsStrictlyIncreasing}
 use Rattle.argus_model.specs.Numbers.{contains, insert}
 
 -- each number is less than those after it
@@ -93,25 +92,16 @@ pub rising-more : (xs : List ℕ) (n : ℕ) → IsRising xs → ((x : ℕ) → c
     → IsRising (xs ++ n ∷ [])
 rising-more [] n r l = (λ y m. absurd (false≢true m), tt)
 rising-more (x ∷ xs) n r l =
-    let here : contains (x ∷ xs) x ≡ true = grind (arith, nat_tests) in (
-      λ y m. ⊎_elim (λ k. r.0 y k)
-          (λ k. ⊎_elim (λ q. subst (λ u. x < u) (sym (eqb-true y n q)) (l x here)) (λ q. absurd (false≢true q))
-          (or_cases (y == n) false k)) (joined_cases xs (n ∷ []) y m),
-      rising-more xs n r.1 (λ y m. l y (or_right (y == x) (contains xs y) m)),
-    )
+    grind (arith, nat_tests, contains_first x xs, joined_cases xs (n ∷ []), rising-more xs n r.1)
 
 -- what is left of a rising list by a filter rises
 pub rising_filter : (p : ℕ → Bool) (xs : List ℕ) → IsRising xs → IsRising (filter p xs)
 rising_filter p [] r = tt
 rising_filter p (x ∷ xs) r = grind (arith, nat_tests, rising_filter p xs r.1, contains_filter p xs, cases_Bool (p x))
 
--- so is each less than the next
-increasing_more : (x y : ℕ) (ys : List ℕ) → x < y → IsStrictlyIncreasing (y ∷ ys) → IsStrictlyIncreasing (x ∷ y ∷ ys)
-increasing_more x y ys l rest = grind (arith, nat_tests)
-
 -- a rising list is strictly increasing, in the library's words
 pub increasing : (xs : List ℕ) → IsRising xs → IsStrictlyIncreasing xs
-increasing (x ∷ y ∷ ys) r = increasing_more x y ys (r.0 y (contains_first y ys)) (increasing (y ∷ ys) r.1)
+increasing (x ∷ y ∷ ys) r = grind (arith, nat_tests, contains_first y ys, increasing (y ∷ ys) r.1)
 increasing _ r = λ k l. absurd (omega (arith, l))
 
 -- a number that a list doesn't have differs from each on it

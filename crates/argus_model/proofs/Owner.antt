@@ -1,9 +1,8 @@
 -- The owner by its plain definition is the owner by steps.
-use Rattle.std.proofs.Common.{None, Option, Some, arith, refl, suc, true, zero, ℕ, ◌<◌}
-use Rattle.std.proofs.{Common.{◌≡◌, ◌≢◌}, lemmas.Bool.{cases_Bool, cases_eq}}
-use Rattle.std.proofs.lemmas.Bool.Decides.{nat_tests}
-use Rattle.argus_model.specs.{Ancestors.{is_ancestor, is_under, lineage, parent}, WorkSteps.owner_passes}
-use Rattle.argus_model.specs.Event.{Aborted, Accessed, Began, Committed, origin_parent}
+use Rattle.std.proofs.Common.{None, Option, Some, arith, refl, suc, true, zero, ℕ, ◌<◌, ◌≡◌, ◌≢◌}
+use Rattle.std.proofs.{lemmas.Bool.{cases_Bool, cases_eq}, lemmas.Bool.Decides.nat_tests}
+use Rattle.argus_model.specs.Ancestors.{is_ancestor, is_under, lineage, parent}
+use Rattle.argus_model.specs.{WorkSteps.owner_passes, Event.{Aborted, Accessed, Began, Committed, origin_parent}}
 use Rattle.argus_model.specs.History.{History, Opened, folded, next_action, ◌▹◌}
 use Rattle.argus_model.specs.Owner.{counts_for, is_base, is_held_by, owner, owner_up}
 use Rattle.argus_model.specs.OwnerSteps.{as_owner, is_exactly, owner_by_steps}
@@ -19,9 +18,7 @@ pub parent_unfolded : {V : Type 0} (h : History V) → Orderly h → (a : ℕ) �
 parent_unfolded (Opened m) w a l b n = absurd (omega arith)
 parent_unfolded (Began from ▹ h) w a l b n =
     grind (arith, nat_tests, stands_unfolded h (origin_parent from), parent_unfolded h w.1 a l, parent_cases h from a)
-parent_unfolded (Committed s ▹ h) w a l b n = parent_unfolded h w.1 a l b n
-parent_unfolded (Aborted z ▹ h) w a l b n = parent_unfolded h w.1 a l b n
-parent_unfolded (Accessed d o v ▹ h) w a l b n = parent_unfolded h w.1 a l b n
+parent_unfolded (_ ▹ h) w a l b n = parent_unfolded h w.1 a l b n
 
 -- an owner other than the base has a number past the folded ones
 pub owner_unfolded : {V : Type 0} (h : History V) → Orderly h → (a x : ℕ) → owner_by_steps h a ≡ Some x → x ≢ 0
@@ -67,9 +64,7 @@ pub base_above : {V : Type 0} (h : History V) (y : ℕ) → is_ancestor h 0 y �
 base_above (Opened n) y = grind (arith, nat_tests, cases_eq y 0)
 base_above (Began from ▹ h) y =
     grind (arith, nat_tests, base_above h (origin_parent from), base_above h y, lineage_cases h from y)
-base_above (Committed a ▹ h) y = base_above h y
-base_above (Aborted a ▹ h) y = base_above h y
-base_above (Accessed a o v ▹ h) y = base_above h y
+base_above (_ ▹ h) y = base_above h y
 
 -- what has this owner counts for y where the owner is an ancestor of y
 pub counts_for_is : {V : Type 0} (h : History V) (y : ℕ) (q : Option ℕ)

@@ -1,19 +1,16 @@
 -- Doomed actions have no owner, live ones themselves, and committed ones their parent's.
-use Rattle.std.proofs.Common.{Bool, None, Option, Some, ap, arith, false, refl, subst, sym, true, ℕ, ⊎_elim, ◌<◌}
-use Rattle.std.proofs.{Common.{◌∙◌, ◌≡◌, ◌≢◌}, lemmas.Bool.or_cases, lemmas.Bool.Decides.nat_tests}
-use Rattle.std.proofs.lemmas.Bool.{cases_Bool, cases_eq, eqb-true, false_from_ne_true, false≢true}
-use Rattle.std.specs.Prelude.{◌==◌, ◌||◌}
-use Rattle.argus_model.specs.{Ancestors.{is_ancestor, is_under, parent}}
+use Rattle.std.proofs.Common.{Bool, None, Option, Some, ap, arith, false, refl, sym, true, ℕ, ⊎_elim, ◌<◌, ◌∙◌, ◌≡◌}
+use Rattle.std.proofs.{Common.◌≢◌, lemmas.Bool.Decides.nat_tests, lemmas.Bool.{cases_Bool, cases_eq, false≢true}}
+use Rattle.std.specs.Prelude.{◌||◌}
+use Rattle.argus_model.specs.{Ancestors.{is_ancestor, is_under, parent}, Status.{has_committed, is_doomed, was_aborted}}
 use Rattle.argus_model.specs.Event.{Aborted, Accessed, Began, Committed}
 use Rattle.argus_model.specs.History.{History, Opened, folded, next_action, ◌▹◌}
-use Rattle.argus_model.specs.OwnerSteps.{owner_inherited, is_exactly, owner_by_steps, stands, unless_lost}
-use Rattle.argus_model.specs.Status.{has_committed, is_doomed, was_aborted}
-use Rattle.argus_model.proofs.Ancestors.{ancestor_le, ancestor_old, ancestor_old_is, ancestor_trans}
-use Rattle.argus_model.proofs.{Ancestors.{lineage_cases, parent_cases}, Bools.same_bool, Exclusion.above_parent}
-use Rattle.argus_model.proofs.{Numbers.any_agree, Standing.stands_upward}
-use Rattle.argus_model.proofs.Standing.{Orderly, at_some, handed_cases, handed_from, handed_stays, kept_cases}
-use Rattle.argus_model.proofs.Standing.{owned_begun, owner_begun, owner_cases, parent_begun, parent_is}
+use Rattle.argus_model.specs.OwnerSteps.{owner_inherited, owner_by_steps, stands, unless_lost}
+use Rattle.argus_model.proofs.Ancestors.{ancestor_le, ancestor_old, ancestor_old_is, ancestor_trans, lineage_cases}
+use Rattle.argus_model.proofs.{Ancestors.parent_cases, Exclusion.above_parent, Numbers.any_agree, Standing.stands_old}
 use Rattle.argus_model.proofs.Standing.{parents_are_older, stands_abort, stands_begun, stands_commit, stands_unfolded}
+use Rattle.argus_model.proofs.Standing.{kept_cases, owned_begun, owner_begun, owner_cases, parent_begun, parent_is}
+use Rattle.argus_model.proofs.Standing.{stands_upward, Orderly, at_some, handed_cases, handed_from, handed_stays}
 
 abbrev gone : Option ℕ → Bool
 gone None = true
@@ -25,13 +22,8 @@ pub owner_ancestor : {V : Type 0} (h : History V) → Orderly h → (a x : ℕ) 
 owner_ancestor (Opened n) w a x e = grind (arith, nat_tests, cases_eq a 0)
 owner_ancestor (Began from ▹ h) w a x e = grind (arith, nat_tests, owner_ancestor h w.1 a x)
 owner_ancestor (Committed s ▹ h) w a x e =
-    ⊎_elim
-    (λ k. ancestor_trans h x s a (parents_are_older h w.1) (owned_begun h a s k.0)
-    (subst (λ u. is_ancestor h u s ≡ true) (sym k.1)
-    (parent_is h (parents_are_older h w.1) s w.0.not_base w.0.standing).1)
-    (owner_ancestor h w.1 a s k.0))
-    (λ k. owner_ancestor h w.1 a x k.0)
-    (handed_cases s (parent h s) (owner_by_steps h a) x e)
+    let f = parents_are_older h w.1 in let k = handed_cases s (parent h s) (owner_by_steps h a) x e in
+    grind (arith, nat_tests, ancestor_trans h, f, owned_begun h a, parent_is h, owner_ancestor h w.1 a, k)
 owner_ancestor (Aborted z ▹ h) w a x e = owner_ancestor h w.1 a x (kept_cases (is_under h z) (owner_by_steps h a) x e).0
 owner_ancestor (Accessed b o v ▹ h) w a x e = owner_ancestor h w.1 a x e
 
@@ -41,24 +33,14 @@ pub ancestor_owner : {V : Type 0} (h : History V) → Orderly h → (a x z : ℕ
 ancestor_owner (Opened n) w a x z e l m =
     ⊎_elim (λ k. grind (arith, nat_tests)) (λ k. absurd (grind (arith, nat_tests))) (cases_eq a 0)
 ancestor_owner (Began from ▹ h) w a x z e l m =
-    ⊎_elim
-    (λ k. let q : a ≡ x = grind arith in subst (λ u. is_ancestor (Began from ▹ h) z u ≡ true) q m)
-    (λ k. let e' = sym k.1 ∙ e in let m' = ancestor_old_is h from z a k.0 m in
-    let al = owned_begun h a x e' in let zl = ancestor_le h z a (parents_are_older h w.1) al m' in let xl =
-    owner_begun h a x (parents_are_older h w.1) e' in
-    let l' : stands h z ≡ true =
-    ⊎_elim (λ q. absurd (omega (arith, q.0))) (λ q. ap (λ o. is_exactly o z) (sym q.1) ∙ l)
-    (owner_cases h from z) in
-    ancestor_old h from z x (omega arith) (ancestor_owner h w.1 a x z e' l' m'))
-    (owner_cases h from a)
+    let f = parents_are_older h w.1 in let ih = ancestor_owner h w.1 a x z in let o = owner_cases h from in
+    let b = owned_begun h a x in let le = ancestor_le h z a in let c = owner_begun h a x in
+    let old = ancestor_old h from z x in let st = stands_old h from z in
+    grind (arith, nat_tests, ancestor_old_is, b, le, f, c, o, old, ih, st)
 ancestor_owner (Committed s ▹ h) w a x z e l m =
-    let f = parents_are_older h w.1 in
+    let f = parents_are_older h w.1 in let k = handed_cases s (parent h s) (owner_by_steps h a) x e in
     let q = stands_commit h f (stands_upward h w.1) s z w.0.not_base w.0.standing l in
-    ⊎_elim
-    (λ k. subst (λ u. is_ancestor h z u ≡ true) (sym k.1)
-    (above_parent h f s z w.0.not_base w.0.standing q.1 (ancestor_owner h w.1 a s z k.0 q.0 m)))
-    (λ k. ancestor_owner h w.1 a x z k.0 q.0 m)
-    (handed_cases s (parent h s) (owner_by_steps h a) x e)
+    grind (arith, nat_tests, f, q, above_parent h, ancestor_owner h w.1 a s z, ancestor_owner h w.1 a x z, k)
 ancestor_owner (Aborted y ▹ h) w a x z e l m =
     ancestor_owner h w.1 a x z (kept_cases (is_under h y) (owner_by_steps h a) x e).0 (stands_abort h y z l).0 m
 ancestor_owner (Accessed b o v ▹ h) w a x z e l m = ancestor_owner h w.1 a x z e l m
@@ -67,10 +49,9 @@ aborted_agree : {V : Type 0} (t u : ℕ → Bool) (h : History V) → Orderly h 
     → was_aborted t h ≡ was_aborted u h
 aborted_agree t u (Opened n) w same = refl
 aborted_agree t u (Began from ▹ h) w same = aborted_agree t u h w.1 (λ z l. same z (omega arith))
-aborted_agree t u (Committed s ▹ h) w same = aborted_agree t u h w.1 same
 aborted_agree t u (Aborted zs ▹ h) w same =
     grind (arith, nat_tests, any_agree t u zs, stands_begun h, aborted_agree t u h w.1 same)
-aborted_agree t u (Accessed a o v ▹ h) w same = aborted_agree t u h w.1 same
+aborted_agree t u (_ ▹ h) w same = aborted_agree t u h w.1 same
 
 gone-handed : (s p : ℕ) (o : Option ℕ) → gone (owner_inherited s p o) ≡ gone o
 gone-handed s p None = refl
@@ -101,11 +82,8 @@ doomed_gone (Began from ▹ h) w a u l =
     )
 doomed_gone (Committed s ▹ h) w a u l = doomed_gone h w.1 a u l ∙ sym (gone-handed s (parent h s) (owner_by_steps h a))
 doomed_gone (Aborted zs ▹ h) w a u l =
-    ap (λ b. is_under h zs a || b) (doomed_gone h w.1 a u l)
-    ∙ gone-kept (is_under h zs) (owner_by_steps h a) (is_under h zs a)
-    (λ x e. any_agree (λ z. is_ancestor h z a) (λ z. is_ancestor h z x) zs
-    (λ z i. same_bool (is_ancestor h z a) (is_ancestor h z x) (λ m. ancestor_owner h w.1 a x z e (w.0 z i).1 m)
-    (λ m. ancestor_trans h z x a (parents_are_older h w.1) l m (owner_ancestor h w.1 a x e))))
+    let up = ancestor_owner h w.1 a in let trans = ancestor_trans h in let f = parents_are_older h w.1 in
+    grind (arith, nat_tests, doomed_gone h w.1 a u l, gone-kept, any_agree, up, trans, f, owner_ancestor h w.1 a)
 doomed_gone (Accessed b o v ▹ h) w a u l = doomed_gone h w.1 a u l
 
 -- what has not committed has no owner but itself
@@ -125,45 +103,27 @@ committed_begun (Opened n) w a m = absurd (false≢true m)
 committed_begun (Began from ▹ h) w a m = let k = committed_begun h w.1 a m in (k.0, omega (arith, k.1))
 committed_begun (Committed s ▹ h) w a m =
     grind (arith, nat_tests, stands_begun h s w.0.standing, committed_begun h w.1 a)
-committed_begun (Aborted z ▹ h) w a m = committed_begun h w.1 a m
-committed_begun (Accessed b o v ▹ h) w a m = committed_begun h w.1 a m
+committed_begun (_ ▹ h) w a m = committed_begun h w.1 a m
 
 -- who has committed has a number past the folded ones
 pub committed_unfolded : {V : Type 0} (h : History V) → Orderly h → (a : ℕ) → has_committed h a ≡ true → folded h < a
 committed_unfolded (Opened n) w a m = absurd (false≢true m)
-committed_unfolded (Began from ▹ h) w a m = committed_unfolded h w.1 a m
 committed_unfolded (Committed s ▹ h) w a m =
     grind (arith, nat_tests, stands_unfolded h s w.0.not_base w.0.standing, committed_unfolded h w.1 a)
-committed_unfolded (Aborted z ▹ h) w a m = committed_unfolded h w.1 a m
-committed_unfolded (Accessed b o v ▹ h) w a m = committed_unfolded h w.1 a m
+committed_unfolded (_ ▹ h) w a m = committed_unfolded h w.1 a m
 
 -- what has committed has its parent's owner
-passed_on : {V : Type 0} (h : History V) → Orderly h → (a : ℕ) → has_committed h a ≡ true
+pub owner_passed : {V : Type 0} (h : History V) → Orderly h → (a : ℕ) → has_committed h a ≡ true
     → owner_by_steps h a ≡ owner_by_steps h (parent h a)
-passed_on (Opened n) w a m = absurd (false≢true m)
-passed_on (Began from ▹ h) w a m =
-    let b = committed_begun h w.1 a m in
-    let pb = parent_begun h a (parents_are_older h w.1) in
-    ⊎_elim (λ k. absurd (omega (arith, k.0, b.1)))
-    (λ k. ⊎_elim (λ q. absurd (omega (arith, q.0, b.1)))
-    (λ q. k.1 ∙ passed_on h w.1 a m
-    ∙ ⊎_elim (λ r. absurd (omega (arith, r.0))) (λ r. sym r.1) (owner_cases h from (parent h a))
-    ∙ ap (owner_by_steps (Began from ▹ h)) (sym q.1))
-    (parent_cases h from a))
-    (owner_cases h from a)
-passed_on (Committed s ▹ h) w a m =
-    let p = parent h s in
-    ⊎_elim
-    (λ k. let e = eqb-true s a k in
-    let i = parent_is h (parents_are_older h w.1) s w.0.not_base w.0.standing in
-    let op = at_some (owner_by_steps h p) p (stands_upward h w.1 p s w.0.standing i.1) in
-    subst (λ u. owner_inherited s p (owner_by_steps h u) ≡ owner_inherited s p (owner_by_steps h (parent h u))) e
-    (handed_from s p (owner_by_steps h s) (at_some (owner_by_steps h s) s w.0.standing)
-    ∙ sym (handed_stays s p (owner_by_steps h p) p op (omega (arith, i.0)))))
-    (λ k. ap (owner_inherited s p) (passed_on h w.1 a k))
-    (or_cases (s == a) (has_committed h a) m)
-passed_on (Aborted z ▹ h) w a m = ap (unless_lost (is_under h z)) (passed_on h w.1 a m)
-passed_on (Accessed b o v ▹ h) w a m = passed_on h w.1 a m
+owner_passed (Opened n) w a m = absurd (false≢true m)
+owner_passed (Began from ▹ h) w a m =
+    let c = committed_begun h w.1 a m in let b = parent_begun h a (parents_are_older h w.1) in
+    grind (arith, nat_tests, c, b, owner_passed h w.1 a m, owner_cases h from, parent_cases h from a)
+owner_passed (Committed s ▹ h) w a m =
+    let i = parent_is h (parents_are_older h w.1) s w.0.not_base w.0.standing in let up = stands_upward h w.1 in
+    grind (arith, nat_tests, i, at_some, up, handed_from, handed_stays, owner_passed h w.1 a)
+owner_passed (Aborted z ▹ h) w a m = ap (unless_lost (is_under h z)) (owner_passed h w.1 a m)
+owner_passed (Accessed b o v ▹ h) w a m = owner_passed h w.1 a m
 
 -- a doomed action has no owner
 pub owner_gone : {V : Type 0} (h : History V) → Orderly h → (a : ℕ) → folded h < a → a < next_action h
@@ -175,22 +135,10 @@ pub owner_self : {V : Type 0} (h : History V) → Orderly h → (a : ℕ) → fo
     → is_doomed h a ≡ false → has_committed h a ≡ false → owner_by_steps h a ≡ Some a
 owner_self h w a u l d n = grind (arith, nat_tests, doomed_gone, moved)
 
--- who has committed has the owner of its parent
-pub owner_passed : {V : Type 0} (h : History V) → Orderly h → (a : ℕ) → has_committed h a ≡ true
-    → owner_by_steps h a ≡ owner_by_steps h (parent h a)
-owner_passed h w a m = passed_on h w a m
-
 -- what stands has begun, and is neither committed nor doomed
 pub stands_plain : {V : Type 0} (h : History V) → Orderly h → (a : ℕ) → stands h a ≡ true
     → (a < next_action h) × (has_committed h a ≡ false) × (is_doomed h a ≡ false)
 stands_plain h w a l =
-    let o = at_some (owner_by_steps h a) a l in let b = stands_begun h a l in (
-      b,
-      false_from_ne_true (has_committed h a) (λ m.
-          let p = parent h a in let c = committed_begun h w a m in
-          let i = parent_is h (parents_are_older h w) a (omega (arith, c.0)) l in
-          let op = at_some (owner_by_steps h p) p (stands_upward h w p a l i.1) in
-          let e = passed_on h w a m in
-          let q : a ≡ p = grind arith in omega (arith, i.0)),
-      doomed_gone h w a (λ k. stands_unfolded h a k l) b ∙ ap gone o,
-    )
+    let c = committed_begun h w a in let i = parent_is h (parents_are_older h w) a in let up = stands_upward h w in
+    let d = doomed_gone h w a in let b = stands_begun h a l in let u = stands_unfolded h a in
+    grind (arith, nat_tests, at_some, b, c, i, up, owner_passed h w a, d, u, gone, cases_Bool (has_committed h a))

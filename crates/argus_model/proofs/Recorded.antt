@@ -1,11 +1,10 @@
 -- Each access of the serial order is an event of the history.
-use Rattle.std.proofs.Common.{List, [], inl, inr, refl, subst, sym, ℕ, ⊎_elim, ◌++◌, ◌∷◌, ◌≡◌}
-use Rattle.std.specs.Prelude.{◌⊎◌}
-use Rattle.argus_model.specs.{Ancestors.{lineage}, Event.{Aborted, Accessed, Began, Committed}, Work.work}
-use Rattle.argus_model.specs.History.{History, Opened, ◌▹◌}
-use Rattle.argus_model.specs.Work.{Access, IsOnRecord, all_of, committed_topactions, serial_order, serial_order_to}
-use Rattle.std.proofs.Common.{arith}
+use Rattle.std.proofs.Common.{List, [], inl, inr, refl, subst, sym, ℕ, ⊎_elim, ◌++◌, ◌∷◌, ◌≡◌, arith}
 use Rattle.std.proofs.lemmas.Bool.Decides.{nat_tests}
+use Rattle.std.specs.Prelude.{◌⊎◌}
+use Rattle.argus_model.specs.{Ancestors.lineage, Work.serial_order_to}
+use Rattle.argus_model.specs.{Event.{Aborted, Accessed, Began, Committed}, History.{History, Opened, ◌▹◌}}
+use Rattle.argus_model.specs.Work.{work, Access, IsOnRecord, all_of, committed_topactions, serial_order}
 
 -- x is one of these
 abbrev IsOneOf : {X : Type 0} → List X → X → Type 0
@@ -24,11 +23,10 @@ one_there (y ∷ later) x earlier = inr (one_there later x earlier)
 module _ {V : Type 0} where
   work_on_record : (h : History V) (a : ℕ) (e : Access V) → IsOneOf (work h a) e → IsOnRecord h e
   work_on_record (Opened n) a e m = m
-  work_on_record (Began from ▹ h) a e m = work_on_record h a e m
-  work_on_record (Aborted zs ▹ h) a e m = work_on_record h a e m
   work_on_record (Committed s ▹ h) a e m =
       grind (arith, nat_tests, work_on_record h s e, work_on_record h a e, one_of-append)
   work_on_record (Accessed d o v ▹ h) a e m = grind (arith, nat_tests, work_on_record h a e)
+  work_on_record (_ ▹ h) a e m = work_on_record h a e m
 
   all_on_record : (h : History V) (xs : List ℕ) (e : Access V) → IsOneOf (all_of (work h) xs) e → IsOnRecord h e
   all_on_record h [] e m = absurd m

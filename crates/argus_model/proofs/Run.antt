@@ -1,11 +1,9 @@
 -- A list that replays, newest first, gives its answers again, oldest first.
-use Rattle.std.proofs.Common.{List, [], refl, subst, sym, ℕ, ◌++◌, ◌∷◌, ◌≡◌}
+use Rattle.std.proofs.{Common.{List, [], refl, subst, sym, ℕ, ◌++◌, ◌∷◌, ◌≡◌, arith}, lemmas.Bool.Decides.nat_tests}
 use Rattle.std.proofs.lemmas.List.{reverse-append}
 use Rattle.std.specs.Prelude.{reverse}
-use Rattle.argus_model.specs.{Meaning.{Fits, Meaning}, Run.{AnswersAgain, after_access, run}, WorkSteps.Replays}
-use Rattle.argus_model.specs.Work.{Access, content_after, content_before}
-use Rattle.std.proofs.Common.{arith}
-use Rattle.std.proofs.lemmas.Bool.Decides.{nat_tests}
+use Rattle.argus_model.specs.{Meaning.{Fits, Meaning}, WorkSteps.Replays}
+use Rattle.argus_model.specs.{Run.{AnswersAgain, after_access, run}, Work.{Access, content_after, content_before}}
 
 module _ {V C A : Type 0} (meaning : Meaning V C A) (contents : ℕ → C) where
   run-more : (s : ℕ → C) (es : List (Access V)) (e : Access V) (o : ℕ)

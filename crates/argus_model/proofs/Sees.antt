@@ -1,26 +1,21 @@
 -- What an action sees, and the base, are what the accesses that count for it leave.
-use Rattle.std.proofs.Common.{Bool, false, refl, true, ℕ, ◌≡◌}
+use Rattle.std.proofs.{Common.{Bool, false, refl, true, ℕ, ◌≡◌, arith}, lemmas.Bool.Decides.nat_tests}
 use Rattle.std.proofs.lemmas.Bool.{cases_eq}
-use Rattle.argus_model.specs.{Ancestors.is_ancestor, Contents.{base, replay, sees}, HolderSteps.has_used}
-use Rattle.argus_model.specs.{Event.{Aborted, Accessed, Began, Committed}, Holders.writers, Meaning.Meaning}
-use Rattle.argus_model.specs.{History.{History, Opened, HistoryOpening, ◌▹◌}, Numbers.contains}
-use Rattle.argus_model.specs.{Work.{content_after}, WorkSteps.{accesses_by, visible_accesses}}
-use Rattle.argus_model.proofs.{Contents.{accesses_by_agree}, HolderSteps.used_by_from}
-use Rattle.argus_model.proofs.{Standing.{Orderly, some_at}}
-use Rattle.argus_model.proofs.Holders.{contains_holders, has_used_begun_action}
-use Rattle.argus_model.proofs.Owner.{base_above, counts_for_is, is_base_is, owner_is}
-use Rattle.std.proofs.Common.{arith}
-use Rattle.std.proofs.lemmas.Bool.Decides.{nat_tests}
+use Rattle.argus_model.specs.{Ancestors.is_ancestor, HolderSteps.has_used, Numbers.contains, Work.content_after}
+use Rattle.argus_model.specs.{Contents.{base, replay, sees}, Event.{Aborted, Accessed, Began, Committed}}
+use Rattle.argus_model.specs.{Holders.writers, Meaning.Meaning}
+use Rattle.argus_model.specs.{History.{History, Opened, HistoryOpening, ◌▹◌}, WorkSteps.{accesses_by, visible_accesses}}
+use Rattle.argus_model.proofs.{Contents.accesses_by_agree, Owner.{base_above, counts_for_is, is_base_is, owner_is}}
+use Rattle.argus_model.proofs.HolderSteps.{used_by_from}
+use Rattle.argus_model.proofs.{Standing.{Orderly, some_at}, Holders.{contains_holders, has_used_begun_action}}
 
 module _ {V C A : Type 0} (meaning : Meaning V C A) (opening : HistoryOpening C) where
   replay_is : (kept t : ℕ → Bool) (o : ℕ) (k : History V)
       → ((a : ℕ) → has_used meaning.writes k a o false ≡ true → kept a ≡ t a)
       → replay meaning kept o (opening.contents o) k ≡ content_after meaning opening.contents o (accesses_by t k)
   replay_is kept t o (Opened n) same = refl
-  replay_is kept t o (Began from ▹ k) same = replay_is kept t o k same
-  replay_is kept t o (Committed a ▹ k) same = replay_is kept t o k same
-  replay_is kept t o (Aborted a ▹ k) same = replay_is kept t o k same
   replay_is kept t o (Accessed b o' v ▹ k) same = grind (arith, nat_tests, replay_is kept t o k)
+  replay_is kept t o (_ ▹ k) same = replay_is kept t o k same
 
   -- an action sees what the accesses that count for it leave
   pub sees_is : (h : History V) → Orderly h → (y o : ℕ)

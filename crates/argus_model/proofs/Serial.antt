@@ -4,21 +4,21 @@ use Rattle.std.proofs.Common.{refl, subst, sym, true, ℕ, ⊎_elim, ◌++◌, �
 use Rattle.std.proofs.lemmas.Bool.{both_ways, cases_Bool, cases_eq, eq-eqb, false_from_ne_true, ne_eqb}
 use Rattle.std.proofs.lemmas.Bool.Decides.{nat_tests}
 use Rattle.std.specs.Prelude.{◌==◌}
-use Rattle.argus_model.specs.{Ancestors.{is_ancestor, is_under, lineage, parent}, HolderSteps.has_used}
-use Rattle.argus_model.specs.{Event.{Aborted, Accessed, Began, Committed, Origin, origin_parent}, Numbers.contains}
-use Rattle.argus_model.specs.{History.{History, Opened, next_action, ◌▹◌}, Meaning.{Fits, Meaning}}
+use Rattle.argus_model.specs.{Ancestors.{is_ancestor, lineage, parent}, History.{History, Opened, next_action, ◌▹◌}}
+use Rattle.argus_model.specs.{HolderSteps.has_used, Event.{Aborted, Accessed, Began, Committed, Origin, origin_parent}}
+use Rattle.argus_model.specs.Numbers.{contains}
+use Rattle.argus_model.specs.{Meaning.{Fits, Meaning}, Work.{Access, all_of, content_after, serial_order_to, work}}
 use Rattle.argus_model.specs.OwnerSteps.{StandsAlone, owner_inherited, owner_by_steps, stands, unless_lost}
-use Rattle.argus_model.specs.Work.{Access, all_of, content_after, serial_order_to, work}
 use Rattle.argus_model.specs.WorkSteps.{LawfulAccess, LawfulSteps, Replays, owner_passes, visible_accesses}
-use Rattle.argus_model.proofs.Ancestors.{ParentsAreOlder, Split, ancestor_le, ancestor_self, ancestor_trans}
 use Rattle.argus_model.proofs.Ancestors.{lineage_cases, lineage_old, next_pos, parent_older, split_lineage, under_below}
+use Rattle.argus_model.proofs.Ancestors.{ParentsAreOlder, Split, ancestor_le, ancestor_self, ancestor_trans}
 use Rattle.argus_model.proofs.{Bools.same_bool, Contents.{accesses_by_agree, content_front, content_past, replays_on}}
 use Rattle.argus_model.proofs.Exclusion.{Guarded, above_parent, exclusion, has_used_all, has_used_begun}
-use Rattle.argus_model.proofs.{Numbers.{any_found, joined_left}, Work.{touches_all, user_of}}
+use Rattle.argus_model.proofs.Numbers.{any_found, joined_left}
+use Rattle.argus_model.proofs.Work.{touches_all, user_of, all_of-append, all_of_agree, find_writer, no_work, touches}
+use Rattle.argus_model.proofs.{Work.touches-all_of, Standing.{stands_begun, stands_commit, stands_old, stands_upward}}
 use Rattle.argus_model.proofs.Standing.{Orderly, alone, at_some, handed_from, handed_stays, kept_stays, owner_begun}
 use Rattle.argus_model.proofs.Standing.{owner_cases, parent_begun, parents_are_older, some_at, stands_abort}
-use Rattle.argus_model.proofs.Standing.{stands_begun, stands_commit, stands_old, stands_upward}
-use Rattle.argus_model.proofs.Work.{all_of-append, all_of_agree, find_writer, no_work, touches, touches-all_of}
 
 -- a lineage is y and then a rest of smaller numbers
 pub record Rest {V : Type 0} (h : History V) (y : ℕ) : Type 0 where
@@ -30,9 +30,7 @@ pub record Rest {V : Type 0} (h : History V) (y : ℕ) : Type 0 where
 pub lineage-base : {V : Type 0} (h : History V) → lineage h 0 ≡ 0 ∷ []
 lineage-base (Opened n) = refl
 lineage-base (Began from ▹ h) = lineage_old h from 0 (let q = next_pos h in omega arith) ∙ lineage-base h
-lineage-base (Committed s ▹ h) = lineage-base h
-lineage-base (Aborted z ▹ h) = lineage-base h
-lineage-base (Accessed a o v ▹ h) = lineage-base h
+lineage-base (_ ▹ h) = lineage-base h
 
 -- the serial order up to the base is the work of the base
 pub serial_to-base : {V : Type 0} (h : History V) → serial_order_to h 0 ≡ work h 0
@@ -47,12 +45,8 @@ base_stands (Opened n) w = refl
 base_stands (Began from ▹ h) w = stands_old h from 0 (let q = next_pos h in omega arith) ∙ base_stands h w.1
 base_stands (Committed s ▹ h) w = grind (arith, nat_tests, base_stands h w.1)
 base_stands (Aborted z ▹ h) w =
-    let k : is_under h z 0 ≡ false =
-    false_from_ne_true (is_under h z 0)
-    (λ m. let u = any_found (λ x. is_ancestor h x 0) z m in let q =
-    ancestor_le h u.0 0 (parents_are_older h w.1) (next_pos h) u.2 in (w.0 u.0 u.1).0 (omega arith)) in
-    some_at (owner_by_steps (Aborted z ▹ h) 0) 0
-    (kept_stays (is_under h z) (owner_by_steps h 0) 0 (at_some (owner_by_steps h 0) 0 (base_stands h w.1)) k)
+    let f = parents_are_older h w.1 in let b = base_stands h w.1 in
+    grind (arith, nat_tests, any_found, ancestor_le h, f, next_pos h, b, at_some, some_at, kept_stays, w.0)
 base_stands (Accessed a o v ▹ h) w = base_stands h w.1
 
 -- two tests of the owner agree where they agree at each owner
@@ -76,18 +70,14 @@ module _ {V C A : Type 0} (meaning : Meaning V C A) (contents : ℕ → C) where
   -- what is lawful by steps is orderly
   pub orderly : (h : History V) → LawfulSteps meaning contents h → Orderly h
   orderly (Opened n) w = tt
-  orderly (Began from ▹ h) w = (w.0, orderly h w.1)
-  orderly (Committed s ▹ h) w = (w.0, orderly h w.1)
-  orderly (Aborted z ▹ h) w = (w.0, orderly h w.1)
   orderly (Accessed a o v ▹ h) w = (w.0.alone, orderly h w.1)
+  orderly (_ ▹ h) w = (w.0, orderly h w.1)
 
   -- in what is lawful by steps each access got its lock
   pub guarded : (h : History V) → LawfulSteps meaning contents h → Guarded meaning.writes h
   guarded (Opened n) w = tt
-  guarded (Began from ▹ h) w = guarded h w.1
-  guarded (Committed s ▹ h) w = guarded h w.1
-  guarded (Aborted z ▹ h) w = guarded h w.1
   guarded (Accessed a o v ▹ h) w = (w.0.lock, guarded h w.1)
+  guarded (_ ▹ h) w = guarded h w.1
 
   -- y sees what the serial order up to y leaves, and that order replays
   pub record Serial (h : History V) (y : ℕ) : Type 0 where
@@ -110,13 +100,8 @@ module _ {V C A : Type 0} (meaning : Meaning V C A) (contents : ℕ → C) where
       → content_after meaning contents o (visible_accesses h y)
       ≡ content_after meaning contents o (visible_accesses (Aborted z ▹ h) y)
   seen_abort h z y o w l =
-      let k = stands_abort h z y l in
-      accesses_by_agree meaning contents o (λ a. owner_passes (λ x. is_ancestor h x y) (owner_by_steps h a))
-      (λ a. owner_passes (λ x. is_ancestor h x y) (unless_lost (is_under h z) (owner_by_steps h a))) h
-      (λ a u. owner_passes_kept (λ x. is_ancestor h x y) (is_under h z) (owner_by_steps h a)
-      (λ x e m. false_from_ne_true (is_ancestor h x y)
-      (λ n. both_ways (is_under h z y) k.1
-      (under_below h z x y (parents_are_older h w) (stands_begun h y k.0) m n))))
+      let k = stands_abort h z y l in let below = λ (x : ℕ). under_below h z x y (parents_are_older h w) in
+      grind (arith, nat_tests, k, accesses_by_agree meaning contents o, owner_passes_kept, below, stands_begun h y)
 
   after_abort : (h : History V) (z : List ℕ) → Orderly h → Serials h → Serials (Aborted z ▹ h)
   after_abort h z w ih y l =
@@ -149,12 +134,7 @@ module _ {V C A : Type 0} (meaning : Meaning V C A) (contents : ℕ → C) where
       → content_after meaning contents o (visible_accesses h y)
       ≡ content_after meaning contents o (visible_accesses (Began from ▹ h) y)
   seen_begin_old h from y o w k =
-      let g = Began from ▹ h in
-      accesses_by_agree meaning contents o (λ a. owner_passes (λ x. is_ancestor h x y) (owner_by_steps h a))
-      (λ a. owner_passes (λ x. is_ancestor g x y) (owner_by_steps g a)) h
-      (λ a u. owner_passes_agree (λ x. is_ancestor h x y) (λ x. is_ancestor g x y) (owner_by_steps h a)
-      (λ x e. sym (ap (λ t. contains t x) (lineage_old h from y k)))
-      ∙ ap (owner_passes (λ x. is_ancestor g x y)) (has_used_owner h from a o w u))
+      grind (arith, nat_tests, lineage_old h from y, accesses_by_agree meaning contents o, has_used_owner h from)
 
   after_begin : (h : History V) (from : Origin) → Orderly h → stands h (origin_parent from) ≡ true → Serials h
       → Serials (Began from ▹ h)

@@ -1,14 +1,12 @@
 -- Creators are older, and which actions are under the live siblings of an action.
-use Rattle.std.proofs.{lemmas.Bool.Decides.nat_tests, Common.{arith, true, ℕ, ◌<◌, ◌≡◌}}
-use Rattle.std.proofs.lemmas.Bool.{and_parts}
+use Rattle.std.proofs.{lemmas.Bool.Decides.nat_tests, Common.{arith, true, ℕ, ◌<◌, ◌≡◌}, lemmas.Bool.and_parts}
 use Rattle.std.specs.{List.list_any, List.Sorted.IsStrictlyIncreasing, Prelude.{not, ◌&&◌}}
-use Rattle.argus_model.specs.{Ancestors.{begun_by, is_under, lineage}, Lawful.Lawful, Meaning.Meaning}
-use Rattle.argus_model.specs.Event.{Aborted, Accessed, Began, Committed}
-use Rattle.argus_model.specs.History.{History, Opened, HistoryOpening, ◌▹◌}
+use Rattle.argus_model.specs.{Ancestors.{begun_by, is_under, lineage}, History.{History, Opened, HistoryOpening, ◌▹◌}}
+use Rattle.argus_model.specs.{Lawful.Lawful, Meaning.Meaning, Event.{Aborted, Accessed, Began, Committed}}
 use Rattle.argus_model.specs.Status.{has_committed, is_begun, is_doomed, is_live, is_sibling, live_siblings}
-use Rattle.argus_model.proofs.{Ancestors.next_pos, Theorems.ancestor_live}
+use Rattle.argus_model.proofs.Ancestors.{next_pos}
+use Rattle.argus_model.proofs.{Theorems.ancestor_live, Numbers.{any_found, any_from, increasing, rising_filter}}
 use Rattle.argus_model.proofs.Live.{begun_rising, contains_siblings, is_begun_from, is_begun_parts}
-use Rattle.argus_model.proofs.Numbers.{any_found, any_from, increasing, rising_filter}
 
 -- a live action is begun
 pub live_begun : {V : Type 0} (h : History V) (a : ℕ) → is_live h a ≡ true → is_begun h a ≡ true
@@ -24,9 +22,7 @@ module _ {V C A : Type 0} (meaning : Meaning V C A) (opening : HistoryOpening C)
   creator_older (Opened n) a l k = let q = is_begun_parts {V = V} (Opened n) a k in omega (arith, q.0)
   creator_older (Began from ▹ h) a l k =
       grind (arith, nat_tests, is_begun_parts, next_pos h, live_begun, creator_older h a l.1, is_begun_from)
-  creator_older (Committed s ▹ h) a l k = creator_older h a l.1 k
-  creator_older (Aborted zs ▹ h) a l k = creator_older h a l.1 k
-  creator_older (Accessed d o v ▹ h) a l k = creator_older h a l.1 k
+  creator_older (_ ▹ h) a l k = creator_older h a l.1 k
 
   -- a live action is under a live sibling of a where one of its lineage is a sibling of a
   pub under_siblings : (h : History V) (a x : ℕ) → Lawful meaning opening h → is_live h x ≡ true

@@ -1,14 +1,14 @@
 -- Ancestors of what stands stand, and what a commit or an abort leaves standing.
-use Rattle.std.proofs.Common.{Bool, List, None, Option, Some, ap, arith, false, refl, subst, sym, true, ℕ, ⊎_elim, ◌<◌}
-use Rattle.std.proofs.{Common.{◌≡◌, ◌≢◌, ◌⊎◌}, lemmas.Bool.Decides.nat_tests}
-use Rattle.std.proofs.lemmas.Bool.{both_ways, cases_Bool, cases_eq, eq-eqb, eqb-true, false≢true}
-use Rattle.argus_model.specs.{Ancestors.{is_ancestor, is_under, parent}}
+use Rattle.std.proofs.Common.{Bool, List, None, Option, Some, ap, arith, false, refl, true, ℕ, ⊎_elim, ◌<◌, ◌≡◌, ◌≢◌}
+use Rattle.std.proofs.Common.{◌⊎◌}
+use Rattle.std.proofs.{lemmas.Bool.Decides.nat_tests, lemmas.Bool.{cases_Bool, cases_eq, eq-eqb, eqb-true, false≢true}}
+use Rattle.argus_model.specs.Ancestors.{is_ancestor, is_under, parent}
 use Rattle.argus_model.specs.Event.{Aborted, Accessed, Began, Committed, Origin, origin_parent}
 use Rattle.argus_model.specs.History.{History, Opened, folded, next_action, ◌▹◌}
 use Rattle.argus_model.specs.OwnerSteps.{AllStand, StandsAlone, owner_inherited, is_exactly, owner_by_steps}
 use Rattle.argus_model.specs.OwnerSteps.{standing_child, stands, unless_lost}
-use Rattle.argus_model.proofs.Ancestors.{ParentsAreOlder, ancestor_self}
-use Rattle.argus_model.proofs.Ancestors.{child_on_path, folded_next, parent_cases, parent_older, under_below}
+use Rattle.argus_model.proofs.Ancestors.{ParentsAreOlder, ancestor_self, child_on_path, folded_next, parent_cases}
+use Rattle.argus_model.proofs.Ancestors.{parent_older, under_below}
 
 -- what the laws need of each step, but for what is read and written
 abbrev pub Orderly : {V : Type 0} → History V → Type 0
@@ -87,17 +87,13 @@ stands_begun h y e = owned_begun h y y (at_some (owner_by_steps h y) y e)
 pub parents_are_older : {V : Type 0} (h : History V) → Orderly h → ParentsAreOlder h
 parents_are_older (Opened n) w = tt
 parents_are_older (Began from ▹ h) w = (stands_begun h (origin_parent from) w.0, parents_are_older h w.1)
-parents_are_older (Committed s ▹ h) w = parents_are_older h w.1
-parents_are_older (Aborted zs ▹ h) w = parents_are_older h w.1
-parents_are_older (Accessed a o v ▹ h) w = parents_are_older h w.1
+parents_are_older (_ ▹ h) w = parents_are_older h w.1
 
 -- a parent has begun
 pub parent_begun : {V : Type 0} (h : History V) (y : ℕ) → ParentsAreOlder h → parent h y < next_action h
 parent_begun (Opened n) y f = omega arith
 parent_begun (Began from ▹ h) y f = grind (arith, nat_tests, parent_begun h y f.1, parent_cases h from y)
-parent_begun (Committed s ▹ h) y f = parent_begun h y f
-parent_begun (Aborted z ▹ h) y f = parent_begun h y f
-parent_begun (Accessed a o v ▹ h) y f = parent_begun h y f
+parent_begun (_ ▹ h) y f = parent_begun h y f
 
 -- an owner has begun
 pub owner_begun : {V : Type 0} (h : History V) (y x : ℕ) → ParentsAreOlder h → owner_by_steps h y ≡ Some x
@@ -113,9 +109,7 @@ pub child_found : {V : Type 0} (h k : History V) (x y : ℕ) → folded k < y �
     → stands h y ≡ true → standing_child h x k ≡ true
 child_found h (Opened m) x y y0 l e n = absurd (omega arith)
 child_found h (Began from ▹ k) x y y0 l e n = grind (arith, nat_tests, child_found h k x y y0, parent_cases k from y)
-child_found h (Committed s ▹ k) x y y0 l e n = child_found h k x y y0 l e n
-child_found h (Aborted z ▹ k) x y y0 l e n = child_found h k x y y0 l e n
-child_found h (Accessed a o v ▹ k) x y y0 l e n = child_found h k x y y0 l e n
+child_found h (_ ▹ k) x y y0 l e n = child_found h k x y y0 l e n
 
 -- ancestors of what stands stand
 abbrev pub StandsUpward : {V : Type 0} → History V → Type 0
@@ -125,13 +119,8 @@ StandsUpward h = (x y : ℕ) → stands h y ≡ true → is_ancestor h x y ≡ t
 pub alone : {V : Type 0} (h : History V) → ParentsAreOlder h → StandsUpward h → (x y : ℕ) → stands h y ≡ true
     → is_ancestor h x y ≡ true → standing_child h x h ≡ false → x ≡ y
 alone h f up x y l a n =
-    ⊎_elim (λ e. e)
-    (λ ne. let w = child_on_path h x y f (stands_begun h y l) ne a in
-    let lc = up w.child y l w.below in
-    absurd (both_ways (standing_child h x h) n
-    (child_found h h x w.child (stands_unfolded h w.child (λ e. let r = w.real in omega arith) lc)
-    w.started w.of lc)))
-    (cases_eq x y)
+    let b = stands_begun h y l in
+    grind (arith, nat_tests, child_on_path h x y f, b, child_found h h x, stands_unfolded h, up, cases_eq x y)
 
 -- the parent of what stands is older, and an ancestor of it
 pub parent_is : {V : Type 0} (h : History V) → ParentsAreOlder h → (s : ℕ) → s ≢ 0 → stands h s ≡ true
@@ -166,15 +155,8 @@ stands_upward (Began from ▹ h) w x y l a = grind (arith, nat_tests, stands_upw
 stands_upward (Committed s ▹ h) w x y l a =
     let f = parents_are_older h w.1 in let up : StandsUpward h = stands_upward h w.1 in
     let k = stands_commit h f up s y w.0.not_base w.0.standing l in
-    let ox = at_some (owner_by_steps h x) x (up x y k.0 a) in
-    let ne : x ≢ s = λ e. k.1 (sym (alone h f up s y k.0 (subst (λ u. is_ancestor h u y ≡ true) e a) w.0.childless)) in
-    some_at (owner_by_steps (Committed s ▹ h) x) x (handed_stays s (parent h s) (owner_by_steps h x) x ox ne)
+    grind (arith, nat_tests, alone h f up s y, k, up x y, at_some, some_at, handed_stays, w.0.childless)
 stands_upward (Aborted z ▹ h) w x y l a =
-    let f = parents_are_older h w.1 in let up : StandsUpward h = stands_upward h w.1 in
-    let k = stands_abort h z y l in
-    let ox = at_some (owner_by_steps h x) x (up x y k.0 a) in
-    let n : is_under h z x ≡ false =
-    ⊎_elim (λ t. absurd (both_ways (is_under h z y) k.1 (under_below h z x y f (stands_begun h y k.0) t a)))
-    (λ t. t) (cases_Bool (is_under h z x)) in
-    some_at (owner_by_steps (Aborted z ▹ h) x) x (kept_stays (is_under h z) (owner_by_steps h x) x ox n)
+    let k = stands_abort h z y l in let below = under_below h z x y (parents_are_older h w.1) (stands_begun h y k.0) in
+    grind (arith, nat_tests, k, below, stands_upward h w.1 x y, at_some, some_at, kept_stays)
 stands_upward (Accessed b o v ▹ h) w x y l a = stands_upward h w.1 x y l a

@@ -1,20 +1,19 @@
 -- The laws of every lawful history: exclusion, the serial order, the table of effects.
-use Rattle.std.proofs.Common.{List, ap, arith, false, sym, true, ℕ, ⊎_elim, ◌++◌, ◌<◌, ◌∙◌, ◌∷◌, ◌≡◌, ◌≢◌, ◌≤◌}
-use Rattle.std.proofs.{Math.Bool.or_comm, lemmas.Bool.or_cases}
+use Rattle.std.proofs.Common.{List, ap, arith, false, sym, true, ℕ, ◌++◌, ◌<◌, ◌∙◌, ◌∷◌, ◌≡◌, ◌≢◌, ◌≤◌}
+use Rattle.std.proofs.{Math.Bool.or_comm, lemmas.Bool.Decides.nat_tests}
 use Rattle.std.specs.Prelude.{reverse, ◌||◌}
-use Rattle.argus_model.specs.{Ancestors.{is_ancestor, lineage}, Contents.{base, sees}, Effects.{effects, table}}
-use Rattle.argus_model.specs.{History.{History, HistoryOpening, begun_actions}, Holders.{is_holder, readers, writers}}
-use Rattle.argus_model.specs.{Lawful.Lawful, Meaning.{Fits, Meaning}, Numbers.contains, Run.{AnswersAgain, run}}
-use Rattle.argus_model.specs.{Status.{has_live_child, is_begun, is_live}, WorkSteps.{visible_accesses}}
+use Rattle.argus_model.specs.{Ancestors.{is_ancestor, lineage}, WorkSteps.visible_accesses, Holders.{readers, writers}}
+use Rattle.argus_model.specs.{Status.{has_live_child, is_begun, is_live}, History.{History, HistoryOpening}}
+use Rattle.argus_model.specs.{Contents.{base, sees}, Numbers.contains}
+use Rattle.argus_model.specs.{Lawful.Lawful, Run.{AnswersAgain, run}, Effects.{effects, table}, Meaning.{Fits, Meaning}}
 use Rattle.argus_model.specs.Work.{Access, all_of, content_after, content_before, serial_order, serial_order_to, work}
-use Rattle.argus_model.proofs.{Ancestors.{ancestor_le, ancestor_trans, split_lineage}, HolderSteps.exclusive}
-use Rattle.argus_model.proofs.{Effects.{table-append, table_base, table_goes_on, table_same}, Owner.base_above}
-use Rattle.argus_model.proofs.{Holders.{listed, same_kinds}, Lawful.{lawful_orderly, lawful_steps}, Work.all_of-append}
+use Rattle.argus_model.proofs.{Ancestors.{ancestor_le, ancestor_trans, split_lineage}, Holders.{listed, same_kinds}}
+use Rattle.argus_model.proofs.{HolderSteps.exclusive, Serial.{Serial, base_serial, guarded, serial_to-base, serials}}
+use Rattle.argus_model.proofs.{Effects.{table-append, table_base, table_goes_on, table_same}, Sees.{base_is, sees_is}}
+use Rattle.argus_model.proofs.{Owner.base_above, Work.all_of-append, Numbers.{contains_filter, joined}}
+use Rattle.argus_model.proofs.{Lawful.{lawful_orderly, lawful_steps}, Run.{replays_at, run_content, runs}}
 use Rattle.argus_model.proofs.Live.{begun_below, child_is, is_begun_parts, live_stands, stands_is_live}
-use Rattle.argus_model.proofs.{Numbers.{contains_filter, joined}, Run.{replays_at, run_content, runs}}
-use Rattle.argus_model.proofs.{Sees.{base_is, sees_is}, Serial.{Serial, base_serial, guarded, serial_to-base, serials}}
 use Rattle.argus_model.proofs.{Standing.{alone, parents_are_older, stands_begun, stands_upward}, Topactions.serial_tops}
-use Rattle.std.proofs.lemmas.Bool.Decides.{nat_tests}
 
 module _ {V C A : Type 0} (meaning : Meaning V C A) (opening : HistoryOpening C) where
   -- of a writer and any other holder of an object, one is an ancestor of the other
@@ -108,13 +107,9 @@ module _ {V C A : Type 0} (meaning : Meaning V C A) (opening : HistoryOpening C)
   pub writers_in_line : (h : History V) (o x y : ℕ) → Lawful meaning opening h → contains (writers meaning h o) x ≡ true
       → contains (writers meaning h o) y ≡ true → x < y → is_ancestor h x y ≡ true
   writers_in_line h o x y l hx hy lt =
-      let w = lawful_orderly meaning opening h l in
-      let b = begun_below h x (contains_filter (is_holder meaning.writes h o) (begun_actions h) x hx).1 in
-      ⊎_elim
-      (λ k. k)
-      (λ k. let q = ancestor_le h y x (parents_are_older h w) b k in absurd (omega arith))
-      (or_cases (is_ancestor h x y) (is_ancestor h y x)
-      (one_above_the_other h o x y l hx (joined (readers meaning h o) (writers meaning h o) y hy)))
+      let w = lawful_orderly meaning opening h l in let le = ancestor_le h y x (parents_are_older h w) in
+      let one = one_above_the_other h o x y l hx in let more = joined (readers meaning h o) in
+      grind (arith, nat_tests, begun_below h x, contains_filter, le, one, more)
 
   -- of a begun action an ancestor's ancestor is an ancestor
   pub ancestor_above : (h : History V) (x y a : ℕ) → Lawful meaning opening h → is_begun h a ≡ true

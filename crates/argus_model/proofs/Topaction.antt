@@ -1,27 +1,24 @@
 -- Each action whose work is there for good has one committed topaction above it, whose work has its accesses.
-use Rattle.std.proofs.Common.{Bool, List, None, Option, Some, ap, arith, cond, false, refl, subst, suc}
-use Rattle.std.proofs.Common.{sym, true, zero, ℕ, ⊎_elim, ◌++◌, ◌<◌, ◌∙◌, ◌∷◌, ◌≡◌, ◌≢◌}
-use Rattle.std.proofs.lemmas.Bool.{and_from, and_parts, both_ways, cases_Bool, eq-eqb, eqb-true}
-use Rattle.std.proofs.lemmas.Bool.{false_from_ne_true, false≢true, ne_eqb, or_cases}
+use Rattle.std.proofs.Common.{Bool, List, None, Option, Some, ap, arith, cond, false, refl, subst, suc, sym, true, zero}
+use Rattle.std.proofs.{Common.{ℕ, ⊎_elim, ◌++◌, ◌<◌, ◌∙◌, ◌∷◌, ◌≡◌, ◌≢◌}, lemmas.Bool.false_from_ne_true}
+use Rattle.std.proofs.lemmas.Bool.{false≢true, ne_eqb, or_cases, both_ways, cases_Bool, eq-eqb, eqb-true}
+use Rattle.std.proofs.lemmas.Bool.Decides.{nat_tests}
 use Rattle.std.specs.{List.Sorted.IsPermutation, Prelude.{◌&&◌, ◌==◌}}
-use Rattle.argus_model.specs.{Ancestors.{is_ancestor, parent}, Lawful.Lawful, Meaning.Meaning}
-use Rattle.argus_model.specs.{Event.{Aborted, Accessed, Began, Committed, Event}, Numbers.contains}
-use Rattle.argus_model.specs.History.{History, HistoryOpening, Opened, folded, next_action, ◌▹◌}
-use Rattle.argus_model.specs.Owner.{Base, is_base, is_held_by, owner}
-use Rattle.argus_model.specs.OwnerSteps.{as_owner, is_exactly, owner_by_steps, owner_inherited, stands}
-use Rattle.argus_model.specs.Status.{has_committed, is_begun, is_live}
+use Rattle.argus_model.specs.{Ancestors.{is_ancestor, parent}, Event.{Aborted, Accessed, Began, Committed, Event}}
+use Rattle.argus_model.specs.{Lawful.Lawful, OwnerSteps.{as_owner, is_exactly, owner_by_steps, stands}, Meaning.Meaning}
+use Rattle.argus_model.specs.{Numbers.contains, History.{History, HistoryOpening, Opened, folded, next_action, ◌▹◌}}
+use Rattle.argus_model.specs.{Owner.{Base, is_base, is_held_by, owner}, Status.{has_committed, is_begun, is_live}}
 use Rattle.argus_model.specs.Work.{Access, IsItsTopaction, accesses_by, committed_topactions, serial_order, work}
 use Rattle.argus_model.proofs.Ancestors.{ParentsAreOlder, ancestor_le, ancestor_self, lineage_cases, next_pos}
-use Rattle.argus_model.proofs.{Ancestors.{parent_older, split_lineage}, Bools.{same_bool}, Exclusion.Related}
+use Rattle.argus_model.proofs.{Ancestors.{parent_older, split_lineage}, OwnerRules.{committed_unfolded, owner_ancestor}}
+use Rattle.argus_model.proofs.{Counting.{base_of, base_spared, tops_are}, Bools.same_bool, Numbers.joined_cases}
+use Rattle.argus_model.proofs.{Owner.{is_held_by_is, owner_is, parent_unfolded}, Serial.{base_stands, lineage-base}}
+use Rattle.argus_model.proofs.{Exclusion.Related, Lawful.lawful_orderly, Standing.{handed_from, owner_cases, parent_is}}
+use Rattle.argus_model.proofs.Work.{work_final}
 use Rattle.argus_model.proofs.Complete.{accesses_agree, handed_both, handed_other, kept_exact, standing_work}
-use Rattle.argus_model.proofs.{Counting.{base_of, base_spared, tops_are}, Lawful.lawful_orderly, Numbers.joined_cases}
-use Rattle.argus_model.proofs.{Live.{is_begun_from, is_begun_parts, live_stands}, Serial.{base_stands, lineage-base}}
-use Rattle.argus_model.proofs.{Owner.{is_held_by_is, owner_is, parent_unfolded}, Topactions.{serial_tops, tops_over}}
-use Rattle.argus_model.proofs.OwnerRules.{ancestor_owner, committed_begun, committed_unfolded, owner_ancestor}
-use Rattle.argus_model.proofs.{OwnerRules.{owner_gone, owner_passed, owner_self}, Work.work_final}
-use Rattle.argus_model.proofs.Standing.{Orderly, at_some, handed_cases, handed_from, owner_cases, parent_is}
-use Rattle.argus_model.proofs.Standing.{parents_are_older, some_at, stands_upward}
-use Rattle.std.proofs.lemmas.Bool.Decides.{nat_tests}
+use Rattle.argus_model.proofs.OwnerRules.{owner_gone, owner_passed, owner_self, ancestor_owner, committed_begun}
+use Rattle.argus_model.proofs.{Live.{is_begun_from, is_begun_parts, live_stands}, Topactions.{serial_tops, tops_over}}
+use Rattle.argus_model.proofs.Standing.{parents_are_older, some_at, stands_upward, Orderly, at_some, handed_cases}
 
 -- of two ancestors of an action one is an ancestor of the other
 related : {V : Type 0} (h : History V) → ParentsAreOlder h → (x y a : ℕ) → a < next_action h
@@ -79,18 +76,9 @@ other_top h w t s a m n l p b = grind (arith, nat_tests, not_under, at_some, han
 own_top : {V : Type 0} (h : History V) → Orderly h → (s a : ℕ) → s ≢ 0 → stands h s ≡ true → parent h s ≡ 0
     → is_exactly (owner_by_steps h a) s ≡ for_good_under (Committed s ▹ h) s a
 own_top h w s a n l p =
-    let q = owner_by_steps h a in
-    let r = owner_inherited s (parent h s) q in
-    same_bool (is_exactly q s) (is_exactly r 0 && is_ancestor h s a)
-    (λ k. and_from (is_exactly r 0) (is_ancestor h s a)
-    (some_at r 0 (handed_from s (parent h s) q (at_some q s k) ∙ ap Some p))
-    (owner_ancestor h w a s (at_some q s k)))
-    (λ k. let d = and_parts (is_exactly r 0) (is_ancestor h s a) k in
-    ⊎_elim
-    (λ j. some_at q s j.0)
-    (λ j. absurd (n (let u = ancestor_le h s 0 (parents_are_older h w) (next_pos h)
-    (ancestor_owner h w a 0 s j.0 l d.1) in omega arith)))
-    (handed_cases s (parent h s) q 0 (at_some r 0 d.0)))
+    let above = owner_ancestor h w a s in let le = ancestor_le h s 0 (parents_are_older h w) (next_pos h) in
+    let up = ancestor_owner h w a 0 s in
+    grind (arith, nat_tests, some_at, handed_from, at_some, above, le, up, handed_cases, same_bool)
 
 moved : {V : Type 0} (h : History V) (e : Event V) → Orderly h → Orderly (e ▹ h) → (t : ℕ)
     → contains (committed_topactions h) t ≡ true → (es fs : List (Access V)) → es ≡ fs → IsPermutation (work h t) es
@@ -197,11 +185,7 @@ module _ {V C A : Type 0} (meaning : Meaning V C A) (opening : HistoryOpening C)
       → IsPermutation (serial_order h) (accesses_by (λ b. is_base (owner h b)) h)
   serial_complete h l =
       let w = lawful_orderly meaning opening h l in
-      let plain = accesses_by (λ b. is_base (owner h b)) h in
-      subst (λ es. IsPermutation es plain) (serial_tops h w)
-      (subst (λ es. IsPermutation (work h 0) es)
-      (accesses_agree (λ a. is_exactly (owner_by_steps h a) 0) (λ a. is_base (owner h a)) h w (plain_base h w))
-      (standing_work h w 0 (base_stands h w)))
+      grind (arith, nat_tests, w, serial_tops h, accesses_agree, plain_base h, standing_work h, base_stands h)
 
   -- the work of a committed topaction is each access under it that is there for good
   pub committed_complete : (h : History V) (t : ℕ) → Lawful meaning opening h
@@ -214,13 +198,8 @@ module _ {V C A : Type 0} (meaning : Meaning V C A) (opening : HistoryOpening C)
   pub live_complete : (h : History V) (a : ℕ) → Lawful meaning opening h → is_live h a ≡ true
       → IsPermutation (work h a) (accesses_by (λ b. is_held_by a (owner h b)) h)
   live_complete h a l k =
-      let w = lawful_orderly meaning opening h l in
-      let s = live_stands h w a k in
-      subst (λ es. IsPermutation (work h a) es)
-      (accesses_agree (λ b. is_exactly (owner_by_steps h b) a) (λ b. is_held_by a (owner h b)) h w
-      (λ b u c. sym (ap (is_held_by a) (owner_is h w b (is_begun_from h b u c))
-      ∙ is_held_by_is a (owner_by_steps h b) s.0)))
-      (standing_work h w a s.1)
+      let w = lawful_orderly meaning opening h l in let o = owner_is h w in let b = is_begun_from h in
+      grind (arith, nat_tests, live_stands h w, accesses_agree, o, b, is_held_by_is a, standing_work h w)
 
   -- what is there for good has one committed topaction above it
   pub one_topaction : (h : History V) (a : ℕ) → Lawful meaning opening h → is_begun h a ≡ true → owner h a ≡ Base

@@ -1,16 +1,14 @@
 -- Whose work has accesses to which objects, and that the work of an action that is over stays.
-use Rattle.std.proofs.Common.{Bool, List, Some, [], ap, append_assoc, arith, false, inl, inr, refl, sym}
-use Rattle.std.proofs.Common.{true, ℕ, ◌++◌, ◌∙◌, ◌∷◌, ◌≡◌, ◌≢◌, ◌≤◌, ◌⊎◌}
-use Rattle.std.proofs.lemmas.Bool.{cases_Bool, false≢true}
-use Rattle.std.specs.Prelude.{◌&&◌, ◌==◌, ◌||◌}
-use Rattle.argus_model.specs.{Ancestors.{parent}, Event.{Aborted, Accessed, Began, Committed, Event, Origin}}
-use Rattle.argus_model.specs.{History.{History, Opened, next_action, ◌▹◌}, HolderSteps.has_used, Numbers.contains}
-use Rattle.argus_model.specs.{OwnerSteps.{is_exactly, owner_by_steps, stands}, Work.{Access, all_of, work}}
-use Rattle.argus_model.proofs.Exclusion.{has_used_more}
-use Rattle.argus_model.proofs.Standing.{Orderly, owned_begun}
-use Rattle.argus_model.proofs.Standing.{owner_cases, parent_begun, parent_is, parents_are_older}
-use Rattle.argus_model.proofs.Standing.{stands_begun, stands_commit, stands_old, stands_upward}
+use Rattle.std.proofs.Common.{Bool, List, Some, [], ap, append_assoc, arith, false, inl, inr, refl, sym, true, ℕ, ◌++◌}
+use Rattle.std.proofs.{Common.{◌∙◌, ◌∷◌, ◌≡◌, ◌≢◌, ◌≤◌, ◌⊎◌}, lemmas.Bool.{cases_Bool, false≢true}}
 use Rattle.std.proofs.lemmas.Bool.Decides.{nat_tests}
+use Rattle.std.specs.Prelude.{◌&&◌, ◌==◌, ◌||◌}
+use Rattle.argus_model.specs.{Ancestors.parent, HolderSteps.has_used, OwnerSteps.{is_exactly, owner_by_steps, stands}}
+use Rattle.argus_model.specs.{Event.{Aborted, Accessed, Began, Committed, Event, Origin}, Work.{Access, all_of, work}}
+use Rattle.argus_model.specs.{History.{History, Opened, next_action, ◌▹◌}, Numbers.contains}
+use Rattle.argus_model.proofs.Exclusion.{has_used_more}
+use Rattle.argus_model.proofs.Standing.{Orderly, owned_begun, owner_cases, parent_begun, parent_is, parents_are_older}
+use Rattle.argus_model.proofs.Standing.{stands_begun, stands_commit, stands_old, stands_upward}
 
 -- what has not begun has done nothing
 pub no_work : {V : Type 0} (h : History V) → Orderly h → (y : ℕ) → next_action h ≤ y → work h y ≡ []
@@ -136,9 +134,6 @@ module _ {V : Type 0} (writes : V → Bool) where
       → ((a : ℕ) × (has_used writes k a o false ≡ true) × (owner_by_steps h a ≡ Some s))
       ⊎ ((a : ℕ) → has_used writes k a o false ≡ true → owner_by_steps h a ≢ Some s)
   find_writer h (Opened before) s o = inr (λ a wrote owned. false≢true wrote)
-  find_writer h (Began from ▹ older) s o = find_writer h older s o
-  find_writer h (Committed child ▹ older) s o = find_writer h older s o
-  find_writer h (Aborted actions ▹ older) s o = find_writer h older s o
   find_writer h (Accessed accessor accessed what ▹ older) s o =
       elim (find_writer h older s o) [
         | inl found ↦
@@ -148,3 +143,4 @@ module _ {V : Type 0} (writes : V → Bool) where
           | inr off ↦ inr (no_writer h older accessor accessed what s o off none)
         ]
       ]
+  find_writer h (_ ▹ older) s o = find_writer h older s o

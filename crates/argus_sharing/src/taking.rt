@@ -9,15 +9,18 @@ use std::sync::{MutexGuard, Wait};
 
 // How often a thread tries to take the mutex before it sleeps. It pauses before each try, first so
 // many times, then twice as often each time up to the most: tries close together would take the
-// cache line away from the thread that holds the mutex.
-const TRIES: u32 = 26;
+// cache line away from the thread that holds the mutex, which then gets less done.
+const TRIES: u32 = 16;
 
 const FIRST_PAUSES: u32 = 16;
 
-const MOST_PAUSES: u32 = 1024;
+const MOST_PAUSES: u32 = 4096;
 
-// How often a thread looks whether its call is in nobody's way before it sleeps until actions end.
+// How often a thread looks whether its call is in nobody's way before it sleeps until actions end,
+// and its pauses before each look.
 const LOOKS: u32 = 20;
+
+const LOOK_PAUSES: u32 = 1024;
 
 impl<N: Sharing, R: Wait + Drop> Shared<N, R> {
     /// Takes the mutex: at once if it is free, else after some tries, or else asleep.
@@ -64,7 +67,7 @@ impl<N: Sharing, R: Wait + Drop> Shared<N, R> {
     #[inline(never)]
     fn look_again(&self, rt: &impl Wait, call: &Call) -> MutexGuard<'_, Locked<N, R>> {
         for _look in 0..LOOKS {
-            pause(MOST_PAUSES);
+            pause(LOOK_PAUSES);
             let guard = self.take(rt);
             if !guard.would_conflict(call) {
                 return guard;

@@ -1,8 +1,7 @@
 -- The proof of the laws that stand on `abort`.
-use Rattle.argus_model.specs.{Event.Aborted, History.{◌▹◌}, Meaning.reads}
-use Rattle.argus_model.proofs.{Lawful.lawful_orderly, Live.live_stands, NextHolders.holders_after_abort}
-use Rattle.argus_model.proofs.NextLive.{live_after_abort, owner_after_abort}
-use Rattle.argus_model.proofs.NextSees.{base_after_abort, sees_after_abort}
+use Rattle.argus_model.specs.{Event.Aborted, History.◌▹◌, Meaning.reads}
+use Rattle.argus_model.proofs.{Lawful.lawful_orderly, Live.live_stands, NextSees.{base_after_abort, sees_after_abort}}
+use Rattle.argus_model.proofs.{NextHolders.holders_after_abort, NextLive.{live_after_abort, owner_after_abort}}
 use Rattle.argus_model.proofs.next_event.abort.Goals as goal
 
 pub returns : goal.returns
