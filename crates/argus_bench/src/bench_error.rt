@@ -3,6 +3,7 @@
 use argus_values::OutOfMemory;
 use std::alloc::{AllocError, AllocFailed};
 use std::io;
+use std::num::ParseIntError;
 use thiserror::Error;
 
 /// Why a run has no figure.
@@ -29,6 +30,12 @@ pub(crate) enum BenchError {
 impl From<io::Error> for BenchError {
     fn from(_fault: io::Error) -> BenchError {
         BenchError::NoClock
+    }
+}
+
+impl From<ParseIntError> for BenchError {
+    fn from(_error: ParseIntError) -> BenchError {
+        BenchError::BadCount
     }
 }
 

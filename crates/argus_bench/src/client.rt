@@ -42,12 +42,10 @@ impl<K: Callee> Client<K> {
 
     #[inline(always)]
     fn begin(&mut self, call: Call) -> Result<ActionId, BenchError> {
-        match self.callee.answer(call)? {
-            ReplySummary::Begun(a) => Ok(a),
-            ReplySummary::Number(_) | ReplySummary::Done | ReplySummary::Other => {
-                Err(BenchError::OtherReply)
-            }
-        }
+        let ReplySummary::Begun(a) = self.callee.answer(call, false)? else {
+            return Err(BenchError::OtherReply);
+        };
+        Ok(a)
     }
 
     #[inline(always)]
@@ -63,7 +61,7 @@ impl<K: Callee> Client<K> {
     /// Locks the object for a change, when no action of another thread is in the way.
     pub(crate) fn lock(&mut self, a: ActionId, o: ObjId) -> Result<(), BenchError> {
         let call = Call::Alter(a, o, Change::Touch);
-        self.callee.answer_waiting(call)?.expect_done()
+        self.callee.answer(call, true)?.expect_done()
     }
 
     /// Sets the integer of a record.
@@ -74,24 +72,23 @@ impl<K: Callee> Client<K> {
 
     #[inline(always)]
     fn have_done(&mut self, call: Call) -> Result<(), BenchError> {
-        self.callee.answer(call)?.expect_done()
+        self.callee.answer(call, false)?.expect_done()
     }
 
     /// The integer of a record.
     #[inline(always)]
     pub(crate) fn get(&mut self, a: ActionId, o: ObjId) -> Result<i64, BenchError> {
-        match self.callee.answer(Call::Ask(a, o, Query::Field(0)))? {
-            ReplySummary::Number(number) => Ok(number),
-            ReplySummary::Begun(_) | ReplySummary::Done | ReplySummary::Other => {
-                Err(BenchError::OtherReply)
-            }
-        }
+        let call = Call::Ask(a, o, Query::Field(0));
+        let ReplySummary::Number(number) = self.callee.answer(call, false)? else {
+            return Err(BenchError::OtherReply);
+        };
+        Ok(number)
     }
 
     /// Declares a record of one integer, the next object, which a topaction of its own creates as 0.
     pub(crate) fn declare_record(&mut self, o: ObjId) -> Result<(), BenchError> {
         let shape = read_shape(self.heap, "atomic_record[n:int]")?.ok_or(BenchError::OtherReply)?;
-        self.callee.answer(Call::Declare(shape))?;
+        self.callee.answer(Call::Declare(shape), false)?;
         let Ok(zero) = read_content(self.heap, "{0}") else {
             return Err(BenchError::OutOfMemory);
         };

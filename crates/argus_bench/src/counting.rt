@@ -7,6 +7,7 @@ use crate::circle::Circle;
 use crate::client::Client;
 use crate::draws::Draws;
 use crate::figure::Figure;
+use crate::host::Host;
 use crate::latencies::Latencies;
 use crate::manner::Manner;
 use crate::outcome::Outcome;
@@ -19,7 +20,7 @@ use argus_values::{Heap, OutOfMemory, Room};
 use std::alloc::AllocError;
 use std::rt::Clock;
 use std::sync::Wait;
-use std::thread::{Threads, map_vec};
+use std::thread::map_vec;
 use std::time::{Duration, Instant};
 
 // A thread's number, how many turns it makes, and how.
@@ -38,31 +39,25 @@ struct Counted {
 }
 
 /// This many turns in all, by a thread for each of the seats. What is in the records then is read
-/// by the last seat, and not timed.
-pub(crate) fn time_threads<
-    N: Sharing + Send + Sync,
-    R: Threads + Wait + Clock + Drop + Send + Sync,
->(
+/// by the client, and not timed.
+pub(crate) fn time_threads<N: Sharing + Send + Sync, R: Host>(
     rt: &R,
-    heap: Heap,
-    shared: &Shared<N, R>,
-    last: Seat<N>,
+    client: &mut Client<Seated<'_, N, R>>,
     seats: Vec<Seat<N>, Room>,
     manner: Manner,
     turns: u32,
 ) -> Result<Outcome, BenchError> {
     let threads = u32::try_from(seats.len()).unwrap_or(u32::MAX);
     let each = turns.checked_div(threads).unwrap_or(0);
-    let jobs = jobs_for(heap, seats, each, manner)?;
+    let jobs = jobs_for(client.heap, seats, each, manner)?;
     let start = Instant::now(rt)?;
-    let made = count_all(rt, heap, shared, jobs)?;
+    let made = count_all(rt, client.heap, client.callee.shared, jobs)?;
     let counted = added_up(made.as_slice());
     let first = Figure::since(rt, start, "turns", counted.turns)?;
-    let mut client = Client::of(heap, Seated::new(rt, shared, last));
     Ok(Outcome {
         first,
         second: slow_calls(manner, counted.slow),
-        sum: read_records(&mut client, RECORDS, false)?,
+        sum: read_records(client, RECORDS, false)?,
     })
 }
 
@@ -100,7 +95,7 @@ fn slow_calls(manner: Manner, taken: Duration) -> Option<Figure> {
 }
 
 // What each thread has counted.
-fn count_all<N: Sharing + Send + Sync, R: Threads + Wait + Clock + Drop + Send + Sync>(
+fn count_all<N: Sharing + Send + Sync, R: Host>(
     rt: &R,
     heap: Heap,
     shared: &Shared<N, R>,
@@ -116,46 +111,30 @@ fn count_often<N: Sharing, R: Wait + Clock + Drop>(
     shared: &Shared<N, R>,
     (job, seat): (Job, Seat<N>),
 ) -> Counted {
-    let Job {
-        number,
-        turns,
-        manner,
-    } = job;
-    let seated = Seated::new(rt, shared, seat);
-    let mut draws = Draws::seeded(u64::from(number) + 42);
-    if let Manner::Timed = manner {
-        let counted = count_timed(heap, seated, Circle::own(number), &mut draws, turns);
-        return counted.unwrap_or(Counted {
-            turns: 0,
-            slow: Duration::ZERO,
-        });
-    }
-    let mut client = Client::of(heap, seated);
-    let turns = match manner {
-        Manner::Own | Manner::Timed => {
-            count_by_calls(&mut client, Circle::own(number), &mut draws, turns)
-        }
-        Manner::Hot => count_by_calls(&mut client, Circle::hot(), &mut draws, turns),
-        Manner::Batch => {
-            let made = count_in_lists(&mut client, Circle::own(number), &mut draws, turns);
-            made.unwrap_or(0)
+    let mut client = Client::of(heap, Seated::new(rt, shared, seat));
+    let mut draws = Draws::seeded(u64::from(job.number) + 42);
+    let (own, slow) = (Circle::own(job.number), Duration::ZERO);
+    let turns = match job.manner {
+        Manner::Own => count_by_calls(&mut client, own, &mut draws, job.turns),
+        Manner::Hot => count_by_calls(&mut client, Circle::hot(), &mut draws, job.turns),
+        Manner::Batch => count_in_lists(&mut client, own, &mut draws, job.turns).unwrap_or(0),
+        Manner::Timed => {
+            let counted = count_timed(client, own, &mut draws, job.turns);
+            return counted.unwrap_or(Counted { turns: 0, slow });
         }
     };
-    Counted {
-        turns,
-        slow: Duration::ZERO,
-    }
+    Counted { turns, slow }
 }
 
 fn count_timed<N: Sharing, R: Wait + Clock + Drop>(
-    heap: Heap,
-    seated: Seated<'_, N, R>,
+    client: Client<Seated<'_, N, R>>,
     circle: Circle,
     draws: &mut Draws,
     turns: u32,
 ) -> Result<Counted, BenchError> {
+    let Client { heap, callee } = client;
     let latencies = Latencies::new(heap)?;
-    let mut client = Client::of(heap, Timed { seated, latencies });
+    let mut client = Client::of(heap, Timed { callee, latencies });
     let turns = count_by_calls(&mut client, circle, draws, turns);
     let slow = client.callee.latencies.most_of_99();
     Ok(Counted { turns, slow })

@@ -5,18 +5,19 @@ use crate::callee::Callee;
 use crate::client::Client;
 use crate::draws::Draws;
 use crate::figure::Figure;
+use crate::host::Host;
 use crate::looks::Looks;
 use crate::outcome::Outcome;
 use crate::seated::Seated;
 use crate::turning::{pair, turn_pair};
 use crate::working::number_in;
-use argus_guardian::{Looker, Seat, Shared, Sharing};
-use argus_values::{Content, Heap, Room};
+use argus_guardian::{Looker, Sharing};
+use argus_values::{Heap, Room};
 use std::alloc::AllocError;
 use std::rt::Clock;
 use std::sync::Wait;
 use std::sync::atomic::{AtomicU64, Ordering};
-use std::thread::{Threads, join, map_vec, sleep};
+use std::thread::{join, map_vec, sleep};
 use std::time::{Duration, Instant};
 
 // A guardian begins at most a million actions.
@@ -25,26 +26,22 @@ const BATCHES: u32 = 60_000;
 const BATCH: u32 = 16;
 
 /// Looks at pairs of records, by a thread for each looker, for this many milliseconds. Meanwhile
-/// the seat commits topactions that set the two of a pair to one number, or nothing happens.
-pub(crate) fn time_lookers<
-    N: Sharing + Send + Sync,
-    R: Threads + Wait + Clock + Drop + Send + Sync,
->(
+/// the client commits topactions that set the two of a pair to one number, or nothing happens.
+pub(crate) fn time_lookers<N: Sharing + Send + Sync, R: Host>(
     rt: &R,
-    heap: Heap,
-    shared: &Shared<N, R>,
-    seat: Seat<N>,
+    client: &mut Client<Seated<'_, N, R>>,
     lookers: Vec<Looker<N>, Room>,
     is_busy: bool,
     millis: u32,
 ) -> Result<Outcome, BenchError> {
     let (word, next) = (AtomicU64::new(0), AtomicU64::new(7));
     let (over, seeds) = (&word, &next);
+    let heap = client.heap;
     let (looked, commits) = join(
         rt,
         move || look_all(rt, heap, lookers, seeds, over),
         || {
-            let commits = commit_or_sleep(rt, heap, shared, seat, is_busy, millis);
+            let commits = commit_or_sleep(rt, client, is_busy, millis);
             over.store(1, Ordering::SeqCst);
             commits
         },
@@ -71,7 +68,7 @@ fn added_up(looked: &[Looks]) -> Looks {
 }
 
 // Each looker looks in a thread of its own, and draws numbers of its own.
-fn look_all<N: Sharing + Send + Sync, R: Threads + Wait + Drop + Send + Sync>(
+fn look_all<N: Sharing + Send + Sync, R: Host>(
     rt: &R,
     heap: Heap,
     lookers: Vec<Looker<N>, Room>,
@@ -115,39 +112,29 @@ fn look_often<N: Sharing>(heap: Heap, looker: &mut Looker<N>, draws: &mut Draws)
 
 // Whether a look shows two records with one number.
 fn agrees<N: Sharing>(heap: Heap, looker: &mut Looker<N>, draws: &mut Draws) -> bool {
-    let objects = pair(draws);
-    match looker.look(heap, &objects) {
-        Ok(found) => {
-            let number = number_at(&found, 0);
-            number.is_some() && number == number_at(&found, 1)
-        }
-        Err(_) => false,
-    }
+    let Ok(found) = looker.look(heap, &pair(draws)) else {
+        return false;
+    };
+    let [one, other] = found.as_slice() else {
+        return false;
+    };
+    let number = number_in(one);
+    number.is_some() && number == number_in(other)
 }
 
-fn number_at(found: &[Option<Content>], place: usize) -> Option<i64> {
-    match found.get(place) {
-        Some(content) => number_in(content),
-        None => None,
-    }
-}
-
-fn commit_or_sleep<N: Sharing, R: Wait + Clock + Drop>(
-    rt: &R,
-    heap: Heap,
-    shared: &Shared<N, R>,
-    seat: Seat<N>,
+fn commit_or_sleep<K: Callee>(
+    rt: &impl Clock,
+    client: &mut Client<K>,
     is_busy: bool,
     millis: u32,
 ) -> Result<Figure, BenchError> {
     let limit = Duration::from_millis(u64::from(millis));
     let start = Instant::now(rt)?;
-    let mut client = Client::of(heap, Seated::new(rt, shared, seat));
     if !is_busy {
         sleep(rt, limit);
         return Figure::since(rt, start, "commits", 0);
     }
-    let count = commit_until(rt, &mut client, start, limit)?;
+    let count = commit_until(rt, client, start, limit)?;
     Figure::since(rt, start, "commits", count)
 }
 

@@ -13,6 +13,7 @@ mod client;
 mod counting;
 mod draws;
 mod figure;
+mod host;
 mod latencies;
 mod looking;
 mod looks;
@@ -30,12 +31,10 @@ mod working;
 use anyhow::Result;
 use argus_values::Heap;
 use bench_error::BenchError;
+use host::Host;
 use outcome::Outcome;
 use std::env;
 use std::io::Print;
-use std::rt::Clock;
-use std::sync::Wait;
-use std::thread::Threads;
 use work::Work;
 use working::{time_turns, with_records};
 
@@ -87,32 +86,21 @@ const WORKS: &[(&str, u32)] = &[
     ("idle:1", 20),
 ];
 
-fn run<R: Threads + Wait + Clock + Copy + Drop + Send + Sync>(
-    rt: R,
-    heap: Heap,
-    word: &str,
-    turns: u32,
-) -> Result<Outcome, BenchError> {
+fn run<R: Host>(rt: R, heap: Heap, word: &str, turns: u32) -> Result<Outcome, BenchError> {
     let work = word.parse::<Work>()?;
-    match work {
+    let (seats, lookers) = match work {
         Work::Alone(turn, records) => {
             let mut client = with_records(heap, records)?;
-            time_turns(&rt, &mut client, turn, records, turns)
+            return time_turns(&rt, &mut client, turn, records, turns);
         }
-        Work::Seat(_) => sharing::run(rt, heap, work, turns, 1, 0),
-        Work::Threads(_, threads) => {
-            sharing::run(rt, heap, work, turns, threads.saturating_add(1), 0)
-        }
-        Work::Busy(lookers) | Work::Idle(lookers) => {
-            sharing::run(rt, heap, work, turns, 1, lookers)
-        }
-    }
+        Work::Seat(_) => (1, 0),
+        Work::Threads(_, threads) => (threads.saturating_add(1), 0),
+        Work::Busy(lookers) | Work::Idle(lookers) => (1, lookers),
+    };
+    sharing::run(rt, heap, work, turns, seats, lookers)
 }
 
-fn tell<R: Print + Threads + Wait + Clock + Copy + Drop + Send + Sync>(
-    rt: R,
-    heap: Heap,
-) -> Result<()> {
+fn tell<R: Host + Print>(rt: R, heap: Heap) -> Result<()> {
     for (word, turns) in WORKS {
         let sum = run(rt, heap, word, *turns)?.sum;
         println!(rt; "{word} n={turns} sum={sum}")?;
@@ -120,12 +108,7 @@ fn tell<R: Print + Threads + Wait + Clock + Copy + Drop + Send + Sync>(
     Ok(())
 }
 
-fn time<R: Print + Threads + Wait + Clock + Copy + Drop + Send + Sync>(
-    rt: R,
-    heap: Heap,
-    word: &str,
-    turns: u32,
-) -> Result<()> {
+fn time<R: Host + Print>(rt: R, heap: Heap, word: &str, turns: u32) -> Result<()> {
     let Outcome { first, second, sum } = run(rt, heap, word, turns)?;
     for figure in &[Some(first), second] {
         if let Some(figure) = figure {

@@ -36,11 +36,9 @@ impl ReplySummary {
     }
 
     pub(crate) fn expect_done(self) -> Result<(), BenchError> {
-        match self {
-            ReplySummary::Done => Ok(()),
-            ReplySummary::Begun(_) | ReplySummary::Number(_) | ReplySummary::Other => {
-                Err(BenchError::OtherReply)
-            }
-        }
+        let ReplySummary::Done = self else {
+            return Err(BenchError::OtherReply);
+        };
+        Ok(())
     }
 }

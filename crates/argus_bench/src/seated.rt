@@ -19,7 +19,7 @@ const PATIENCE: u32 = u32::MAX;
 #[derive(Drop)]
 pub(crate) struct Seated<'a, N: Sharing, R: Wait + Drop> {
     pub(crate) rt: &'a R,
-    shared: &'a Shared<N, R>,
+    pub(crate) shared: &'a Shared<N, R>,
     seat: Seat<N>,
 }
 
@@ -41,15 +41,13 @@ impl<'a, N: Sharing, R: Wait + Drop> Seated<'a, N, R> {
 
 impl<N: Sharing, R: Wait + Drop> Callee for Seated<'_, N, R> {
     #[inline(always)]
-    fn answer(&mut self, call: Call) -> Result<ReplySummary, BenchError> {
+    fn answer(&mut self, call: Call, may_wait: bool) -> Result<ReplySummary, BenchError> {
         let Seated { rt, shared, seat } = self;
-        let answered = shared.answer(*rt, seat, call)?;
-        Ok(ReplySummary::by(answered.reply))
-    }
-
-    fn answer_waiting(&mut self, call: Call) -> Result<ReplySummary, BenchError> {
-        let Seated { rt, shared, seat } = self;
-        let answered = shared.answer_waiting(*rt, seat, call, PATIENCE)?;
+        let answered = if may_wait {
+            shared.answer_waiting(*rt, seat, call, PATIENCE)?
+        } else {
+            shared.answer(*rt, seat, call)?
+        };
         Ok(ReplySummary::by(answered.reply))
     }
 }

@@ -6,24 +6,21 @@ ghost use Rattle.argus_guardian.specs.Starting.{StartsWith};
 use crate::bench_error::BenchError;
 use crate::client::Client;
 use crate::counting::time_threads;
+use crate::host::Host;
 use crate::looking::time_lookers;
 use crate::outcome::Outcome;
 use crate::seated::Seated;
-use crate::turn::Turn;
 use crate::turning::RECORDS;
 use crate::work::Work;
 use crate::working::{time_turns, with_records};
-use argus_guardian::{Guardian, Keeper, Parts, Seat, Shared, Sharing};
+use argus_guardian::{Guardian, Keeper, Parts, Shared, Sharing};
 use argus_values::Heap;
 use std::marker::Brand;
-use std::rt::Clock;
-use std::sync::Wait;
 use std::sync::ledger::Blank;
-use std::thread::Threads;
 
 /// A run of this many turns; with lookers, of this many milliseconds. What is read at the end is read
 /// by the last seat, which makes all calls if there is no other.
-pub(crate) fn run<R: Threads + Wait + Clock + Copy + Drop + Send + Sync>(
+pub(crate) fn run<R: Host>(
     rt: R,
     heap: Heap,
     work: Work,
@@ -47,7 +44,7 @@ pub(crate) fn run<R: Threads + Wait + Clock + Copy + Drop + Send + Sync>(
 }
 
 // The conditions say which sharing this is.
-fn time_shared<N: Sharing + Send + Sync, R: Threads + Wait + Clock + Copy + Drop + Send + Sync>(
+fn time_shared<N: Sharing + Send + Sync, R: Host>(
     rt: R,
     heap: Heap,
     guardian: Guardian,
@@ -70,7 +67,7 @@ fn time_shared<N: Sharing + Send + Sync, R: Threads + Wait + Clock + Copy + Drop
     }
 }
 
-fn time_parts<N: Sharing + Send + Sync, R: Threads + Wait + Clock + Drop + Send + Sync>(
+fn time_parts<N: Sharing + Send + Sync, R: Host>(
     rt: &R,
     heap: Heap,
     parts: Parts<N, R>,
@@ -83,22 +80,13 @@ fn time_parts<N: Sharing + Send + Sync, R: Threads + Wait + Clock + Drop + Send 
         lookers,
     } = parts;
     let last = seats.pop().ok_or(BenchError::BadCount)?;
+    let mut client = Client::of(heap, Seated::new(rt, &shared, last));
     match work {
-        Work::Alone(turn, _) | Work::Seat(turn) => time_seat(rt, heap, &shared, last, turn, turns),
-        Work::Threads(manner, _) => time_threads(rt, heap, &shared, last, seats, manner, turns),
-        Work::Busy(_) => time_lookers(rt, heap, &shared, last, lookers, true, turns),
-        Work::Idle(_) => time_lookers(rt, heap, &shared, last, lookers, false, turns),
+        Work::Alone(turn, _) | Work::Seat(turn) => {
+            time_turns(rt, &mut client, turn, RECORDS, turns)
+        }
+        Work::Threads(manner, _) => time_threads(rt, &mut client, seats, manner, turns),
+        Work::Busy(_) => time_lookers(rt, &mut client, lookers, true, turns),
+        Work::Idle(_) => time_lookers(rt, &mut client, lookers, false, turns),
     }
-}
-
-fn time_seat<N: Sharing, R: Wait + Clock + Drop>(
-    rt: &R,
-    heap: Heap,
-    shared: &Shared<N, R>,
-    seat: Seat<N>,
-    turn: Turn,
-    turns: u32,
-) -> Result<Outcome, BenchError> {
-    let mut client = Client::of(heap, Seated::new(rt, shared, seat));
-    time_turns(rt, &mut client, turn, RECORDS, turns)
 }

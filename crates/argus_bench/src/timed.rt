@@ -15,26 +15,19 @@ use std::time::Instant;
 ///
 /// ```text
 /// let latencies = Latencies::new(heap)?;
-/// let mut client = Client::of(heap, Timed { seated, latencies });
+/// let mut client = Client::of(heap, Timed { callee, latencies });
 /// ```
 #[derive(Drop)]
 pub(crate) struct Timed<'a, N: Sharing, R: Wait + Clock + Drop> {
-    pub(crate) seated: Seated<'a, N, R>,
+    pub(crate) callee: Seated<'a, N, R>,
     pub(crate) latencies: Latencies,
 }
 
 impl<N: Sharing, R: Wait + Clock + Drop> Callee for Timed<'_, N, R> {
-    fn answer(&mut self, call: Call) -> Result<ReplySummary, BenchError> {
-        let start = Instant::now(self.seated.rt)?;
-        let told = self.seated.answer(call)?;
-        self.latencies.add(start.elapsed(self.seated.rt)?);
-        Ok(told)
-    }
-
-    fn answer_waiting(&mut self, call: Call) -> Result<ReplySummary, BenchError> {
-        let start = Instant::now(self.seated.rt)?;
-        let told = self.seated.answer_waiting(call)?;
-        self.latencies.add(start.elapsed(self.seated.rt)?);
+    fn answer(&mut self, call: Call, may_wait: bool) -> Result<ReplySummary, BenchError> {
+        let start = Instant::now(self.callee.rt)?;
+        let told = self.callee.answer(call, may_wait)?;
+        self.latencies.add(start.elapsed(self.callee.rt)?);
         Ok(told)
     }
 }

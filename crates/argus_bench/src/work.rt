@@ -34,31 +34,17 @@ impl FromStr for Work {
             ("flat", "") => Ok(Work::Alone(Turn::Flat, RECORDS)),
             ("nested", "") => Ok(Work::Alone(Turn::Nested, RECORDS)),
             ("chain", "") => Ok(Work::Alone(Turn::Chain, CHAIN_RECORDS)),
-            ("commit", _) => Ok(Work::Alone(Turn::Commit, records_of(rest)?)),
-            ("abort", _) => Ok(Work::Alone(Turn::Abort, records_of(rest)?)),
+            ("commit", _) => Ok(Work::Alone(Turn::Commit, rest.parse::<u16>()?)),
+            ("abort", _) => Ok(Work::Alone(Turn::Abort, rest.parse::<u16>()?)),
             ("shared", "flat") => Ok(Work::Seat(Turn::Flat)),
             ("shared", "nested") => Ok(Work::Seat(Turn::Nested)),
-            ("own", _) => Ok(Work::Threads(Manner::Own, count_of(rest)?)),
-            ("hot", _) => Ok(Work::Threads(Manner::Hot, count_of(rest)?)),
-            ("batch", _) => Ok(Work::Threads(Manner::Batch, count_of(rest)?)),
-            ("timed", _) => Ok(Work::Threads(Manner::Timed, count_of(rest)?)),
-            ("busy", _) => Ok(Work::Busy(count_of(rest)?)),
-            ("idle", _) => Ok(Work::Idle(count_of(rest)?)),
+            ("own", _) => Ok(Work::Threads(Manner::Own, rest.parse::<u8>()?)),
+            ("hot", _) => Ok(Work::Threads(Manner::Hot, rest.parse::<u8>()?)),
+            ("batch", _) => Ok(Work::Threads(Manner::Batch, rest.parse::<u8>()?)),
+            ("timed", _) => Ok(Work::Threads(Manner::Timed, rest.parse::<u8>()?)),
+            ("busy", _) => Ok(Work::Busy(rest.parse::<u8>()?)),
+            ("idle", _) => Ok(Work::Idle(rest.parse::<u8>()?)),
             _ => Err(BenchError::UnknownWork),
         }
-    }
-}
-
-fn records_of(text: &str) -> Result<u16, BenchError> {
-    match text.parse::<u16>() {
-        Ok(count) => Ok(count),
-        Err(_) => Err(BenchError::BadCount),
-    }
-}
-
-fn count_of(text: &str) -> Result<u8, BenchError> {
-    match text.parse::<u8>() {
-        Ok(count) => Ok(count),
-        Err(_) => Err(BenchError::BadCount),
     }
 }
