@@ -7,3 +7,4 @@ pub mod Makes
 pub mod Restarts
 pub mod Sums
 pub mod Chains
+pub mod Runs

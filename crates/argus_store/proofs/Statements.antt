@@ -51,15 +51,15 @@ put_is = (refl, (refl, refl))
 -- ---- the log's end is read
 
 abbrev pub end_text : List ℕ
-end_text = codes "SELECT name, next_entry, sum FROM log"
+end_text = codes "SELECT name, next_entry, sum, is_open FROM log"
 
 abbrev pub end_query : Query
-end_query = record move_query { filter = []; project = col 1 2 ∷ col 1 6 ∷ col 1 7 ∷ [] }
+end_query = record move_query { filter = []; project = col 1 2 ∷ col 1 6 ∷ col 1 7 ∷ col 1 5 ∷ [] }
 
 abbrev pub end_program : Program
 end_program = record { lets = []; body = end_query }
 
-pub end_is : Reads end_text end_program (codes "name" ∷ codes "next_entry" ∷ codes "sum" ∷ [])
+pub end_is : Reads end_text end_program (codes "name" ∷ codes "next_entry" ∷ codes "sum" ∷ codes "is_open" ∷ [])
 unfolding understood everything
 end_is = ((refl, (refl, refl)), refl)
 

@@ -74,9 +74,9 @@ log_row j =
     Int (pos 0) ∷ Null ∷ Words j.name ∷ Words j.version ∷ Int j.epoch ∷ Int j.is_open ∷ Int j.next ∷
     Int j.sum ∷ []
 
--- where the log ends, as its row is shown
+-- where the log ends and whether it is open, as its row is shown
 abbrev pub shown_end : Journal → Row
-shown_end j = Words j.name ∷ Int j.next ∷ Int j.sum ∷ []
+shown_end j = Words j.name ∷ Int j.next ∷ Int j.sum ∷ Int j.is_open ∷ []
 
 -- the four tables have the log's rows and no others
 pub record HoldsRows (db : Trees) (j : Journal) : Type 0 where

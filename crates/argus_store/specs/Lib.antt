@@ -7,5 +7,6 @@ pub mod Summing
 pub mod End
 pub mod Head
 pub mod Chain
+pub mod Runs
 pub mod Listing
 pub mod RowLine

@@ -1,7 +1,7 @@
 //! Reads whose a log is, and where it ends, from the row that shows it.
 
-ghost use Rattle.std.specs.Prelude.{◌≡◌, ◌∷◌, [], IfOk, IsSomeAnd};
-ghost use Rattle.argus_store.specs.{Journal.{Journal, shown_end}, Head.IsHeadOf};
+ghost use Rattle.std.specs.Prelude.{◌≡◌, ◌∷◌, [], IfOk, IfSome, IsSomeAnd};
+ghost use Rattle.argus_store.specs.{Journal.{Journal, shown_end}, Head.{IsHeadOf, SaysIfOpen}};
 
 use crate::end::End;
 use crate::head::Head;
@@ -9,8 +9,10 @@ use sqlite::{Error, Row};
 
 /// What the row of a log says.
 pub(crate) fn head_in(rows: &[Row]) -> Result<Option<Head>, Error>
-    ensures { (j : Journal) → rows.now ≡ shown_end j ∷ []
+    ensures found { (j : Journal) → rows.now ≡ shown_end j ∷ []
         → IfOk result (λ found. IsSomeAnd found (IsHeadOf j)) }
+    ensures open { (j : Journal) → rows.now ≡ shown_end j ∷ []
+        → IfOk result (λ found. IfSome found (SaysIfOpen j)) }
 {
     let [row] = rows else {
         return Ok(None);
@@ -21,5 +23,6 @@ pub(crate) fn head_in(rows: &[Row]) -> Result<Option<Head>, Error>
             next: row.get(1)?,
             sum: row.get(2)?,
         },
+        is_open: row.get(3)?,
     }))
 }

@@ -7,6 +7,7 @@ mod end;
 mod ending;
 mod faulty_row;
 mod head;
+pub mod laws;
 mod listing;
 mod listing_error;
 mod making;

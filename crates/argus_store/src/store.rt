@@ -5,7 +5,7 @@ ghost use Rattle.std.specs.Prelude.{IsSomeAnd, Ok, map, pos, false};
 ghost use Rattle.sqlite.specs.{State.HasCleanDisk, Held.state, Files.file_state, View.IsClean};
 ghost use Rattle.sqlite.specs.{FileStore.view, WalFiles.image_at};
 ghost use Rattle.argus_store.specs.{Tables.no_schema, Journal.{Journal, new_journal}};
-ghost use Rattle.argus_store.specs.{Journal.{shown_batch, shown_line}, Head.IsHeadOf};
+ghost use Rattle.argus_store.specs.{Journal.{shown_batch, shown_line}, Head.{IsHeadOf, SaysIfOpen}};
 ghost use Rattle.argus_store.specs.End.{EndsAt, end_after, end_of_new, with_lines};
 ghost use Rattle.argus_store.specs.Store.{HasLog, KeptAtError, KeptAtOk, Leaves, LeavesEither};
 ghost use Rattle.argus_store.specs.Store.{FilesHold, Keeps};
@@ -110,17 +110,20 @@ impl<S: Alter> Store<S> {
         }
     }
 
-    /// Whose the log is, and where it ends. `None`: the database has no log. The log stays as it is.
+    /// Whose the log is, where it ends, and whether it is open. `None`: the database has no log. The log stays as it is.
     pub fn head(&mut self) -> Result<Option<Head>, Error>
         ensures found { (j : Journal) → HasLog (state S.Store self.old) j
             → HasCleanDisk (state S.Store self.new)
             → IfOk result (λ found. IsSomeAnd found (IsHeadOf j)) }
+        ensures open { (j : Journal) → HasLog (state S.Store self.old) j
+            → HasCleanDisk (state S.Store self.new)
+            → IfOk result (λ found. IfSome found (SaysIfOpen j)) }
         ensures kept { KeptAtOk result (state S.Store self.old) (state S.Store self.new) }
         ensures failed { KeptAtError result (state S.Store self.old) (state S.Store self.new) }
     {
         let rows = self
             .conn
-            .query_all("SELECT name, next_entry, sum FROM log", &[])?;
+            .query_all("SELECT name, next_entry, sum, is_open FROM log", &[])?;
         head_in(rows.as_slice())
     }
 

@@ -23,11 +23,15 @@ pub struct LogListing {
 pub enum DatabaseFault {
     /// There is no such file.
     NoFile,
+    /// Another version of the product has written it, in a format that this one doesn't know.
+    OtherFormat,
+    /// The log wasn't closed, and its WAL, which has the newest work, isn't there or is empty.
+    WalMissing,
     /// A transaction without a WAL was broken off: SQLite has to roll it back first.
     HotJournal,
     /// It isn't a database, or not a sound one.
     Unsound,
-    /// The database has no log.
+    /// The database has no log, or is another program's.
     NoLog,
     /// This row of the log doesn't follow from those before it.
     Row(FaultyRow),
@@ -68,26 +72,60 @@ impl From<ListingError> for DatabaseFault {
 
 /// The listing of the log in the database at this path, with the WAL beside it.
 pub fn read_log(rt: &HostRuntime, path: &str) -> Result<LogListing, DatabaseFault> {
-    let Some(db) = copied(rt, path)? else {
+    let Some(file) = bytes_of(rt, path)? else {
         return Err(DatabaseFault::NoFile);
     };
-    let log = wal_of(rt, path)?;
+    check_numbers(file.as_slice())?;
+    let db = copy_of(rt, file.as_slice())?;
+    let wal = wal_of(rt, path)?;
+    let has_wal = wal.is_some();
+    let log = match wal {
+        Some(wal) => wal,
+        None => Memory::new(rt.alloc()),
+    };
     match Connection::open_files(rt.alloc(), Files { log, db }, Options::new(0)) {
-        Ok(conn) => list(rt.alloc(), Store::over(conn)),
+        Ok(conn) => list(rt.alloc(), Store::over(conn), has_wal),
         Err((error, _)) => Err(DatabaseFault::from(error)),
     }
 }
 
-// The WAL beside a database; an empty one if there is none.
-fn wal_of(rt: &HostRuntime, path: &str) -> Result<Memory, DatabaseFault>
-    ensures { IfOk result (λ wal. IsTrue (memory_is_usable wal)) }
+// Compares the two numbers of the file's head by which a log is known: the program's, and the
+// format's. A log that Rattle made has 0 for both. What isn't a database is refused later.
+fn check_numbers(file: &[u8]) -> Result<(), DatabaseFault> {
+    if !file.starts_with(b"SQLite format 3\0") {
+        return Ok(());
+    }
+    if has_other(file.get(68..72), b"ARGU") {
+        return Err(DatabaseFault::NoLog);
+    }
+    if has_other(file.get(60..64), &[0, 0, 0, 1]) {
+        return Err(DatabaseFault::OtherFormat);
+    }
+    Ok(())
+}
+
+fn has_other(found: Option<&[u8]>, number: &[u8]) -> bool {
+    match found {
+        Some(found) => found != number && found != [0, 0, 0, 0].as_slice(),
+        None => false,
+    }
+}
+
+// A WAL without a frame is one that isn't there.
+const WAL_HEADER: usize = 32;
+
+// The WAL beside a database; `None` if it isn't there, or is empty.
+fn wal_of(rt: &HostRuntime, path: &str) -> Result<Option<Memory>, DatabaseFault>
+    ensures { IfOk result (λ wal. IfSome wal (λ file. IsTrue (memory_is_usable file))) }
 {
-    if let Some(wal) = copied(rt, beside(rt, path, "-wal")?.as_str())? {
-        return Ok(wal);
+    match bytes_of(rt, beside(rt, path, "-wal")?.as_str())? {
+        Some(wal) if wal.len() >= WAL_HEADER => return Ok(Some(copy_of(rt, wal.as_slice())?)),
+        Some(_) => return Ok(None),
+        None => {}
     }
     match bytes_of(rt, beside(rt, path, "-journal")?.as_str())? {
         Some(journal) if is_hot(journal.as_slice()) => Err(DatabaseFault::HotJournal),
-        Some(_) | None => Ok(Memory::new(rt.alloc())),
+        Some(_) | None => Ok(None),
     }
 }
 
@@ -103,20 +141,18 @@ fn beside(rt: &HostRuntime, path: &str, suffix: &str) -> Result<String, Database
     }
 }
 
-// A copy of a file in memory. `None`: there is no such file.
-fn copied(rt: &HostRuntime, path: &str) -> Result<Option<Memory>, DatabaseFault>
-    ensures { IfOk result (λ copy. IfSome copy (λ file. IsTrue (memory_is_usable file))) }
+// A copy of a file in memory.
+fn copy_of(rt: &HostRuntime, bytes: &[u8]) -> Result<Memory, DatabaseFault>
+    ensures { IfOk result (λ file. IsTrue (memory_is_usable file)) }
 {
-    let Some(bytes) = bytes_of(rt, path)? else {
-        return Ok(None);
-    };
     let mut copy = Memory::new(rt.alloc());
-    match copy.write_at(0, bytes.as_slice()) {
-        Ok(()) => Ok(Some(copy)),
+    match copy.write_at(0, bytes) {
+        Ok(()) => Ok(copy),
         Err(_) => Err(DatabaseFault::OutOfMemory),
     }
 }
 
+// What a file has. `None`: there is no such file.
 fn bytes_of(rt: &HostRuntime, path: &str) -> Result<Option<Vec<u8>>, DatabaseFault> {
     match fs::read(rt, path) {
         Ok(bytes) => Ok(Some(bytes)),
@@ -126,14 +162,18 @@ fn bytes_of(rt: &HostRuntime, path: &str) -> Result<Option<Vec<u8>>, DatabaseFau
     }
 }
 
-// The listing of the store's log.
-fn list<S: Alter>(alloc: Global, mut store: Store<S>) -> Result<LogListing, DatabaseFault>
-where
-    S: Drop,
-{
+// The listing of the store's log. One that is open has a WAL.
+fn list<S: Alter + Drop>(
+    alloc: Global,
+    mut store: Store<S>,
+    has_wal: bool,
+) -> Result<LogListing, DatabaseFault> {
     let Some(head) = store.head()? else {
         return Err(DatabaseFault::NoLog);
     };
+    if head.is_open && !has_wal {
+        return Err(DatabaseFault::WalMissing);
+    }
     let (opening, batches) = (store.opening()?, store.batches()?);
     let text = listing_text(alloc, &head, opening.as_slice(), batches.as_slice())?;
     Ok(LogListing {

@@ -61,6 +61,8 @@ fn place_in(log: &LogListing, line: u64) -> RowLine {
 pub fn tell_database_fault(rt: &impl Eprint, fault: &DatabaseFault) -> u8 {
     let (text, status) = match fault {
         DatabaseFault::NoFile => ("database: NoFile", 5),
+        DatabaseFault::OtherFormat => ("database: OtherFormat", 3),
+        DatabaseFault::WalMissing => ("database: WalMissing", 3),
         DatabaseFault::HotJournal => ("database: HotJournal", 3),
         DatabaseFault::Unsound => ("database: Unsound", 3),
         DatabaseFault::NoLog => ("database: NoLog", 3),

@@ -1,4 +1,8 @@
-"""Logs that the proved program reads from their databases: `replay --database`. REPLAY names it, or .ci/run left it."""
+"""Logs that the proved program reads from their databases: `replay --database`. REPLAY names it, or .ci/run left it.
+
+Where they are built, so are logs that C's host wrote and Rust's: hosts/run leaves the programs, or ARGUS_C_LOG and
+ARGUS_RUST_ORDERS name them.
+"""
 
 from __future__ import annotations
 
@@ -18,6 +22,8 @@ from argus_guardian.log_rows import summed  # noqa: E402
 
 TOP = Path(__file__).resolve().parents[3]
 REPLAY = os.environ.get("REPLAY", str(TOP / "crates/replay/out/replay"))
+C_LOG = os.environ.get("ARGUS_C_LOG", str(TOP / "build/hosts/c/log_tests"))
+RUST_ORDERS = os.environ.get("ARGUS_RUST_ORDERS", str(TOP / "build/hosts/cargo/release/examples/orders"))
 
 
 def replayed(*words: str, given: bytes = b"") -> tuple[int, str, str]:
@@ -60,11 +66,28 @@ class ReplayedTest(LogCase):
         finally:
             database.close()
 
-    def test_it_lists_what_the_text_gives(self) -> None:
+    def lists(self, text: bytes) -> None:
         for listing in "bases", "stacks", "journal", "audit":
-            wanted = replayed("--list", listing, given=self.text())
-            self.assertEqual(wanted[0], 0)
+            wanted = replayed("--list", listing, given=text)
+            self.assertEqual((wanted[0], wanted[1] != ""), (0, True))
             self.assertEqual(replayed("--database", self.path, "--list", listing), wanted)
+
+    def test_it_lists_what_the_text_gives(self) -> None:
+        self.lists(self.text())
+
+    def written_by(self, *words: str, given: str = "") -> None:
+        """Another host writes the log, in its own process."""
+        Path(self.path).unlink()
+        subprocess.run(words, input=given, capture_output=True, text=True, check=True, timeout=60)
+        self.lists(self.text())
+
+    @unittest.skipUnless(os.access(C_LOG, os.X_OK), "no log of C's host")
+    def test_a_log_of_c(self) -> None:
+        self.written_by(C_LOG, "orders", self.path, "5")
+
+    @unittest.skipUnless(os.access(RUST_ORDERS, os.X_OK), "no log of Rust's host")
+    def test_a_log_of_rust(self) -> None:
+        self.written_by(RUST_ORDERS, self.path, given="3 1 70\n3 2 30\n5 1 900\n")
 
     def test_it_reads_the_wal_and_writes_nothing(self) -> None:
         with open_bank(self.path) as log:
@@ -114,6 +137,16 @@ class ReplayedTest(LogCase):
         Path(self.path).unlink()
         self.rows("CREATE TABLE other (a INTEGER)")
         self.says(3, "database: NoLog")
+
+    def test_a_log_of_another_time(self) -> None:
+        for change, words in (
+            ("UPDATE log SET is_open = 1", "WalMissing"),
+            ("PRAGMA user_version = 2", "OtherFormat"),
+            ("PRAGMA application_id = 1", "NoLog"),
+        ):
+            with self.subTest(change):
+                self.rows(change)
+                self.says(3, f"database: {words}")
 
 
 if __name__ == "__main__":

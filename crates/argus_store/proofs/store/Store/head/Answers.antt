@@ -11,7 +11,14 @@ returns-clause-found g c j was clean =
     let rows : c.in_ok-rows.rows.items ≡ shown_end j ∷ [] = reads_end (state g.S.Store c.args.self.now)
     (state g.S.Store c.query_all.new.self) j c.in_ok-rows.rows.items was.schema was.holds
     (rw c.self.view_is at (c.in_ok-rows.ensures.ok clean)) in
-    c.head_in.ensures j (c.as_slice.ensures.value ∙ rows)
+    c.head_in.ensures.found j (c.as_slice.ensures.value ∙ rows)
+
+pub returns-clause-open : goal.returns-clause-open
+returns-clause-open g c j was clean =
+    let rows : c.in_ok-rows.rows.items ≡ shown_end j ∷ [] = reads_end (state g.S.Store c.args.self.now)
+    (state g.S.Store c.query_all.new.self) j c.in_ok-rows.rows.items was.schema was.holds
+    (rw c.self.view_is at (c.in_ok-rows.ensures.ok clean)) in
+    c.head_in.ensures.open j (c.as_slice.ensures.value ∙ rows)
 
 pub returns-clause-kept : goal.returns-clause-kept
 returns-clause-kept g c j was clean = at_ok c.head_in.result (kept_by_reading (state g.S.Store c.args.self.now)
