@@ -1,6 +1,7 @@
 //! Each public function of argus_store on its happy path, over a file. What works on a store does it
 //! whatever the store is on: a proof for the whole type of one on a file takes ten times as long.
 
+use argus_store::laws::appends_are_listed;
 use argus_store::{End, FaultyRow, ListingError, RowFault, RowLine, Store, Table, listing_text};
 use sqlite::{Alter, Connection, Error, FileStore, Row, Unknown};
 use sqlite_disk::Disk;
@@ -37,7 +38,7 @@ fn fill<S: Alter>(store: &mut Store<S>) -> Result<bool, Error> {
 // Whether the log ends there, under its name, and no other log does.
 fn ends_at<S: Alter>(store: &mut Store<S>, end: Option<End>) -> Result<bool, Error> {
     let is_named = match store.head()? {
-        Some(head) => head.name.as_str() == NAME && Some(head.end) == end,
+        Some(head) => head.name.as_str() == NAME && Some(head.end) == end && !head.is_open,
         None => false,
     };
     Ok(is_named && store.end(NAME)? == end && store.end("4567")?.is_none())
@@ -141,6 +142,7 @@ fn kept<S: Alter + Drop>(alloc: Global, mut store: Store<S>) -> Result<Option<St
 
 #[test]
 fn over_a_file(rt: HostRuntime) -> Result<(), Fail> {
+    appends_are_listed();
     let _ = fs::remove_file(&rt, "argus_store_test.db");
     assert!(rt; make(&rt, "argus_store_test.db")?);
     assert!(rt; list(&rt, "argus_store_test.db")?);
