@@ -23,7 +23,7 @@ from argus_guardian.log_rows import summed  # noqa: E402
 TOP = Path(__file__).resolve().parents[3]
 REPLAY = os.environ.get("REPLAY", str(TOP / "crates/replay/out/replay"))
 C_LOG = os.environ.get("ARGUS_C_LOG", str(TOP / "build/hosts/c/log_tests"))
-RUST_ORDERS = os.environ.get("ARGUS_RUST_ORDERS", str(TOP / "build/hosts/cargo/release/examples/orders"))
+RUST_ORDERS = os.environ.get("ARGUS_RUST_ORDERS", str(TOP / "build/hosts/rust/release/examples/orders"))
 
 
 def replayed(*words: str, given: bytes = b"") -> tuple[int, str, str]:
