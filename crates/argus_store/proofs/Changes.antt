@@ -1,24 +1,28 @@
 -- What a statement that changed rows of a log has done.
-use Rattle.std.proofs.Common.{◌≡◌, ◌⊎◌, inl, inr, ℕ, ℤ, pos, List, [], ◌∷◌, ◌++◌, arith, map, length, Bool, true, false}
-use Rattle.std.proofs.Common.{◌&&◌, cond, Some, None, Ok, Err, Result, refl, sym, ap, ap₂, subst, ◌∙◌, Ordering, Less}
-use Rattle.std.proofs.Common.{Equal, Greater, is_eq, int_cmp, true≢false, unwrap_or, IsPermutation}
+use Rattle.std.proofs.Common.{◌≡◌, ◌⊎◌, inl, inr, ℕ, ◌/◌, ℤ, pos, List, [], ◌∷◌, ◌++◌, arith, map, length, slice_get}
+use Rattle.std.proofs.Common.{Bool, true, false, ◌&&◌, cond, if◌then◌else◌, MatchBool, Some, None, Ok, Err, Result, refl}
+use Rattle.std.proofs.Common.{sym, ap, ap₂, subst, ◌∙◌, Ordering, Less, Equal, Greater, is_eq, int_cmp, true≢false}
+use Rattle.std.proofs.Common.{unwrap_or, IsPermutation}
 use Rattle.std.proofs.{lemmas.List.Sorted.length_permutation, lemmas.Map.Lookups.exact_bytes}
 use Rattle.std.proofs.lemmas.Cmp.{int_ranked, tied_itself, int_cmp_total, nat_list_cmp_total}
 use Rattle.std.specs.{Cmp.Lexicographic.slice_cmp, Ordering.nat_cmp}
 use Rattle.sqlite.specs.{declared.types.Value.Value, declared.types.Value.TheVariants.{Null, Int, Text}, Order.Row}
 use Rattle.sqlite.specs.{Collation.TheVariants.Binary, Ops.{unary, binary, is_true, from_truth}, Program.overlay}
-use Rattle.sqlite.specs.{Kind.TheVariants.Integer, Source.TheVariants.Values, Command.TheVariants.{Insert, Update}}
+use Rattle.sqlite.specs.{Kind.TheVariants.Integer, Source.TheVariants.Values, Term.Term, Table.Table}
+use Rattle.sqlite.specs.{Command.{Command, TheVariants.{Insert, Update}}, Effect.{Database, value_rows}}
 use Rattle.sqlite.specs.{Query.{inner, end, IsAnswer, output, Output, matches_as, page}, Cast.cast, Does.{Tally, Does}}
-use Rattle.sqlite.specs.{Edit.{edit_of, edited, Applies}, Rowids.TheVariants.{Chosen, Given}, Rows.Written}
-use Rattle.sqlite.specs.{Tree.{Trees, put_row}, Effect.Database, State.{State, mode_of, Executes}, Listing.understood}
+use Rattle.sqlite.specs.{Edit.{edit_of, edited, Applies}, Rowids.TheVariants.{Chosen, Given}}
+use Rattle.sqlite.specs.Rows.{Written, count_of, rowids_for, stamped}
+use Rattle.sqlite.specs.{Tree.{Trees, put_row}, State.{State, mode_of, Executes}, Listing.understood}
 use Rattle.sqlite_sql.specs.{declared.ops.BinaryOp.TheVariants.Compare, declared.ops.CompareOp.TheVariants.Eq}
 use Rattle.sqlite_schema.specs.declared.schema.Keys.TheVariants.{Enforced}
-use Rattle.sqlite_rules.specs.Calls.{ids_of}
+use Rattle.sqlite_rules.specs.{Calls.ids_of, Action.Writes}
 use Rattle.sqlite.proofs.Callers.{statement_of, runs_as, one_step, one_permutation}
 use Rattle.sqlite_value.proofs.OrderLemmas.{value_cmp-Int, value_cmp-Text}
-use Rattle.argus_store.specs.{Tables.{log_table, batch_table, log_schema}, Appending.{move_text, put_text, move_row}}
+use Rattle.argus_store.specs.{Tables.{log_table, batch_table, log_schema}, declared.end.End.End, Changing.Moves}
 use Rattle.argus_store.specs.Journal.{Batch, Journal, ending_at, batch_row, shown_batch, log_row, HoldsRows, AreBelow}
-use Rattle.argus_store.proofs.Statements.{move_query, move_program, move_is, put_terms, put_is}
+use Rattle.argus_store.proofs.Statements.{Means, move_text, move_query, move_program, move_is}
+use Rattle.argus_store.proofs.Statements.{put_text, put_terms, put_is}
 
 either : (b : Bool) (x : Value) → cond b x x ≡ x
 either true x = refl
@@ -39,6 +43,51 @@ went (inr on) = on
 
 pub same_value : {B E : Type 0} {a b : B} → ◌≡◌ {A = Result B E} (Ok a) (Ok b) → a ≡ b
 same_value e = cc
+
+-- ---- rows are put into a table
+
+-- the values' rows were put in, and nothing else was done
+pub record Inserted (t : Table) (params : Row) (terms : List Term) (width : ℕ) (old new : State) : Type 0 where
+  pub all : List Row
+  pub is : all ≡ value_rows (stamped t params) width (length terms / width) terms
+  pub schema : new.now.schema ≡ log_schema
+  pub applies : Applies log_schema Enforced old.now.trees (edit_of old.now.trees t [] Chosen 0 all) new.now.trees
+
+-- a table without AUTOINCREMENT
+chosen : (t : Table) (top : ℤ) → t.is_counted ≡ false → rowids_for t top ≡ Chosen
+chosen t top alone = rw alone
+
+uncounted : (c above : Bool) (A B : Type 0) → c ≡ false → MatchBool (if c then above else false) A B → B
+uncounted true above A B alone h = absurd (true≢false alone)
+uncounted false above A B alone h = h
+
+pub inserts : (text : List ℕ) (params : Row) (t : Table) (terms : List Term) (width : ℕ) (old new : State) (count : ℕ)
+    → Means text (Insert t.tree (Values terms width)) → slice_get log_schema.tables t.tree ≡ Some t
+    → t.is_counted ≡ false → old.now.schema ≡ log_schema → Executes text params old new (Ok count)
+    → Inserted t params terms width old new
+inserts text params t terms width old new count is there alone has h =
+    let db = old.now.trees in
+    let command : Command = Insert t.tree (Values terms width) in
+    let w = runs_as text params old new log_schema has command is.0 is.1 count h in
+    let done = went (rw there at (subst (λ s. Does old.step_limit (mode_of old) params (record old.now { schema = s })
+    (statement_of text (understood log_schema text)) None command (Ok (w.tally, new.now))) has w.changed)) in
+    let now = ap (λ (p : Tally × Database). p.1) (same_value (went (went done.2).2).2) in
+    let given = went done.1 in
+    let counter = went given.2 in
+    let written = went counter.2 in
+    let counted = went written.2 in
+    let edit = edit_of db t [] Chosen 0 given.0 in
+    let trees : new.now.trees ≡ written.0 = ap (λ (d : Database). d.trees) now
+    ∙ ap (λ (it : Written). it.trees) (same_value counted.2)
+    ∙ same_value (uncounted t.is_counted _ _ _ alone counted.1) in
+    record {
+      all = given.0;
+      is = given.1.1;
+      schema = ap (λ (d : Database). d.schema) now;
+      applies = subst (Applies log_schema Enforced db edit) (sym trees) (one_step log_schema _ db written.0 edit refl
+          (subst (λ r. Writes log_schema Enforced db (edit_of db t [] r 0 given.0) (Ok written.0))
+          (chosen t (count_of counter.0) alone) written.1));
+    }
 
 -- ---- a batch is put in
 
@@ -70,24 +119,8 @@ pub puts : (old new : State) (j : Journal) (b : Batch) (count : ℕ) → old.now
     → Executes put_text (shown_batch b) old new (Ok count)
     → (new.now.schema ≡ log_schema) × HoldsRows new.now.trees (record j { batches = j.batches ++ b ∷ [] })
 puts old new j b count has rows below h =
-    let db = old.now.trees in
-    let text = statement_of put_text (understood log_schema put_text) in
-    let w = runs_as put_text (shown_batch b) old new log_schema has (Insert 2 (Values put_terms 4)) put_is.0 put_is.1
-    count h in
-    let done = went (subst (λ s. Does old.step_limit (mode_of old) (shown_batch b) (record old.now { schema = s })
-    text None (Insert 2 (Values put_terms 4)) (Ok (w.tally, new.now))) has w.changed) in
-    let now = ap (λ (p : Tally × Database). p.1) (same_value (went (went done.2).2).2) in
-    let given = went done.1 in
-    let written = went (went given.2).2 in
-    let counted = went written.2 in
-    let trees : done.0.trees ≡ written.0 = ap (λ (it : Written). it.trees) (same_value counted.2)
-    ∙ same_value counted.1 in
-    let all : new.now.trees ≡ written.0 = ap (λ (d : Database). d.trees) now ∙ trees in
-    let applied = one_step log_schema _ db written.0 (edit_of db batch_table [] Chosen 0 given.0) refl written.1 in (
-      ap (λ (d : Database). d.schema) now,
-      subst (λ t. HoldsRows t (record j { batches = j.batches ++ b ∷ [] }))
-          (sym all) (put_rows db written.0 j b given.0 given.1.1 rows below applied),
-    )
+    let it = inserts put_text (shown_batch b) batch_table put_terms 4 old new count put_is refl refl has h in
+    (it.schema, put_rows old.now.trees new.now.trees j b it.all it.is rows below it.applies)
 
 -- ---- the log's end is moved
 
@@ -114,8 +147,8 @@ pub record Place : Type 0 where
 abbrev pub place_of : Journal → Place
 place_of j = record { name = j.name; next = j.next; sum = j.sum }
 
-abbrev pub place_before : List ℕ → ℤ → Batch → Place
-place_before name before b = record { name = name; next = b.first; sum = before }
+abbrev place_at : List ℕ → End → Place
+place_at name e = record { name = name; next = pos e.next; sum = pos e.sum }
 
 -- the row of `log` as the UPDATE gives it, behind its old key
 abbrev moved_row : Journal → Batch → ℤ → Row
@@ -130,8 +163,8 @@ abbrev fits : Journal → Place → Bool
 fits j e = is_eq (int_cmp j.next e.next)
     && (is_eq (int_cmp j.sum e.sum) && is_eq (slice_cmp nat_cmp j.name e.name))
 
-abbrev pub given_row : Place → Batch → ℤ → Row
-given_row e b next = move_row e.name e.next e.sum b.sum next
+abbrev given_row : Place → Batch → ℤ → Row
+given_row e b next = Int next ∷ Int b.sum ∷ Int e.next ∷ Int e.sum ∷ Text e.name ∷ []
 
 abbrev before : Journal → Place → Batch → ℤ → List Row
 before j e b next = given_row e b next ∷ log_row j ∷ []
@@ -282,7 +315,7 @@ decided false old new j e b next it fit is rows =
     ≡ 0 = ap (λ all. length (edit_of old.now.trees log_table (ids_of all) Given 1 all).news) is in
     absurd (omega (arith, it.one, none))
 
-pub moves : (old new : State) (j : Journal) (e : Place) (b : Batch) (next : ℤ) → old.now.schema ≡ log_schema
+moves : (old new : State) (j : Journal) (e : Place) (b : Batch) (next : ℤ) → old.now.schema ≡ log_schema
     → HoldsRows old.now.trees j
     → Executes move_text (given_row e b next) old new (Ok 1)
     → (e ≡ place_of j) × (new.now.schema ≡ log_schema) × HoldsRows new.now.trees (ending_at j next b.sum)
@@ -292,7 +325,7 @@ moves old new j e b next has rows h =
     (both.0, it.schema, both.1)
 
 -- the row that fits is changed
-pub counts : (old new : State) (j : Journal) (e : Place) (b : Batch) (next : ℤ) (count : ℕ) → old.now.schema ≡ log_schema
+counts : (old new : State) (j : Journal) (e : Place) (b : Batch) (next : ℤ) (count : ℕ) → old.now.schema ≡ log_schema
     → HoldsRows old.now.trees j
     → Executes move_text (given_row e b next) old new (Ok count) → e ≡ place_of j → count ≡ 1
 counts old new j e b next count has rows h at =
@@ -300,3 +333,26 @@ counts old new j e b next count has rows h at =
     let fit : fits j e ≡ true = ap (fits j) at ∙ fits_itself j in
     let is : it.given ≡ moved_row j b next ∷ [] = it.is ∙ ap (λ t. cond t (moved_row j b next ∷ []) []) fit in
     it.one ∙ ap (λ all. length (edit_of old.now.trees log_table (ids_of all) Given 1 all).news) is
+
+-- with the row that `move_end` gives it
+abbrev pub end_row : List ℕ → End → End → Row
+end_row name e a = Int (pos a.next) ∷ Int (pos a.sum) ∷ Int (pos e.next) ∷ Int (pos e.sum) ∷ Text name ∷ []
+
+pub moves_end : (old new : State) (name : List ℕ) (e a : End) (count : ℕ)
+    → Executes move_text (end_row name e a) old new (Ok count) → Moves old new name e a count
+moves_end old new name e a count h j sees =
+    let b : Batch = record { first = pos 0; lines = []; sum = pos a.sum } in (
+      λ one.
+          let it = moves old new j (place_at name e) b (pos a.next) sees.0 sees.1 (rw one at h) in (
+            record {
+              name_is = sym (ap (λ (p : Place). p.name) it.0);
+              next_is = sym (ap (λ (p : Place). p.next) it.0);
+              sum_is = sym (ap (λ (p : Place). p.sum) it.0);
+            },
+            (it.1, it.2),
+          ),
+      λ at.
+          let same : place_at name e ≡ place_of j = ap (λ name. place_at name e) (sym at.name_is)
+          ∙ ap₂ (λ next sum. record { name = j.name; next = next; sum = sum }) (sym at.next_is) (sym at.sum_is) in
+          counts old new j (place_at name e) b (pos a.next) count sees.0 sees.1 h same,
+    )

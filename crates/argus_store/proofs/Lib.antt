@@ -3,6 +3,7 @@ pub mod Changes
 pub mod Logs
 pub mod Transaction
 pub mod ReadBack
+pub mod Folding
 pub mod Makes
 pub mod Restarts
 pub mod Sums

@@ -1,17 +1,15 @@
--- From one log to the next: what holds of a store after an append, whether it returned or a crash came first.
-use Rattle.std.proofs.Common.{◌≡◌, ◌≢◌, ◌≤◌, ◌<◌, ◌+◌, ◌==◌, if◌then◌else◌, inl, inr, ℕ, ℤ, pos, List, [], ◌∷◌, ◌++◌}
-use Rattle.std.proofs.Common.{arith, IsTrue, true, false, fold, refl, sym, ap, ap₂, subst, ◌∙◌, Less, int_cmp}
+-- From one log to the next: what holds of a database and of a store with the lines, and of one that is as it was.
+use Rattle.std.proofs.Common.{◌≡◌, ◌≤◌, ◌<◌, ◌+◌, ◌==◌, if◌then◌else◌, ℕ, ℤ, pos, List, [], ◌∷◌, ◌++◌, arith}
+use Rattle.std.proofs.Common.{IsTrue, true, false, fold, sym, ap, subst, ◌∙◌, Less, int_cmp}
 use Rattle.std.proofs.{lemmas.Cmp.int_cmp_total, lemmas.Int.ints}
 use Rattle.std.specs.List.{AllByRecursion}
-use Rattle.sqlite.specs.{Tree.Trees, Store.Ghosts, Effect.Database, State.{State, HasCleanDisk, Survives}}
-use Rattle.sqlite.specs.Held.{Held, state}
+use Rattle.sqlite.specs.{Tree.Trees, Effect.Database, State.{State, HasCleanDisk, Survives}}
 use Rattle.sqlite_keyed.proofs.ListLemmas.{all_weaker}
-use Rattle.argus_store.specs.{Tables.log_schema, Store.{HasLog, Leaves, LeavesEither}, Summing.after_line_byte}
-use Rattle.argus_store.specs.Journal.{Batch, Journal, ending_at, with_batch, HoldsRows, HoldsLog, AreBelow, AreRising}
+use Rattle.argus_store.specs.{Tables.log_schema, Store.{HasLog, Leaves}, Summing.after_line_byte}
+use Rattle.argus_store.specs.Journal.{Batch, Journal, a_batch, with_batch, HoldsRows, HoldsLog, AreBelow, AreRising}
 use Rattle.argus_store.specs.Journal.{first_of, number_of}
-use Rattle.argus_store.specs.{Appending.{Appends, IsElsewhere, IsSettled}, declared.end.End.End}
-use Rattle.argus_store.specs.End.{EndsAt, end_after}
-use Rattle.argus_store.proofs.Changes.{Place, place_of, place_before, moves, puts, counts}
+use Rattle.argus_store.specs.declared.{end.End.End, change.Change.Change, change.Change.TheVariants.{Append, Fold}}
+use Rattle.argus_store.specs.{End.{EndsAt, end_after}, Changing.{Suits, changed, end_with}}
 
 all_last : {X : Type 0} (P : X → Type 0) (xs : List X) (x : X) → AllByRecursion P xs → P x
     → AllByRecursion P (xs ++ x ∷ [])
@@ -55,45 +53,6 @@ has_log s j db schema holds is_open autocommit now committed = record {
   committed = committed ∙ sym now;
 }
 
-module _ {S : Type 0} (g : Ghosts S) (old : Held S) (j : Journal) (name : List ℕ) (before : ℤ) (b : Batch) (next : ℤ)
-    (was : HasLog (state g old) j) (more : int_cmp b.first next ≡ Less) where
-  -- the database that the transaction makes
-  pub appended : (db : Database) → Appends g name before b next old db → (place_before name before b ≡ place_of j)
-      × (db.schema ≡ log_schema)
-      × HoldsLog db.trees (with_batch j b next)
-  appended db it =
-      let one = moves (state g (record old { in_transaction = true })) (state g it.mid) j
-      (place_before name before b) b next was.schema was.holds.rows it.moved in
-      let at : b.first ≡ j.next = ap (λ (e : Place). e.next) one.0 in
-      let under : AreBelow b.first j.batches = subst (λ n. AreBelow n j.batches) (sym at) was.holds.below in
-      let two = puts (state g it.mid) (state g it.last) (ending_at j next b.sum) b it.count one.1 one.2 under it.put
-      in
-      let rows : HoldsRows db.trees (with_batch j b next) = subst
-      (λ (d : Database). HoldsRows d.trees (with_batch j b next)) (sym it.is) two.1 in (
-        one.0,
-        ap (λ (d : Database). d.schema) it.is ∙ two.0,
-        longer db.trees j b next at more was.holds.rising
-            was.holds.below was.holds.lines rows,
-      )
-
-  -- at `Ok`
-  pub acknowledged : (new : State) → Appends g name before b next old new.committed → IsSettled new
-      → (place_before name before b ≡ place_of j) × HasLog new (with_batch j b next)
-  acknowledged new it settled =
-      let made = appended new.committed it in (
-        made.0,
-        has_log new _ new.committed made.1 made.2 settled.is_open settled.autocommit (sym settled.committed) refl,
-      )
-
-  -- whatever was returned, a crash leaves the log from before, or the longer one
-  pub crashes : (new : State) → (HasCleanDisk (state g old) → Leaves (state g old) j) → HasCleanDisk new
-      → Survives (state g old) new (λ trees. (db : Database) × Appends g name before b next old db × (trees ≡ db.trees))
-      → LeavesEither new j (with_batch j b next)
-  crashes new kept clean s db left = elim (s.crash clean db left) [
-    | inl before ↦ inl (kept (omega (arith, s.clean)) db before)
-    | inr made ↦ inr (subst (λ t. HoldsLog t (with_batch j b next)) (sym made.2) (appended made.0 made.1).2)
-  ]
-
 -- while a store is open, a crash leaves its last commit
 pub settled : (s : State) (j : Journal) → ((db : Trees) → s.may_leave db → db ≡ s.committed.trees) → HasLog s j
     → Leaves s j
@@ -114,32 +73,23 @@ at_least n (x ∷ xs) = elim (x == 10) as (λ t. n ≤ fold after_line_byte (if 
 ]
 
 -- a batch has an entry
-pub goes_up : (name : List ℕ) (e : End) (lines : List ℕ) (a : End) → a ≡ end_after name e lines → e.next < a.next
-goes_up name e lines a same = omega (arith, at_least 1 lines, ap (λ (a : End). a.next) same)
+goes_up : (name : List ℕ) (e : End) (lines : List ℕ) → e.next < (end_after name e lines).next
+goes_up name e lines = omega (arith, at_least 1 lines)
 
-pub longer_by : (name : List ℕ) (e : End) (lines : List ℕ) (a : End) → a ≡ end_after name e lines
-    → int_cmp (pos e.next) (pos a.next) ≡ Less
-longer_by name e lines a same = let more = goes_up name e lines a same in grind (arith, ints)
+-- the rows of a log that ended here, with the lines, are the log with the lines
+pub has_lines : (change : Change) (before db : Trees) (j : Journal) (name : List ℕ) (e : End) (lines : List ℕ)
+    → EndsAt j name e → HoldsLog before j → HoldsRows db (changed change j e lines (end_with change name e lines))
+    → HoldsLog db (changed change j e lines (end_with change name e lines))
+has_lines Append before db j name e lines at was rows =
+    let a = end_after name e lines in
+    let more : int_cmp (pos e.next) (pos a.next) ≡ Less = let up = goes_up name e lines in grind (arith, ints) in
+    longer db j (a_batch (pos e.next) lines (pos a.sum)) (pos a.next) (sym at.next_is) more was.rising was.below
+    was.lines rows
+has_lines Fold before db j name e lines at was rows =
+    record { rows = rows; rising = tt; below = tt; lines = (tt, tt) }
 
--- the log ends where the append says
-pub ends_at : (j : Journal) (name : List ℕ) (e : End) (b : Batch) → place_before name (pos e.sum) (record b {
-  first =
-      pos e.next;
-}) ≡ place_of j → EndsAt j name e
-ends_at j name e b same = record {
-  name_is = sym (ap (λ (p : Place). p.name) same);
-  next_is = sym (ap (λ (p : Place). p.next) same);
-  sum_is = sym (ap (λ (p : Place). p.sum) same);
-}
-
-pub place_at : (j : Journal) (name : List ℕ) (e : End) (b : Batch) → EndsAt j name e
-    → place_before name (pos e.sum) (record b { first = pos e.next }) ≡ place_of j
-place_at j name e b at =
-    ap (λ name. place_before name (pos e.sum) (record b { first = pos e.next })) (sym at.name_is)
-    ∙ ap₂ (λ next sum. place_before j.name sum (record b { first = next })) (sym at.next_is) (sym at.sum_is)
-
--- the log's end stood elsewhere
-pub elsewhere : {S : Type 0} (g : Ghosts S) (old : Held S) (j : Journal) (name : List ℕ) (before : ℤ) (b : Batch)
-    (next : ℤ) → HasLog (state g old) j → IsElsewhere g name before b next old → place_before name before b ≢ place_of j
-elsewhere g old j name before b next was it at = it.other (counts (state g (record old { in_transaction = true }))
-    (state g it.mid) j (place_before name before b) b next it.count was.schema was.holds.rows it.moved at)
+-- a database can hold both numbers
+pub bounded : (change : Change) (name : List ℕ) (e : End) (lines : List ℕ) → Suits change name e lines
+    → (e.next ≤ 9223372036854775807) × ((end_with change name e lines).next ≤ 9223372036854775807)
+bounded Append name e lines suits = (omega (arith, goes_up name e lines, suits), suits)
+bounded Fold name e lines suits = (suits.0, suits.0)

@@ -4,15 +4,15 @@ use Rattle.std.proofs.Common.{◌∙◌, arith}
 use Rattle.sqlite.specs.{declared.types.Value.TheVariants.{Null, Int}, Order.Row, Table.Table, Schema.Schema}
 use Rattle.sqlite.specs.{Term.{Term, lit, col}, Source.TheVariants.Values, Command.TheVariants.{CreateTable, Insert}}
 use Rattle.sqlite.specs.{Compile.table_defined_by, Change.{created, next_tree, KeepsRows}, Rowids.TheVariants.Chosen}
-use Rattle.sqlite.specs.{Edit.{edit_of, edited, Applies}, Does.{Tally, Does, lacks_sequence}, Rows.Written, Tree.Trees}
-use Rattle.sqlite.specs.{Effect.Database, Listing.understood, State.{State, mode_of, Writes, Executes}}
+use Rattle.sqlite.specs.{Edit.{edit_of, edited, Applies}, Does.{Tally, lacks_sequence}, Tree.Trees}
+use Rattle.sqlite.specs.{Effect.Database, Listing.understood, State.{State, Writes, Executes}}
 use Rattle.sqlite_schema.specs.declared.schema.Keys.TheVariants.{Enforced}
 use Rattle.sqlite_tied.specs.Compute.{everything}
-use Rattle.sqlite.proofs.Callers.{IsPlain, command_of, statement_of, runs_as, one_step}
+use Rattle.sqlite.proofs.Callers.{IsPlain, command_of, statement_of, runs_as}
 use Rattle.argus_store.specs.Tables.{no_schema, log_table, opening_table, batch_table, object_table, log_schema}
 use Rattle.argus_store.specs.Journal.{new_journal, log_row, HoldsRows, HoldsLog}
 use Rattle.argus_store.specs.Making.{begin_row, begin_text}
-use Rattle.argus_store.proofs.{Changes.{went, same_value, cast_int, cast_null}, Statements.Means}
+use Rattle.argus_store.proofs.{Changes.{inserts, went, same_value, cast_int, cast_null}, Statements.Means}
 
 -- a table's definition, which has no place yet
 abbrev defined : Table → Table
@@ -131,25 +131,9 @@ begins : (old new : State) (name version : List ℕ) (sum : ℤ) (count : ℕ) �
     → IsEmptyLog old.now.trees → Executes begin_text (begin_row name version sum) old new (Ok count)
     → (new.now.schema ≡ log_schema) × HoldsRows new.now.trees (new_journal name version sum)
 begins old new name version sum count has none h =
-    let db = old.now.trees in
-    let params = begin_row name version sum in
-    let text = statement_of begin_text (understood log_schema begin_text) in
-    let w = runs_as begin_text params old new log_schema has (Insert 0 (Values begin_terms 8)) begin_is.0 begin_is.1
-    count h in
-    let done = went (subst (λ s. Does old.step_limit (mode_of old) params (record old.now { schema = s }) text None
-    (Insert 0 (Values begin_terms 8)) (Ok (w.tally, new.now))) has w.changed) in
-    let now = ap (λ (p : Tally × Database). p.1) (same_value (went (went done.2).2).2) in
-    let given = went done.1 in
-    let written = went (went given.2).2 in
-    let counted = went written.2 in
-    let trees : done.0.trees ≡ written.0 = ap (λ (it : Written). it.trees) (same_value counted.2)
-    ∙ same_value counted.1 in
-    let all : new.now.trees ≡ written.0 = ap (λ (d : Database). d.trees) now ∙ trees in
-    let applied = one_step log_schema _ db written.0 (edit_of db log_table [] Chosen 0 given.0) refl written.1 in (
-      ap (λ (d : Database). d.schema) now,
-      subst (λ t. HoldsRows t (new_journal name version sum)) (sym all)
-          (begin_rows db written.0 name version sum given.0 given.1.1 none applied),
-    )
+    let row = begin_row name version sum in
+    let it = inserts begin_text row log_table begin_terms 8 old new count begin_is refl refl has h in
+    (it.schema, begin_rows old.now.trees new.now.trees name version sum it.all it.is none it.applies)
 
 -- all five statements, in turn
 pub makes : (start first second third fourth last : State) (name version : List ℕ) (sum : ℤ)

@@ -3,7 +3,7 @@ use Rattle.std.proofs.Common.{true, ◌≡◌, inl, inr, ℕ, ℤ, List, [], ◌
 use Rattle.std.proofs.Common.{int_cmp, IsPermutation, IsTrue, Result, Ok, Err}
 use Rattle.std.specs.{List.{flat_map}, Result.{OnOk, OnErr}}
 use Rattle.sqlite.specs.{declared.types.Value.TheVariants.{Null, Int}, Order.{Row, value_cmp}, Program.overlay, Term.Term}
-use Rattle.sqlite.specs.Query.{inner, end, IsAnswer, output, output_cmp, Output, matches_as, page}
+use Rattle.sqlite.specs.Query.{Query, inner, end, IsAnswer, output, output_cmp, Output, matches_as, page}
 use Rattle.sqlite.specs.{Tree.{Trees, IsAscending}, Listing.understood, declared.error.Error.Error}
 use Rattle.sqlite.specs.State.{State, Shown, IsNotRun, FailsToQuery, IsUnchanged, IsRolledBack}
 use Rattle.sqlite.proofs.Callers.{reads_as, IsPlain}
@@ -18,6 +18,17 @@ use Rattle.argus_store.proofs.{Changes.{one_or_none}, Logs.unchanged}
 use Rattle.argus_store.proofs.Statements.{end_text, end_query, end_is, opening_text, opening_terms, opening_is}
 use Rattle.argus_store.proofs.Statements.{ordered_query, read_text, read_terms, read_is}
 
+-- what a query without WHERE gives of a table's rows, each kept like this
+module _ {X : Type 0} (kept : X → Row) (tree : ℕ) (query : Query) (out : X → Output)
+    (shows : (x : X) → output query ([] ∷ kept x ∷ []) ≡ out x) where
+  pub outputs : (all : Trees) (xs : List X) → all tree ≡ map kept xs
+      → map (output query) (matches_as Null all [] (inner tree end) ([] ∷ [])) ≡ map out xs
+  outputs all xs holds = rw holds (go xs)
+    where
+      go : (xs : List X) → map (output query) (flat_map (λ (r : Row). ([] ∷ r ∷ []) ∷ []) (map kept xs)) ≡ map out xs
+      go [] = refl
+      go (x ∷ xs) = ap₂ (λ o os. o ∷ os) (shows x) (go xs)
+
 -- of a table whose rows are kept and shown like this, in the order of their numbers
 module _ {X : Type 0} (number : X → ℤ) (kept shown : X → Row) (tree : ℕ) (project : List Term)
     (shows : (x : X) → output (ordered_query tree project) ([] ∷ kept x ∷ []) ≡ (Int (number x) ∷ [], shown x)) where
@@ -27,16 +38,6 @@ module _ {X : Type 0} (number : X → ℤ) (kept shown : X → Row) (tree : ℕ)
 
   abbrev in_order : Output → Output → Type 0
   in_order x y = output_cmp (ordered_query tree project) x y ≡ Less
-
-  outputs : (all : Trees) (xs : List X) → all tree ≡ map kept xs
-      → map (output (ordered_query tree project)) (matches_as Null all [] (inner tree end) ([] ∷ []))
-      ≡ map shown_output xs
-  outputs all xs holds = rw holds (go xs)
-    where
-      go : (xs : List X) → map (output (ordered_query tree project))
-          (flat_map (λ (r : Row). ([] ∷ r ∷ []) ∷ []) (map kept xs)) ≡ map shown_output xs
-      go [] = refl
-      go (x ∷ xs) = ap₂ (λ o os. o ∷ os) (shows x) (go xs)
 
   by_number : (x y : X) → int_cmp (number x) (number y) ≡ Less → in_order (shown_output x) (shown_output y)
   by_number x y h = then-Equal (value_cmp (Int (number x)) (Int (number y))) ∙ value_cmp-Int (number x) (number y) ∙ h
@@ -53,7 +54,8 @@ module _ {X : Type 0} (number : X → ℤ) (kept shown : X → Row) (tree : ℕ)
       → IsAnswer (ordered_query tree project) all [] rows → rows ≡ map shown xs
   answers all xs rows holds up a =
       let query = ordered_query tree project in
-      let kept : a.kept ≡ map shown_output xs = a.distinct ∙ ap (map (output query)) a.grouped ∙ outputs all xs holds in
+      let kept : a.kept ≡ map shown_output xs = a.distinct ∙ ap (map (output query)) a.grouped
+      ∙ outputs kept tree query shown_output shows all xs holds in
       let rises = ascending-map in_order shown_output xs (ascending xs up) in
       let ordered = sorted_unique (output_cmp query) (output_cmp_total query) (map shown_output xs)
       a.ordered rises (subst (λ k. IsPermutation k a.ordered) kept a.same) a.sorted in

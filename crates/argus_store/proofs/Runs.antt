@@ -1,9 +1,11 @@
--- A log whose rows follow from one another, after one append and another.
-use Rattle.std.proofs.Common.{◌≡◌, ◌++◌, ℕ, pos, List, [], ◌∷◌, flat_map, refl, sym, ap, ap₂, subst, ◌∙◌}
+-- A log whose rows follow from one another, after one append and another, or after a fold.
+use Rattle.std.proofs.Common.{◌≡◌, ◌++◌, ℕ, pos, List, [], ◌∷◌, flat_map, refl, sym, ap, ap₂, ◌∙◌}
 use Rattle.std.proofs.Common.{append_assoc, append-nil}
 use Rattle.std.proofs.lemmas.Grind.{flat_map-append}
-use Rattle.argus_store.specs.{declared.end.End.End, End.{EndsAt, end_after, with_lines}, Journal.{Batch, Journal}}
-use Rattle.argus_store.specs.{Chain.{Follow, IsChained, IsNext, begins_after, ended, listing_of}, Runs.{end_behind, with_all}}
+use Rattle.argus_store.specs.{declared.end.End.End, End.{EndsAt, end_after, end_folded, folded, with_lines}}
+use Rattle.argus_store.specs.{Journal.{Batch, Journal, one_row}, Summing.log_sum}
+use Rattle.argus_store.specs.Chain.{Follow, IsChained, IsNext, Opens, begins_after, ended, listing_of}
+use Rattle.argus_store.specs.Runs.{end_behind, with_all}
 use Rattle.argus_store.proofs.Chains.{batch_texts, ended_texts}
 
 -- a batch more, behind the last one
@@ -52,3 +54,24 @@ runs j name end (lines ∷ more) chained ends =
       rest.2 ∙ ap (λ t. t ++ flat_map ended more) (listed_then j name end lines chained ends)
           ∙ append_assoc (listing_of j) (ended lines) (flat_map ended more),
     )
+
+pub folds : (j : Journal) (name : List ℕ) (end : End) (opening : List ℕ) → EndsAt j name end
+    → Opens end opening → IsChained (folded j name end opening)
+    × EndsAt (folded j name end opening) name (end_folded name end opening)
+    × (listing_of (folded j name end opening) ≡ ended opening)
+folds j name end opening ends opens = (
+  record {
+    entry = end.next;
+    end = begins_after j.name (one_row opening) end.next;
+    in_place = (refl, tt);
+    begins = opens.1;
+    follow = refl;
+    ends = record {
+      name_is = refl;
+      next_is = refl;
+      sum_is = ap pos (ap₂ (λ n t. log_sum n end.next 0 t) (sym ends.name_is) (sym (append-nil opening)));
+    };
+  },
+  record { name_is = ends.name_is; next_is = refl; sum_is = refl },
+  append-nil (ended opening ++ []) ∙ append-nil (ended opening),
+)

@@ -2,12 +2,13 @@
 use Rattle.std.proofs.Common.{◌≡◌, ℕ, pos, negsuc, List, [], ◌∷◌, codes, false, None, refl}
 use Rattle.sqlite.specs.{Collation.TheVariants.Binary, declared.types.Value.TheVariants.{Null, Int}}
 use Rattle.sqlite.specs.{Term.{Term, lit, col, op2}, Query.{Query, inner, end}, Source.TheVariants.Values}
-use Rattle.sqlite.specs.{Command.{Command, TheVariants.{Insert, Update, Select}}, Listing.{understood, reads_listing}}
+use Rattle.sqlite.specs.Command.{Command, TheVariants.{Insert, Update, Select, Delete}}
+use Rattle.sqlite.specs.Listing.{understood, reads_listing}
 use Rattle.sqlite_sql.specs.{declared.ops.BinaryOp.TheVariants.Compare, declared.ops.CompareOp.TheVariants.Eq}
 use Rattle.sqlite_schema.specs.declared.program.Program.{Program}
 use Rattle.sqlite_tied.specs.Compute.{everything}
 use Rattle.sqlite.proofs.Callers.{IsPlain, command_of}
-use Rattle.argus_store.specs.{Tables.log_schema, Appending.{move_text, put_text}}
+use Rattle.argus_store.specs.Tables.{log_schema}
 
 -- over the log's tables the text is this command's
 abbrev pub Means : List ℕ → Command → Type 0
@@ -17,6 +18,10 @@ abbrev pub Reads : List ℕ → Program → List (List ℕ) → Type 0
 Reads text program names = Means text (Select program names) × (reads_listing log_schema text ≡ false)
 
 -- ---- the log's end is moved
+
+abbrev pub move_text : List ℕ
+move_text = codes
+    "UPDATE log SET next_entry = ?1, sum = ?2 WHERE next_entry = ?3 AND sum = ?4 AND name = ?5"
 
 abbrev pub move_query : Query
 move_query = record {
@@ -41,12 +46,49 @@ move_is = (refl, (refl, refl))
 
 -- ---- a batch is put in
 
+abbrev pub put_text : List ℕ
+put_text = codes "INSERT INTO batch (first, lines, sum) VALUES (?1, ?2, ?3)"
+
 abbrev pub put_terms : List Term
 put_terms = col 0 0 ∷ lit Null ∷ col 0 1 ∷ col 0 2 ∷ []
 
 pub put_is : Means put_text (Insert 2 (Values put_terms 4))
 unfolding understood everything
 put_is = (refl, (refl, refl))
+
+-- ---- all batches, and all lines of the opening, are taken out
+
+abbrev pub clear_query : ℕ → Query
+clear_query tree = record move_query { from = inner tree end; filter = []; project = col 1 0 ∷ [] }
+
+abbrev pub Clears : List ℕ → ℕ → Type 0
+Clears text tree = Means text (Delete tree (record { lets = []; body = clear_query tree }))
+
+abbrev pub clear_batches_text : List ℕ
+clear_batches_text = codes "DELETE FROM batch"
+
+pub clear_batches_is : Clears clear_batches_text 2
+unfolding understood everything
+clear_batches_is = (refl, (refl, refl))
+
+abbrev pub clear_opening_text : List ℕ
+clear_opening_text = codes "DELETE FROM opening"
+
+pub clear_opening_is : Clears clear_opening_text 1
+unfolding understood everything
+clear_opening_is = (refl, (refl, refl))
+
+-- ---- an opening is put in
+
+abbrev pub open_text : List ℕ
+open_text = codes "INSERT INTO opening VALUES (0, ?1)"
+
+abbrev pub open_terms : List Term
+open_terms = lit (Int (pos 0)) ∷ lit Null ∷ col 0 0 ∷ []
+
+pub open_is : Means open_text (Insert 1 (Values open_terms 3))
+unfolding understood everything
+open_is = (refl, (refl, refl))
 
 -- ---- the log's end is read
 

@@ -1,7 +1,7 @@
 -- When the rows of a log follow from one another, the text of its listing, and the first row that doesn't follow.
 use Rattle.std.specs.Prelude.{◌≡◌, ◌≢◌, ◌⊎◌, ◌≤◌, ◌+◌, ℕ, ℤ, pos, ⊤, decimal, codes, flat_map, List, [], ◌∷◌, ◌++◌}
 use Rattle.argus_store.specs.{Summing.log_sum, declared.end.End.End, End.{EndsAt, end_after}}
-use Rattle.argus_store.specs.Journal.{Batch, Journal, OpeningLine}
+use Rattle.argus_store.specs.Journal.{Batch, Journal, OpeningLine, one_row}
 use Rattle.argus_store.specs.declared.faulty_row.{FaultyRow.FaultyRow, Table.Table, RowFault.RowFault}
 use Rattle.argus_store.specs.declared.faulty_row.Table.TheVariants.{Log, Opening, Batch as OfBatch}
 use Rattle.argus_store.specs.declared.faulty_row.RowFault.TheVariants.{Number, TooLarge, Sum}
@@ -34,6 +34,10 @@ abbrev pub StandsBefore : ℕ → List OpeningLine → Type 0
 StandsBefore entry [] = entry ≡ 0
 StandsBefore entry (l ∷ ls) =
     (rest : List ℕ) × (l.text ≡ codes "opening entries " ++ (decimal entry ++ (codes " " ++ rest)))
+
+-- the opening stands before the entry that comes next, whose number a database can hold
+abbrev pub Opens : End → List ℕ → Type 0
+Opens end opening = (end.next ≤ 9223372036854775807) × StandsBefore end.next (one_row opening)
 
 -- where the chain begins, in the log of this name: behind an opening that stands before this entry
 abbrev pub begins_after : List ℕ → List OpeningLine → ℕ → End

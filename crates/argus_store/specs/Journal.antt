@@ -10,7 +10,7 @@ pub record Batch : Type 0 where
   pub lines : List ℕ
   pub sum : ℤ
 
--- a line of the last checkpoint's opening, and its place there
+-- a row of the last checkpoint's opening: its place there, and one line or more, with a line feed between any two
 pub record OpeningLine : Type 0 where
   pub number : ℤ
   pub text : List ℕ
@@ -49,6 +49,14 @@ ending_at j next sum = record j { next = next; sum = sum }
 -- the log with one more batch, after which this entry comes next
 abbrev pub with_batch : Journal → Batch → ℤ → Journal
 with_batch j b next = record (ending_at j next b.sum) { batches = j.batches ++ b ∷ [] }
+
+-- all lines of an opening as one row
+abbrev pub one_row : List ℕ → List OpeningLine
+one_row text = record { number = pos 0; text = text } ∷ []
+
+-- the log with an opening in place of all lines
+abbrev pub with_opening : Journal → List ℕ → Journal
+with_opening j text = record j { batches = []; opening = one_row text }
 
 -- these lines, from an entry on, with their sum
 abbrev pub a_batch : ℤ → List ℕ → ℤ → Batch

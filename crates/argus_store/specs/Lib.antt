@@ -1,12 +1,12 @@
 pub mod Tables
 pub mod Journal
 pub mod Store
-pub mod Appending
 pub mod Making
 pub mod Summing
 pub mod End
 pub mod Head
 pub mod Chain
+pub mod Changing
 pub mod Runs
 pub mod Listing
 pub mod RowLine

@@ -1,11 +1,12 @@
 -- What a store shows, and what a crash leaves of it.
-use Rattle.std.specs.{Prelude.{◌≡◌, ◌⊎◌, IsTrue, OnErr, OnOk, false}, declared.result.Result.Result}
+use Rattle.std.specs.Prelude.{◌≡◌, ◌⊎◌, IfOk, IsErr, IsSome, IsTrue, None, Ok, OnErr, OnOk, Option, false}
+use Rattle.std.specs.declared.result.Result.{Result}
 use Rattle.sqlite_disk.specs.declared.Disk.{Ghosts}
 use Rattle.sqlite.specs.{Recovery.Image, Tree.Trees, State.{State, HasCleanDisk}, Held.Held, declared.FileStore.FileStore}
-use Rattle.sqlite.specs.Files.{file_state, HoldsDatabase}
+use Rattle.sqlite.specs.{declared.error.Error.Error, Files.{file_state, HoldsDatabase}}
 use Rattle.sqlite.specs.FileStore as store
 use Rattle.sqlite_catalog.specs.Listing.{IsSound}
-use Rattle.argus_store.specs.{Tables.log_schema, Journal.{Journal, HoldsLog}}
+use Rattle.argus_store.specs.{Tables.log_schema, Journal.{Journal, HoldsLog}, declared.end.End.End}
 
 -- The store is open, has no transaction under way, and its database is this log, all of it committed.
 pub record HasLog (s : State) (j : Journal) : Type 0 where
@@ -30,6 +31,17 @@ Leaves s j = (db : Trees) → s.may_leave db → HoldsLog db j
 -- a crash leaves this log or that one, and nothing in between
 abbrev pub LeavesEither : State → Journal → Journal → Type 0
 LeavesEither s j k = (db : Trees) → s.may_leave db → HoldsLog db j ⊎ HoldsLog db k
+
+-- What a call that makes this log of that one has done, if the log takes the lines. `Some`: it is made, and each crash
+-- from now on leaves it. `None`: the log doesn't take them. Otherwise it is as before, if it is still open. A crash
+-- leaves either.
+pub record Changes (s : State) (result : Result (Option End) Error) (Takes : Type 0)
+    (j k : Journal) : Type 0 where
+  pub made : IfOk result (λ made. IsSome made → Takes × HasLog s k)
+  pub durable : IfOk result (λ made. IsSome made → Leaves s k)
+  pub kept : IsTrue s.is_open → (result ≡ Ok None) ⊎ IsErr result → HasLog s j
+  pub refused : result ≡ Ok None → ¬ Takes
+  pub crash : LeavesEither s j k
 
 -- the two files hold a database which is this log
 pub record FilesHold (image : Image) (j : Journal) : Type 0 where

@@ -1,8 +1,10 @@
 //! `End`: where a log ends.
 
 ghost use Rattle.std.specs.Prelude.{◌≡◌, ◌≤◌, IfSome, None};
-ghost use Rattle.argus_store.specs.{Summing.entries_in, End.{end_after, end_of_new}};
+ghost use Rattle.argus_store.specs.{Chain.Opens, Summing.entries_in};
+ghost use Rattle.argus_store.specs.End.{end_after, end_folded, end_of_new};
 
+use crate::listing::says_entry;
 use crate::summing::{log_sum, sum_of};
 
 /// Where a log ends: the number of its next entry, and the sum of its last batch.
@@ -50,6 +52,22 @@ impl End {
         Some(End {
             next,
             sum: sum_of(name.as_bytes(), self.next, self.sum, lines),
+        })
+    }
+
+    /// Where the log of this name that ends here ends with this opening in place of all lines. `None`
+    /// if it doesn't stand before the next entry, or a database can't hold that one's number.
+    pub(crate) fn after_fold(self, name: &str, opening: &str) -> Option<End>
+        ensures some { IfSome result (λ end. (end ≡ end_folded name.now self opening.now)
+            × Opens self opening.now) }
+        ensures none { result ≡ None → ¬ Opens self opening.now }
+    {
+        if self.next > i64::MAX as u64 || !says_entry(opening.as_bytes(), self.next) {
+            return None;
+        }
+        Some(End {
+            next: self.next,
+            sum: log_sum(name, self.next, 0, opening),
         })
     }
 }

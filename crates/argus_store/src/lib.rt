@@ -2,7 +2,8 @@
 //! after any crash, in order, once, and nothing is there in part.
 #![tactic(auto)]
 
-mod appending;
+mod change;
+mod changing;
 mod end;
 mod ending;
 mod faulty_row;

@@ -201,7 +201,7 @@ fn stands_before(opening: &[Row], entry: u64) -> bool
     }
 }
 
-fn says_entry(line: &[u8], entry: u64) -> bool
+pub(crate) fn says_entry(line: &[u8], entry: u64) -> bool
     ensures { IsTrue result ↔ ((rest : List ℕ)
         × (line.now ≡ codes "opening entries " ++ (decimal entry ++ (codes " " ++ rest)))) }
 {

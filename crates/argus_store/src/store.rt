@@ -1,19 +1,20 @@
 //! `Store`: a guardian's log in a SQLite database.
 
-ghost use Rattle.std.specs.Prelude.{◌≡◌, ◌≢◌, ◌⊎◌, ◌≤◌, IfOk, IfSome, IsErr, IsSome, IsTrue, None};
-ghost use Rattle.std.specs.Prelude.{IsSomeAnd, Ok, map, pos, false};
+ghost use Rattle.std.specs.Prelude.{◌≡◌, ◌≢◌, ◌≤◌, IfOk, IfSome, IsSomeAnd, None, Ok, false, map, pos};
 ghost use Rattle.sqlite.specs.{State.HasCleanDisk, Held.state, Files.file_state, View.IsClean};
 ghost use Rattle.sqlite.specs.{FileStore.view, WalFiles.image_at};
 ghost use Rattle.argus_store.specs.{Tables.no_schema, Journal.{Journal, new_journal}};
 ghost use Rattle.argus_store.specs.{Journal.{shown_batch, shown_line}, Head.{IsHeadOf, SaysIfOpen}};
-ghost use Rattle.argus_store.specs.End.{EndsAt, end_after, end_of_new, with_lines};
-ghost use Rattle.argus_store.specs.Store.{HasLog, KeptAtError, KeptAtOk, Leaves, LeavesEither};
-ghost use Rattle.argus_store.specs.Store.{FilesHold, Keeps};
+ghost use Rattle.argus_store.specs.{Chain.Opens, End.{EndsAt, end_after, end_folded}};
+ghost use Rattle.argus_store.specs.End.{end_of_new, folded, with_lines};
+ghost use Rattle.argus_store.specs.Store.{Changes, FilesHold, HasLog, Keeps, KeptAtError, KeptAtOk, Leaves};
 
+use crate::change::Change;
+use crate::changing::change;
 use crate::end::End;
 use crate::ending::head_in;
 use crate::head::Head;
-use crate::{appending, making};
+use crate::making;
 use sqlite::{Alter, Connection, Error, FileFrom, FileStore, Row, Start};
 use sqlite_disk::Disk;
 use std::marker::Model;
@@ -80,34 +81,31 @@ impl<S: Alter> Store<S> {
     /// call is the kit's argument (sqlite_wal).
     pub fn append(&mut self, name: &str, end: End, lines: &str) -> Result<Option<End>, Error>
         ensures end { IfOk result (λ made. IfSome made (λ e. e ≡ end_after name.now end lines.now)) }
-        ensures appended { (j : Journal) → HasLog (state S.Store self.old) j
+        ensures changes { (j : Journal) → HasLog (state S.Store self.old) j
             → HasCleanDisk (state S.Store self.new)
-            → IfOk result (λ made. IsSome made → EndsAt j name.now end
-            × HasLog (state S.Store self.new) (with_lines j name.now end lines.now)) }
-        ensures durable { (j : Journal) → HasLog (state S.Store self.old) j
-            → HasCleanDisk (state S.Store self.new)
-            → IfOk result (λ made. IsSome made
-            → Leaves (state S.Store self.new) (with_lines j name.now end lines.now)) }
-        ensures kept { (j : Journal) → HasLog (state S.Store self.old) j
-            → HasCleanDisk (state S.Store self.new) → IsTrue (state S.Store self.new).is_open
-            → (result ≡ Ok None) ⊎ IsErr result → HasLog (state S.Store self.new) j }
-        ensures refused { (j : Journal) → HasLog (state S.Store self.old) j
-            → HasCleanDisk (state S.Store self.new)
-            → result ≡ Ok None → ¬ EndsAt j name.now end
-            ⊎ (9223372036854775808 ≤ (end_after name.now end lines.now).next) }
-        ensures crash { (j : Journal) → HasLog (state S.Store self.old) j
-            → HasCleanDisk (state S.Store self.new)
-            → LeavesEither (state S.Store self.new) j (with_lines j name.now end lines.now) }
+            → Changes (state S.Store self.new) result
+            (EndsAt j name.now end × ((end_after name.now end lines.now).next ≤ 9223372036854775807))
+            j (with_lines j name.now end lines.now) }
     {
-        let Some(after) = end.after(name, lines) else {
-            return Ok(None);
-        };
-        let (first, next) = (end.next as i64, after.next as i64);
-        if appending::append(&mut self.conn, name, first, end.sum, lines, after.sum, next)? {
-            Ok(Some(after))
-        } else {
-            Ok(None)
-        }
+        change(&mut self.conn, Change::Append, name, end, lines)
+    }
+
+    /// Puts a checkpoint's opening, without its last line feed, in place of all lines of the log of
+    /// this name, which ends there. `Some`: the log has the opening, as one row, and no batch. `None`:
+    /// the log has another name or another end, or the opening doesn't stand before that entry.
+    /// Otherwise as `append`, also of a crash. The table `object` stays as it is.
+    ///
+    /// ```text
+    /// store.fold(name, end, "opening entries 3 actions 2\nopening o0 atomic_record[balance:int] {5}")?
+    /// ```
+    pub fn fold(&mut self, name: &str, end: End, opening: &str) -> Result<Option<End>, Error>
+        ensures end { IfOk result (λ made. IfSome made (λ e. e ≡ end_folded name.now end opening.now)) }
+        ensures changes { (j : Journal) → HasLog (state S.Store self.old) j
+            → HasCleanDisk (state S.Store self.new)
+            → Changes (state S.Store self.new) result
+            (EndsAt j name.now end × Opens end opening.now) j (folded j name.now end opening.now) }
+    {
+        change(&mut self.conn, Change::Fold, name, end, opening)
     }
 
     /// Whose the log is, where it ends, and whether it is open. `None`: the database has no log. The log stays as it is.

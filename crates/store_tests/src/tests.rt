@@ -15,6 +15,8 @@ const BEGIN: &str = "0 begin_top -> a0";
 
 const REST: &str = "1 commit a0 -> done\n2 begin_top -> a1";
 
+const OPENING: &str = "opening entries 3 actions 2\nopening o0 atomic_array[int] 0[]";
+
 // A new log that has taken two batches, if it has them.
 fn filled<S: Alter + Drop>(conn: Connection<S>) -> Result<Option<Store<S>>, Error> {
     match Store::create(conn, NAME, "1")? {
@@ -106,6 +108,33 @@ fn has(row: &Row, lines: &str) -> Result<bool, Error> {
     Ok(kept.as_str() == lines)
 }
 
+// Whether an opening takes the place of both, if it stands before the log's end, and a batch comes behind it.
+fn is_folded<S: Alter>(store: &mut Store<S>) -> Result<bool, Error> {
+    let Some(end) = store.end(NAME)? else {
+        return Ok(false);
+    };
+    let is_refused = store.fold(NAME, End::of_new(NAME), OPENING)?.is_none()
+        && store
+            .fold(NAME, end, "opening entries 2 actions 1")?
+            .is_none();
+    let Some(after) = store.fold(NAME, end, OPENING)? else {
+        return Ok(false);
+    };
+    let is_alone = store.batches()?.is_empty() && ends_at(store, Some(after))?;
+    let last = store.append(NAME, after, "3 commit a1 -> done")?;
+    Ok(is_refused && is_alone && after.next == 3 && last.is_some())
+}
+
+// Whether the listing is the opening and the batch behind it.
+fn is_fold<S: Alter>(alloc: Global, store: &mut Store<S>) -> Result<bool, Error> {
+    let wanted =
+        b"opening entries 3 actions 2\nopening o0 atomic_array[int] 0[]\n3 commit a1 -> done\n";
+    match text_of(alloc, store)? {
+        Ok(text) => Ok(text.as_slice() == wanted.as_slice()),
+        Err(_) => Ok(false),
+    }
+}
+
 fn end<D: Disk + Drop>(made: Option<Store<FileStore<D>>>) -> bool {
     match made {
         Some(store) => {
@@ -129,6 +158,14 @@ fn list(rt: &HostRuntime, path: &str) -> Result<bool, Error> {
     is_listed(rt.alloc(), &mut Store::over(Connection::open(rt, path)?))
 }
 
+fn fold(rt: &HostRuntime, path: &str) -> Result<bool, Error> {
+    is_folded(&mut Store::over(Connection::open(rt, path)?))
+}
+
+fn open_fold(rt: &HostRuntime, path: &str) -> Result<bool, Error> {
+    is_fold(rt.alloc(), &mut Store::open(rt, path, Unknown)?)
+}
+
 // The store, if it has both.
 fn kept<S: Alter + Drop>(alloc: Global, mut store: Store<S>) -> Result<Option<Store<S>>, Error> {
     let is_same = has_both(store.batches()?.as_slice())?;
@@ -149,5 +186,15 @@ fn over_a_file(rt: HostRuntime) -> Result<(), Fail> {
     assert!(rt; put_opening(&rt, "argus_store_test.db")? == 2);
     assert!(rt; open(&rt, "argus_store_test.db")?);
     fs::remove_file(&rt, "argus_store_test.db")?;
+    Ok(())
+}
+
+#[test]
+fn folded_over_a_file(rt: HostRuntime) -> Result<(), Fail> {
+    let _ = fs::remove_file(&rt, "argus_fold_test.db");
+    assert!(rt; make(&rt, "argus_fold_test.db")?);
+    assert!(rt; fold(&rt, "argus_fold_test.db")?);
+    assert!(rt; open_fold(&rt, "argus_fold_test.db")?);
+    fs::remove_file(&rt, "argus_fold_test.db")?;
     Ok(())
 }

@@ -1,5 +1,5 @@
 use Rattle.std.proofs.Common.{refl}
-use Rattle.argus_store.proofs.Runs.{runs}
+use Rattle.argus_store.proofs.Runs.{folds, runs}
 use Rattle.argus_store.proofs.laws.appends_are_listed.Goals as goal
 
 pub returns-clause-begins : goal.returns-clause-begins
@@ -17,3 +17,6 @@ returns-clause-begins c = λ name version. (
 
 pub returns-clause-goes_on : goal.returns-clause-goes_on
 returns-clause-goes_on c = runs
+
+pub returns-clause-folds : goal.returns-clause-folds
+returns-clause-folds c = folds
