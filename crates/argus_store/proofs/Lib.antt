@@ -9,3 +9,4 @@ pub mod Restarts
 pub mod Sums
 pub mod Chains
 pub mod Runs
+pub mod KeptLines

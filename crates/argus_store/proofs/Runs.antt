@@ -23,7 +23,7 @@ one_end j name d e one two =
 
 module _ (j : Journal) (name : List ℕ) (end : End) (lines : List ℕ) (chained : IsChained j)
     (ends : EndsAt j name end) where
-  chained_then : IsChained (with_lines j name end lines)
+  pub chained_then : IsChained (with_lines j name end lines)
   chained_then = record {
     entry = chained.entry;
     end = end_after name end lines;
@@ -34,10 +34,10 @@ module _ (j : Journal) (name : List ℕ) (end : End) (lines : List ℕ) (chained
     ends = record { name_is = refl; next_is = refl; sum_is = refl };
   }
 
-  ends_then : EndsAt (with_lines j name end lines) name (end_after name end lines)
+  pub ends_then : EndsAt (with_lines j name end lines) name (end_after name end lines)
   ends_then = record { name_is = ends.name_is; next_is = refl; sum_is = refl }
 
-  listed_then : listing_of (with_lines j name end lines) ≡ listing_of j ++ ended lines
+  pub listed_then : listing_of (with_lines j name end lines) ≡ listing_of j ++ ended lines
   listed_then = ap (λ t. ended_texts j.opening ++ t) (flat_map-append (λ (b : Batch). ended b.lines) j.batches _
       ∙ ap (λ t. batch_texts j.batches ++ t) (append-nil (ended lines)))
       ∙ sym (append_assoc (ended_texts j.opening) (batch_texts j.batches) (ended lines))

@@ -10,3 +10,4 @@ pub mod Changing
 pub mod Runs
 pub mod Listing
 pub mod RowLine
+pub mod Kept

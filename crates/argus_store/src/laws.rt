@@ -1,9 +1,15 @@
-//! The law of appends and folds: what each says of a crash, put together.
+//! The laws of a log: what each append and fold says of a crash, put together, and what a restart finds.
 
-ghost use Rattle.std.specs.Prelude.{◌≡◌, ◌++◌, ℕ, List, [], flat_map, pos};
+ghost use Rattle.std.specs.Prelude.{◌≡◌, ◌≢◌, ◌++◌, ℕ, Bool, List, Option, Some, [], flat_map, pos};
+ghost use Rattle.argus_journal.specs.JournalView.{JournalView};
+ghost use Rattle.argus_guardian.specs.{JournalText.journal_text, ResumeLaws.IsListable, Resumed.IsResumed};
+ghost use Rattle.argus_guardian.specs.resume_declared.resumed.Resumed.{Resumed};
+ghost use Rattle.argus_guardian.specs.resume_declared.read_end.ReadEnd.TheVariants as read;
 ghost use Rattle.argus_store.specs.{Journal.{Journal, new_journal}, Runs.{end_behind, with_all}};
 ghost use Rattle.argus_store.specs.{declared.end.End.End, End.{EndsAt, end_folded, end_of_new, folded}};
 ghost use Rattle.argus_store.specs.Chain.{IsChained, Opens, ended, listing_of};
+
+use argus_guardian::resume_laws::listings_are_resumed;
 
 /// However many appends a log has taken, over however many runs, its rows follow from one another,
 /// and its listing is the text from before with the lines of each append behind it, in their order
@@ -23,3 +29,15 @@ pub fn appends_are_listed()
         → Opens end opening → let k = folded j name end opening in
         IsChained k × EndsAt k name (end_folded name end opening) × (listing_of k ≡ ended opening) }
 {}
+
+/// What `Kept` has acknowledged comes back: resumed from its listing, the guardian has the journal
+/// that was there, given memory and if no read fails. Its opening and calls have to be readable.
+pub fn kept_is_resumed()
+    ensures { (j : Journal) (journal : JournalView) (has : Option (List ℕ)) (failed : Bool)
+        (resumed : Resumed) → listing_of j ≡ journal_text journal → IsListable journal
+        → IsResumed (Some (listing_of j)) has failed resumed
+        → resumed.end ≢ read.OutOfMemory → resumed.end ≢ read.Read
+        → resumed.guardian ≡ journal }
+{
+    listings_are_resumed();
+}

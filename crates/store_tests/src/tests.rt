@@ -1,13 +1,20 @@
 //! Each public function of argus_store on its happy path, over a file. What works on a store does it
 //! whatever the store is on: a proof for the whole type of one on a file takes ten times as long.
 
-use argus_store::laws::appends_are_listed;
-use argus_store::{End, FaultyRow, ListingError, RowFault, RowLine, Store, Table, listing_text};
+use argus_actions::ActionId;
+use argus_guardian::{ResumedGuardian, Resuming};
+use argus_journal::{Call, Reply};
+use argus_store::laws::{appends_are_listed, kept_is_resumed};
+use argus_store::{End, FaultyRow, KeepError, Kept, ListingError, RowFault, RowLine};
+use argus_store::{Store, Table, listing_text};
+use argus_values::{Answer, Heap};
 use sqlite::{Alter, Connection, Error, FileStore, Row, Unknown};
 use sqlite_disk::Disk;
 use std::alloc::Global;
 use std::fs;
 use std::test::Fail;
+
+const FILE: &str = "argus_store_test.db";
 
 const NAME: &str = "0123";
 
@@ -15,12 +22,24 @@ const BEGIN: &str = "0 begin_top -> a0";
 
 const REST: &str = "1 commit a0 -> done\n2 begin_top -> a1";
 
-const OPENING: &str = "opening entries 3 actions 2\nopening o0 atomic_array[int] 0[]";
+const COMMIT: &str = "3 begin_top -> a2\n4 commit a1 -> done";
 
-// A new log that has taken two batches, if it has them.
-fn filled<S: Alter + Drop>(conn: Connection<S>) -> Result<Option<Store<S>>, Error> {
-    match Store::create(conn, NAME, "1")? {
-        Some(mut store) => Ok(if fill(&mut store)? { Some(store) } else { None }),
+const OPENING: &str = "opening entries 5 actions 3\nopening o0 atomic_array[int] 0[]";
+
+// A new log that has taken two batches, and those of a guardian that goes on, if it has them.
+fn begun<S: Alter + Drop>(
+    alloc: Global,
+    heap: Heap,
+    conn: Connection<S>,
+) -> Result<Option<Store<S>>, KeepError> {
+    let Some(mut store) = Store::create(conn, NAME, "1")? else {
+        return Ok(None);
+    };
+    if !fill(&mut store)? || !is_listed(alloc, &mut store)? {
+        return Ok(None);
+    }
+    match resumed(alloc, heap, store)? {
+        Some(bank) => gone_on(bank),
         None => Ok(None),
     }
 }
@@ -34,7 +53,7 @@ fn fill<S: Alter>(store: &mut Store<S>) -> Result<bool, Error> {
     let is_last = store.append(NAME, end, REST)? == end.after(NAME, REST);
     let is_refused = store.append(NAME, end, REST)?.is_none();
     let is_done = is_last && is_refused && ends_at(store, end.after(NAME, REST))?;
-    Ok(end.sum == 0xf401_020e && is_done && has_both(store.batches()?.as_slice())?)
+    Ok(end.sum == 0xf401_020e && is_done)
 }
 
 // Whether the log ends there, under its name, and no other log does.
@@ -58,47 +77,57 @@ fn text_of<S: Alter>(
     Ok(listing_text(alloc, &head, opening.as_slice(), batches.as_slice()))
 }
 
+fn lists<S: Alter>(alloc: Global, store: &mut Store<S>, wanted: &[u8]) -> Result<bool, Error> {
+    match text_of(alloc, store)? {
+        Ok(text) => Ok(text.as_slice() == wanted),
+        Err(_) => Ok(false),
+    }
+}
+
 // Whether both batches are listed, and the last line is found in its row.
 fn is_listed<S: Alter>(alloc: Global, store: &mut Store<S>) -> Result<bool, Error> {
     let wanted = b"0 begin_top -> a0\n1 commit a0 -> done\n2 begin_top -> a1\n";
-    let is_text = match text_of(alloc, store)? {
-        Ok(text) => text.as_slice() == wanted.as_slice(),
-        Err(_) => false,
-    };
     let (table, row, line) = (Table::Batch, 1, 2);
     let place = RowLine::of_listing(&[], store.batches()?.as_slice(), 3);
-    Ok(is_text && place == Some(RowLine { table, row, line }))
+    Ok(lists(alloc, store, wanted)? && place == Some(RowLine { table, row, line }))
 }
 
-// Whether the first batch doesn't follow from an opening that was put in later.
-fn is_broken<S: Alter>(alloc: Global, store: &mut Store<S>) -> Result<bool, Error> {
-    let (table, row, fault) = (Table::Batch, 0, RowFault::Sum);
-    match text_of(alloc, store)? {
-        Ok(_) => Ok(false),
-        Err(error) => Ok(error == ListingError::Row(FaultyRow { table, row, fault })),
+// The guardian that the log has, over the log.
+fn resumed<S: Alter + Drop>(
+    alloc: Global,
+    heap: Heap,
+    mut store: Store<S>,
+) -> Result<Option<Kept<S>>, KeepError> {
+    let (Some(head), Ok(text)) = (store.head()?, text_of(alloc, &mut store)?) else {
+        return Ok(None);
+    };
+    let mut resuming = Resuming::new(heap);
+    resuming.take(text.as_slice());
+    let Ok(ResumedGuardian { guardian, .. }) = resuming.into_guardian() else {
+        return Ok(None);
+    };
+    let mut name = String::new(heap.room());
+    name.push_str(NAME)?;
+    Ok(Kept::over(heap, guardian, store, name, head.end))
+}
+
+// The store, if a guardian that was made again goes on, and the log has its commit.
+fn gone_on<S: Alter + Drop>(mut bank: Kept<S>) -> Result<Option<Store<S>>, KeepError> {
+    let is_begun = bank.call(Call::BeginTop)? == Reply::Begun(ActionId(2));
+    let is_done = bank.commit(ActionId(1))? == Reply::Answered(Answer::Done);
+    let next = bank.guardian().journal().journal().len();
+    let (_guardian, mut store, end) = bank.into_parts();
+    let is_kept = has_all(store.batches()?.as_slice())?;
+    if is_begun && is_done && is_kept && next == 5 && end.next == 5 {
+        Ok(Some(store))
+    } else {
+        Ok(None)
     }
 }
 
-fn has_both(rows: &[Row]) -> Result<bool, Error> {
+fn has_all(rows: &[Row]) -> Result<bool, Error> {
     match rows {
-        [begin, rest] => Ok(has(begin, BEGIN)? && has(rest, REST)?),
-        _ => Ok(false),
-    }
-}
-
-// The lines of an opening, put in out of their order.
-fn put_opening(rt: &HostRuntime, path: &str) -> Result<usize, Error> {
-    let text = "INSERT INTO opening VALUES (1, 'opening o0 atomic_array[int] 0[]'), \
-        (0, 'opening entries 0 actions 0')";
-    Connection::open(rt, path)?.execute(text, &[])
-}
-
-fn has_opening(rows: &[Row]) -> Result<bool, Error> {
-    match rows {
-        [entries, object] => Ok(
-            has(entries, "opening entries 0 actions 0")?
-                && has(object, "opening o0 atomic_array[int] 0[]")?,
-        ),
+        [begin, rest, commit] => Ok(has(begin, BEGIN)? && has(rest, REST)? && has(commit, COMMIT)?),
         _ => Ok(false),
     }
 }
@@ -108,31 +137,59 @@ fn has(row: &Row, lines: &str) -> Result<bool, Error> {
     Ok(kept.as_str() == lines)
 }
 
-// Whether an opening takes the place of both, if it stands before the log's end, and a batch comes behind it.
+// Whether the first batch doesn't follow from an opening that is put in later, its lines out of their order.
+fn is_broken<S: Alter + Drop>(alloc: Global, mut conn: Connection<S>) -> Result<bool, Error> {
+    let text = "INSERT INTO opening VALUES (1, 'opening o0 atomic_array[int] 0[]'), \
+        (0, 'opening entries 0 actions 0')";
+    let is_put = conn.execute(text, &[])? == 2;
+    let mut store = Store::over(conn);
+    let is_opened = has_opening(store.opening()?.as_slice())?;
+    let (table, row, fault) = (Table::Batch, 0, RowFault::Sum);
+    match text_of(alloc, &mut store)? {
+        Ok(_) => Ok(false),
+        Err(error) => Ok(is_put
+            && is_opened
+            && error == ListingError::Row(FaultyRow { table, row, fault })),
+    }
+}
+
+fn has_opening(rows: &[Row]) -> Result<bool, Error> {
+    match rows {
+        [entries, object] => Ok(has(entries, "opening entries 0 actions 0")?
+            && has(object, "opening o0 atomic_array[int] 0[]")?),
+        _ => Ok(false),
+    }
+}
+
+// The store, if it has all batches, and an opening takes the place of all rows.
+fn folded<S: Alter + Drop>(
+    alloc: Global,
+    mut store: Store<S>,
+) -> Result<Option<Store<S>>, Error> {
+    let wanted =
+        b"opening entries 5 actions 3\nopening o0 atomic_array[int] 0[]\n5 commit a2 -> done\n";
+    let is_whole = has_all(store.batches()?.as_slice())?;
+    Ok(if is_whole && is_folded(&mut store)? && lists(alloc, &mut store, wanted)? {
+        Some(store)
+    } else {
+        None
+    })
+}
+
+// Whether an opening is taken if it stands before the log's end, and a batch comes behind it.
 fn is_folded<S: Alter>(store: &mut Store<S>) -> Result<bool, Error> {
     let Some(end) = store.end(NAME)? else {
         return Ok(false);
     };
+    let other = "opening entries 2 actions 1";
     let is_refused = store.fold(NAME, End::of_new(NAME), OPENING)?.is_none()
-        && store
-            .fold(NAME, end, "opening entries 2 actions 1")?
-            .is_none();
+        && store.fold(NAME, end, other)?.is_none();
     let Some(after) = store.fold(NAME, end, OPENING)? else {
         return Ok(false);
     };
     let is_alone = store.batches()?.is_empty() && ends_at(store, Some(after))?;
-    let last = store.append(NAME, after, "3 commit a1 -> done")?;
-    Ok(is_refused && is_alone && after.next == 3 && last.is_some())
-}
-
-// Whether the listing is the opening and the batch behind it.
-fn is_fold<S: Alter>(alloc: Global, store: &mut Store<S>) -> Result<bool, Error> {
-    let wanted =
-        b"opening entries 3 actions 2\nopening o0 atomic_array[int] 0[]\n3 commit a1 -> done\n";
-    match text_of(alloc, store)? {
-        Ok(text) => Ok(text.as_slice() == wanted.as_slice()),
-        Err(_) => Ok(false),
-    }
+    let last = store.append(NAME, after, "5 commit a2 -> done")?;
+    Ok(is_refused && is_alone && after.next == 5 && last.is_some())
 }
 
 fn end<D: Disk + Drop>(made: Option<Store<FileStore<D>>>) -> bool {
@@ -145,56 +202,27 @@ fn end<D: Disk + Drop>(made: Option<Store<FileStore<D>>>) -> bool {
     }
 }
 
-fn make(rt: &HostRuntime, path: &str) -> Result<bool, Error> {
-    Ok(end(filled(Connection::open(rt, path)?)?))
+fn begin(rt: &HostRuntime, heap: Heap) -> Result<bool, KeepError> {
+    Ok(end(begun(rt.alloc(), heap, Connection::open(rt, FILE)?)?))
 }
 
-fn open(rt: &HostRuntime, path: &str) -> Result<bool, Error> {
-    Ok(end(kept(rt.alloc(), Store::open(rt, path, Unknown)?)?))
+fn put_in(rt: &HostRuntime) -> Result<bool, Error> {
+    is_broken(rt.alloc(), Connection::open(rt, FILE)?)
 }
 
-// Whether the log is listed before it has an opening.
-fn list(rt: &HostRuntime, path: &str) -> Result<bool, Error> {
-    is_listed(rt.alloc(), &mut Store::over(Connection::open(rt, path)?))
-}
-
-fn fold(rt: &HostRuntime, path: &str) -> Result<bool, Error> {
-    is_folded(&mut Store::over(Connection::open(rt, path)?))
-}
-
-fn open_fold(rt: &HostRuntime, path: &str) -> Result<bool, Error> {
-    is_fold(rt.alloc(), &mut Store::open(rt, path, Unknown)?)
-}
-
-// The store, if it has both.
-fn kept<S: Alter + Drop>(alloc: Global, mut store: Store<S>) -> Result<Option<Store<S>>, Error> {
-    let is_same = has_both(store.batches()?.as_slice())?;
-    let is_opened = has_opening(store.opening()?.as_slice())? && is_broken(alloc, &mut store)?;
-    Ok(if is_same && is_opened {
-        Some(store)
-    } else {
-        None
-    })
+fn fold(rt: &HostRuntime) -> Result<bool, Error> {
+    Ok(end(folded(rt.alloc(), Store::open(rt, FILE, Unknown)?)?))
 }
 
 #[test]
 fn over_a_file(rt: HostRuntime) -> Result<(), Fail> {
     appends_are_listed();
-    let _ = fs::remove_file(&rt, "argus_store_test.db");
-    assert!(rt; make(&rt, "argus_store_test.db")?);
-    assert!(rt; list(&rt, "argus_store_test.db")?);
-    assert!(rt; put_opening(&rt, "argus_store_test.db")? == 2);
-    assert!(rt; open(&rt, "argus_store_test.db")?);
-    fs::remove_file(&rt, "argus_store_test.db")?;
-    Ok(())
-}
-
-#[test]
-fn folded_over_a_file(rt: HostRuntime) -> Result<(), Fail> {
-    let _ = fs::remove_file(&rt, "argus_fold_test.db");
-    assert!(rt; make(&rt, "argus_fold_test.db")?);
-    assert!(rt; fold(&rt, "argus_fold_test.db")?);
-    assert!(rt; open_fold(&rt, "argus_fold_test.db")?);
-    fs::remove_file(&rt, "argus_fold_test.db")?;
+    kept_is_resumed();
+    let heap = Heap::new(rt.alloc())?;
+    let _ = fs::remove_file(&rt, FILE);
+    assert!(rt; begin(&rt, heap)?);
+    assert!(rt; put_in(&rt)?);
+    assert!(rt; fold(&rt)?);
+    fs::remove_file(&rt, FILE)?;
     Ok(())
 }
