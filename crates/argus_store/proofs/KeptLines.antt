@@ -5,11 +5,11 @@ use Rattle.std.proofs.Common.{Ok, Err, OnErr, OnOk, subst}
 use Rattle.std.proofs.lemmas.Option.{slice_get_cases}
 use Rattle.std.proofs.lemmas.List.{length-reverse, reverse-append}
 use Rattle.std.proofs.Math.Seq.{drop-append_seam}
-use Rattle.std.specs.Prelude.{codes, slice_get}
+use Rattle.std.specs.Prelude.{slice_get}
 use Rattle.std.specs.declared.result.Result.{Result}
 use Rattle.sqlite.specs.{Held.{Held, state}, Store.Ghosts}
 use Rattle.argus_journal.specs.{Call.PlainCall, Entry.PlainEntry, EntrySpelling.entry_line, Journal.entry_at}
-use Rattle.argus_journal.specs.{Folding.next_entry_number, JournalView.{after, entry_of, next_entry}}
+use Rattle.argus_journal.specs.{Folding.next_entry_number, JournalView.{after, entry_of}}
 use Rattle.argus_journal.specs.Opening.{Opening}
 use Rattle.argus_guardian.specs.{JournalText.journal_text, Listing.{each_from, entries_text, opening_text}}
 use Rattle.argus_store.specs.{Chain.{ended, listing_of}, Journal.Journal, Store.{HasLog, Leaves, LeavesEither}}
@@ -22,7 +22,7 @@ each_from_append : {A : Type 0} (f : ℕ → A → List ℕ) (n : ℕ) (xs ys : 
 each_from_append f n [] ys = ap (λ m. each_from f m ys) (omega arith)
 each_from_append f n (x ∷ xs) ys =
     ap (λ t. f n x ++ t) (each_from_append f (n + 1) xs ys
-        ∙ ap (λ m. each_from f (n + 1) xs ++ each_from f m ys) (omega arith))
+    ∙ ap (λ m. each_from f (n + 1) xs ++ each_from f m ys) (omega arith))
     ∙ sym (append_assoc (f n x) (each_from f (n + 1) xs) (each_from f (n + length (x ∷ xs)) ys))
 
 -- the line of one entry, and those of the entries behind it
@@ -40,7 +40,7 @@ next_line s es at from below =
           let past : nat_lt at s.first_entry ≡ false = grind (arith, from) in
           let found : entry_at s es at ≡ Some here.0 = ap (λ b. cond b None (slice_get all i)) past ∙ here.2 in
           ap (each_from entry_line at) cut ∙ ap (λ e. line_of at e ++ each_from entry_line (at + 1)
-              (drop ((at + 1) - s.first_entry) all)) (sym found)
+          (drop ((at + 1) - s.first_entry) all)) (sym found)
       | inr past ↦ absurd (omega (arith, past.0, below, length-reverse es))
     ]
 
@@ -61,8 +61,8 @@ module _ (s : Opening) (has since : List PlainEntry) where
       let at : s.first_entry + length (reverse has) ≡ next_entry_number s has = omega (arith, length-reverse has) in
       append_assoc (opening_text s) (entries_text s has) _
       ∙ ap (λ t. opening_text s ++ t) (sym (ap (each_from entry_line s.first_entry) (reverse-append since has)
-          ∙ each_from_append entry_line s.first_entry (reverse has) (reverse since)
-          ∙ ap (λ n. entries_text s has ++ each_from entry_line n (reverse since)) at))
+      ∙ each_from_append entry_line s.first_entry (reverse has) (reverse since)
+      ∙ ap (λ n. entries_text s has ++ each_from entry_line n (reverse since)) at))
 
 module _ {S : Type 0} (g : Ghosts S) (old : KeptState S) (j : Journal) (kept : IsKept g old j) where
   starts : old.journal.opening.first_entry ≤ old.end.next
@@ -76,7 +76,7 @@ module _ {S : Type 0} (g : Ghosts S) (old : KeptState S) (j : Journal) (kept : I
         let behind : ended lines ≡ line (next_entry_number s kept.has) (reverse kept.since) =
         since.are ∙ ap (λ n. line n (drop (n - s.first_entry) (reverse old.journal.entries))) kept.next
         ∙ ap (λ es. line (next_entry_number s kept.has) (drop (next_entry_number s kept.has - s.first_entry)
-            (reverse es))) kept.all
+        (reverse es))) kept.all
         ∙ ap (line (next_entry_number s kept.has)) (left s kept.has kept.since) in
         listed_then j old.name old.end lines kept.chained kept.ends ∙ ap (λ t. listing_of j ++ t) behind
         ∙ ap (λ t. t ++ line (next_entry_number s kept.has) (reverse kept.since)) kept.listed
@@ -111,8 +111,12 @@ module _ {S : Type 0} (g : Ghosts S) (old seen : KeptState S) (j : Journal) (is 
   front_left leaves end db left =
       elim ((subst (λ k. LeavesEither (state g store) j (with_lines j k.name k.end lines)) is leaves) db left) [
         | inl before ↦ inl before
-        | inr after ↦ inr (lines, listed g old j was lines are
-            ∙ ap (λ (k : KeptState S). journal_text k.journal) (sym is), after)
+        | inr after ↦ inr (
+          lines,
+          listed g old j was lines are
+              ∙ ap (λ (k : KeptState S). journal_text k.journal) (sym is),
+          after,
+        )
       ]
 
   pub acknowledged : (end : End) → end ≡ end_after seen.name seen.end lines

@@ -75,7 +75,11 @@ impl<S: Alter> Kept<S> {
     where
         S: Drop,
         ensures over { IfSome result (λ kept. kept ≡ record {
-            journal = guardian; store = store; name = string_bytes name; end = end }) }
+          journal = guardian;
+          store = store;
+          name = string_bytes name;
+          end = end;
+        }) }
         ensures kept { (j : Journal) → HasLog (state S.Store store) j → IsChained j
             → EndsAt j (string_bytes name) end → listing_of j ≡ journal_text guardian
             → IfSome result (λ kept. HasAll S.Store kept j) }
@@ -166,7 +170,10 @@ impl<S: Alter> Kept<S> {
             → HasCleanDisk (state S.Store self.new.store) → LeavesFront S.Store self.old self.new j }
     {
         let lines = self.lines_since()?;
-        match self.store.append(self.name.as_str(), self.end, lines.as_str())? {
+        match self
+            .store
+            .append(self.name.as_str(), self.end, lines.as_str())?
+        {
             Some(end) => {
                 self.end = end;
                 Ok(())

@@ -5,8 +5,9 @@ use argus_actions::ActionId;
 use argus_guardian::{ResumedGuardian, Resuming};
 use argus_journal::{Call, Reply};
 use argus_store::laws::{appends_are_listed, kept_is_resumed};
-use argus_store::{End, FaultyRow, KeepError, Kept, ListingError, RowFault, RowLine};
-use argus_store::{Store, Table, listing_text};
+use argus_store::{
+    End, FaultyRow, KeepError, Kept, ListingError, RowFault, RowLine, Store, Table, listing_text,
+};
 use argus_values::{Answer, Heap};
 use sqlite::{Alter, Connection, Error, FileStore, Row, Unknown};
 use sqlite_disk::Disk;
@@ -147,25 +148,24 @@ fn is_broken<S: Alter + Drop>(alloc: Global, mut conn: Connection<S>) -> Result<
     let (table, row, fault) = (Table::Batch, 0, RowFault::Sum);
     match text_of(alloc, &mut store)? {
         Ok(_) => Ok(false),
-        Err(error) => Ok(is_put
-            && is_opened
-            && error == ListingError::Row(FaultyRow { table, row, fault })),
+        Err(error) => Ok(
+            is_put && is_opened && error == ListingError::Row(FaultyRow { table, row, fault }),
+        ),
     }
 }
 
 fn has_opening(rows: &[Row]) -> Result<bool, Error> {
     match rows {
-        [entries, object] => Ok(has(entries, "opening entries 0 actions 0")?
-            && has(object, "opening o0 atomic_array[int] 0[]")?),
+        [entries, object] => Ok(
+            has(entries, "opening entries 0 actions 0")?
+                && has(object, "opening o0 atomic_array[int] 0[]")?,
+        ),
         _ => Ok(false),
     }
 }
 
 // The store, if it has all batches, and an opening takes the place of all rows.
-fn folded<S: Alter + Drop>(
-    alloc: Global,
-    mut store: Store<S>,
-) -> Result<Option<Store<S>>, Error> {
+fn folded<S: Alter + Drop>(alloc: Global, mut store: Store<S>) -> Result<Option<Store<S>>, Error> {
     let wanted =
         b"opening entries 5 actions 3\nopening o0 atomic_array[int] 0[]\n5 commit a2 -> done\n";
     let is_whole = has_all(store.batches()?.as_slice())?;
