@@ -108,7 +108,9 @@ fn resumed<S: Alter + Drop>(
         return Ok(None);
     };
     let mut name = String::new(heap.room());
-    name.push_str(NAME)?;
+    if name.push_str(NAME).is_err() {
+        return Ok(None);
+    }
     Ok(Kept::over(heap, guardian, store, name, head.end))
 }
 
