@@ -394,7 +394,7 @@ def print_list(edits):
 def main():
     options = argparse.ArgumentParser(description=__doc__.split("\n")[0])
     options.add_argument("--jobs", type=int, default=len(os.sched_getaffinity(0)))
-    options.add_argument("--each", type=int, default=6)
+    options.add_argument("--each", type=int, default=8)
     options.add_argument("--beside", type=Path, nargs=2, metavar=("LOG", "ENDED"))
     options.add_argument("--list", action="store_true")
     options.add_argument("names", nargs="*")
