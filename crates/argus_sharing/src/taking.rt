@@ -10,9 +10,9 @@ use std::sync::{MutexGuard, Wait};
 // How often a thread tries to take the mutex before it sleeps. It pauses before each try, first so
 // many times, then twice as often each time up to the most: tries close together would take the
 // cache line away from the thread that holds the mutex, which then gets less done.
-const TRIES: u32 = 16;
+const TRIES: u32 = 14;
 
-const FIRST_PAUSES: u32 = 16;
+const FIRST_PAUSES: u32 = 256;
 
 const MOST_PAUSES: u32 = 4096;
 
