@@ -21,7 +21,7 @@ packages=(
     # networks of the hosts' own, in which they are unplugged
     iproute2
     # the crates that hosts/rust is built of with its feature sqlite, and the system's SQLite
-    librust-rusqlite-dev librust-crc32fast-dev sqlite3
+    librust-rusqlite-dev librust-crc32fast-dev librust-thiserror-dev sqlite3
     # those of hosts/rust/etcd
     librust-base64-dev librust-curl-dev librust-serde-json-dev "librust-serde+serde-derive-dev"
     # those of hosts/rust/host beside these

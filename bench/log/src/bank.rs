@@ -1,10 +1,11 @@
 //! The bank's orders, carried out by many clients.
 
-use crate::act::Act;
 use crate::figures::Figures;
 use crate::orders::{BALANCE, Order};
 use argus_guardian::log::{LogOptions, Logged, LoggedError};
-use argus_guardian::{CheckpointError, Content, Guardian, ObjId, Shared};
+use argus_guardian::{
+    Access, CheckpointError, Content, Guardian, ObjId, Shared, SharedAction, Sharer,
+};
 use std::path::{Path, PathBuf};
 use std::str::FromStr;
 use std::sync::Mutex;
@@ -49,23 +50,24 @@ impl FromStr for Way {
     }
 }
 
-/// Carries out an order, and waits for it in that way. False: it was cancelled.
-pub fn carry_out<A: Act>(
-    top: A,
+/// Carries out an order, with a log or without, and waits for it in that way. False: it was cancelled.
+pub fn carry_out<'s, S: Sharer>(
+    top: SharedAction<'s, S>,
     order: &Order,
-    commit: impl FnOnce(A) -> Result<(), LoggedError>,
-) -> Result<bool, LoggedError> {
+    commit: impl FnOnce(SharedAction<'s, S>) -> Result<(), S::Error>,
+) -> Result<bool, S::Error> {
     for account in order.accounts() {
-        top.lock(account)?;
+        top.lock(ObjId::numbered(account))?;
     }
     for transfer in &order.transfers {
-        let sub = top.sub()?;
-        sub.set_balance(transfer.to, sub.balance(transfer.to)? + transfer.amount)?;
-        let here = sub.balance(transfer.from)?;
+        let (from, to) = (ObjId::numbered(transfer.from), ObjId::numbered(transfer.to));
+        let sub = top.subaction()?;
+        sub.set(to, 0, sub.get::<i64>(to, 0)? + transfer.amount)?;
+        let here: i64 = sub.get(from, 0)?;
         if here < transfer.amount {
             sub.abort()?;
         } else {
-            sub.set_balance(transfer.from, here - transfer.amount)?;
+            sub.set(from, 0, here - transfer.amount)?;
             sub.commit()?;
         }
     }
@@ -115,8 +117,8 @@ pub fn set_up(logged: &Logged) -> Result<(), LoggedError> {
 }
 
 /// Creates the accounts.
-fn create<A: Act>(top: A) -> Result<(), LoggedError> {
-    (0..ACCOUNTS).try_for_each(|account| top.create(account, BALANCE))?;
+fn create<S: Sharer>(top: SharedAction<'_, S>) -> Result<(), S::Error> {
+    (0..ACCOUNTS).try_for_each(|account| top.create(ObjId::numbered(account), (BALANCE,)))?;
     top.commit()
 }
 
@@ -137,7 +139,10 @@ pub fn run(
 fn run_in_memory(clients: u32, time: Duration) -> Result<Figures, Box<dyn error::Error>> {
     let shared = Shared::new(with_accounts()?, PATIENCE);
     create(shared.topaction()?)?;
-    let order = |order: &Order| carry_out(shared.topaction()?, order, Act::commit);
+    let order = |order: &Order| {
+        let carried_out = carry_out(shared.topaction()?, order, SharedAction::commit);
+        carried_out.map_err(LoggedError::from)
+    };
     let fold = || {
         let folded = shared.checkpoint_waiting(PATIENCE);
         ignore_busy(folded.map_err(LoggedError::from))

@@ -8,7 +8,6 @@
 //! `bench/log.sh` runs it, beside the same orders in `SQLite` and over etcd. The folder is one that isn't there yet,
 //! on the disk that is to be measured; that of `read` is one that `write` has made.
 
-mod act;
 mod bank;
 mod figures;
 #[path = "../../../hosts/rust/tests/log/orders.rs"]

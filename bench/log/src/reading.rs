@@ -1,10 +1,9 @@
 //! What it takes to read a log, to make its guardian again, and how long a log is.
 
-use crate::act::Act;
 use crate::bank::{ACCOUNTS, carry_out, database_in, logged_in, options};
 use crate::orders::Order;
 use argus_guardian::Listing;
-use argus_guardian::log::LoggedError;
+use argus_guardian::log::{LoggedAction, LoggedError};
 use std::error::Error;
 use std::fs;
 use std::path::Path;
@@ -64,7 +63,7 @@ pub fn write(folder: &Path, entries: u64) -> Result<(), Box<dyn Error>> {
         let mut orders = (0..).map(|number| Order::drawn(client, number, ACCOUNTS));
         while logged.entries() < entries {
             let order = orders.next().expect("without end");
-            carry_out(logged.topaction()?, &order, Act::commit)?;
+            carry_out(logged.topaction()?, &order, LoggedAction::commit)?;
         }
         Ok(())
     };

@@ -3,7 +3,7 @@
 use crate::bank::{self, PATIENCE, database_in};
 use crate::reading::timed;
 use argus_guardian::Listing;
-use argus_guardian::log::{BatchLog, EntryLines};
+use argus_guardian::log::{BatchLog, JournalLines};
 use argus_guardian_etcd::{Campaign, EtcdLog, EtcdOptions, Follower};
 use std::error::Error;
 use std::path::Path;
@@ -24,7 +24,7 @@ pub fn copy(options: &EtcdOptions, folder: &str) -> Result<(), Box<dyn Error>> {
         }
     }
     for text in texts {
-        let lines = EntryLines::new(log.next(), text).ok_or("no whole lines")?;
+        let lines = JournalLines::new(log.next(), text).ok_or("no whole lines")?;
         log.append(&lines)?;
     }
     leadership.resign();

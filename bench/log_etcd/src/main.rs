@@ -8,9 +8,6 @@
 //! that of `read` is one to which `copy` has copied a log in a database.
 
 #[allow(dead_code, reason = "a log in a database needs more of it")]
-#[path = "../../log/src/act.rs"]
-mod act;
-#[allow(dead_code, reason = "a log in a database needs more of it")]
 #[path = "../../log/src/bank.rs"]
 mod bank;
 mod copying;

@@ -4,14 +4,13 @@
 //!
 //! The folder is as it was. A last batch that is torn isn't taken, and it is said where.
 
-use argus_guardian::log::{BatchLog, EntryLines, LogOptions, Opening, SqliteLog};
+use argus_guardian::log::{BatchLog, JournalLines, LogOptions, SqliteLog};
 use std::error::Error;
 use std::path::{Path, PathBuf};
 use std::{env, fs};
 
 /// A batch of the files.
 struct Batch<'b> {
-    is_opening: bool,
     first: u64,
     lines: &'b str,
 }
@@ -26,8 +25,7 @@ fn word<'l>(line: &'l str, name: &str) -> Option<&'l str> {
 fn next_batch(rest: &[u8]) -> Option<(Batch<'_>, &[u8])> {
     let end = rest.iter().position(|it| *it == b'\n')?;
     let head = std::str::from_utf8(&rest[..end]).ok()?;
-    let is_opening = head.starts_with("#opening ");
-    if !is_opening && !head.starts_with("#batch ") {
+    if !head.starts_with("#opening ") && !head.starts_with("#batch ") {
         // The segment's first line, a seal, or the last line of a full segment.
         return head
             .starts_with('#')
@@ -37,7 +35,6 @@ fn next_batch(rest: &[u8]) -> Option<(Batch<'_>, &[u8])> {
     let body = rest.get(end + 1..end + 1 + size)?;
     let sum = u32::from_str_radix(word(head, "body")?, 16).ok()?;
     let batch = Batch {
-        is_opening,
         first: word(head, "first")?.parse().ok()?,
         lines: std::str::from_utf8(body).ok()?,
     };
@@ -48,12 +45,8 @@ fn copy(segment: &Path, log: &mut SqliteLog) -> Result<(), Box<dyn Error>> {
     let content = fs::read(segment)?;
     let mut rest = &content[..];
     while let Some((batch, behind)) = next_batch(rest) {
-        let lines = batch.lines.to_owned();
-        if batch.is_opening {
-            log.restart(&Opening::new(batch.first, lines).ok_or("no whole lines")?)?;
-        } else {
-            log.append(&EntryLines::new(batch.first, lines).ok_or("no whole lines")?)?;
-        }
+        let lines = JournalLines::new(batch.first, batch.lines.to_owned());
+        log.append(&lines.ok_or("no whole lines")?)?;
         rest = behind;
     }
     // Behind the last batch there are its seal, and zeros.

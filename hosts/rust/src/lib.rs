@@ -81,7 +81,7 @@ pub use reply::{Answer, Refusal, Reply, Signal};
 pub use resumption::{LineError, LineFault, RestoredGuardian, Resumption, TakenEnd, TakenLines};
 pub use shape::ShapeFault;
 pub use shared::Shared;
-pub use shared::action::SharedAction;
+pub use shared::action::{SharedAction, Sharer};
 pub use shared::circles::Deadlock;
 pub use shared::retry::{MayConflict, is_conflict};
 pub use value::{Content, Value};

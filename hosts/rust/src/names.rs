@@ -56,14 +56,7 @@ impl Guardian {
     pub fn named(&self, name: &str, shape: impl AsRef<str>) -> Result<Object, Error> {
         let shape = shape.as_ref();
         if let Some(object) = self.find_named(name)? {
-            return if object.shape() == shape {
-                Ok(object)
-            } else {
-                Err(Error::OtherShape {
-                    object: name.into(),
-                    shape: object.shape().into(),
-                })
-            };
+            return object.with_shape(shape);
         }
         let object = self.object(self.declare(shape)?)?.called(name);
         let mut names = self.names.take().unwrap_or_default();

@@ -51,6 +51,17 @@ impl Object {
         }
     }
 
+    /// The same, if it has this shape.
+    pub(crate) fn with_shape(self, shape: &str) -> Result<Object, Error> {
+        if self.shape() == shape {
+            return Ok(self);
+        }
+        Err(Error::OtherShape {
+            object: self.to_string().into(),
+            shape: self.shape().into(),
+        })
+    }
+
     /// Its number.
     ///
     /// ```

@@ -171,27 +171,21 @@ impl Shared {
     }
 
     // Ends an action. If that is a subaction, its topaction is named. After an outermost one the journal is folded, if
-    // that is due.
-    pub(crate) fn end(
+    // that is due. Returns what this function says of the guardian before that.
+    pub(crate) fn end<T>(
         &self,
         call: &Call,
         topaction: Option<ActionId>,
         is_outermost: bool,
-    ) -> Result<(), Error> {
+        what: impl FnOnce(&Guardian) -> T,
+    ) -> Result<T, Error> {
         let mut state = self.lock();
         state.end(call, topaction)?;
+        let said = what(&state.guardian);
         if is_outermost {
             self.fold_ended(call, state);
         }
-        Ok(())
-    }
-
-    // The same, with how many entries the journal has had up to this call.
-    #[cfg(all(feature = "logged", unix))]
-    pub(crate) fn call_counted(&self, call: &Call) -> Result<(Reply, u64), Error> {
-        let mut state = self.lock();
-        let reply = state.call(call)?;
-        Ok((reply, state.guardian.entries()))
+        Ok(said)
     }
 
     /// Makes a call that may wait: while it is refused with `Conflict`, it waits until its lock is
@@ -282,6 +276,10 @@ impl Shared {
     /// # Ok::<(), argus_guardian::Error>(())
     /// ```
     pub fn topaction(&self) -> Result<SharedAction<'_>, Error> {
+        Ok(SharedAction::of(self, self.begin_topaction()?))
+    }
+
+    pub(crate) fn begin_topaction(&self) -> Result<ActionId, Error> {
         let mut state = self.lock();
         if state.folding > 0 {
             let mut still = |state: &mut SharedState| state.folding > 0;
@@ -289,7 +287,7 @@ impl Shared {
         }
         let id = state.call(&Call::BeginTop)?.action()?;
         state.growth.begin();
-        Ok(SharedAction::of(self, id))
+        Ok(id)
     }
 
     // Lends the guardian for questions only: no thread is woken.

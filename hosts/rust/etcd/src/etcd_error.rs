@@ -8,7 +8,7 @@ use std::fmt;
 /// A request that etcd refuses writes nothing. But an earlier try of it whose answer was lost may have been carried
 /// out, and a long append is several requests: so an append that fails is in doubt, whatever the error.
 ///
-/// The [`Failure`](argus_guardian::log::Failure) of a log in etcd carries one: `failure.error().get_ref()` can be
+/// The [`Failure`](argus_guardian::log::Failure) of a log in etcd carries one: `failure.get_ref()` can be
 /// downcast to it.
 ///
 /// ```

@@ -14,7 +14,7 @@ use crate::parts::parts;
 use crate::position::Position;
 use crate::transaction::Transaction;
 use argus_guardian::LineError;
-use argus_guardian::log::{BatchLog, EntryLines, Failure, Opening};
+use argus_guardian::log::{BatchLog, Failure, JournalLines};
 use serde_json::json;
 use std::io;
 use std::sync::Arc;
@@ -35,7 +35,7 @@ const DELETED: u64 = 1000;
 /// [`Follower::lead`](crate::Follower::lead) makes a guardian over one. Without a guardian:
 ///
 /// ```no_run
-/// use argus_guardian::log::{BatchLog, EntryLines};
+/// use argus_guardian::log::{BatchLog, JournalLines};
 /// use argus_guardian_etcd::{Campaign, EtcdLog, EtcdOptions};
 /// let options = EtcdOptions::at(["http://127.0.0.1:2379"]);
 /// let leadership = Campaign::begin(&options, "host-1")?.wait()?;
@@ -44,7 +44,7 @@ const DELETED: u64 = 1000;
 ///     Ok(())
 /// })?;
 /// let lines = format!("{} begin_top -> a0\n", log.next());
-/// log.append(&EntryLines::new(log.next(), lines).expect("a whole line"))?; // Ok: etcd has it
+/// log.append(&JournalLines::new(log.next(), lines).expect("a whole line"))?; // Ok: etcd has it
 /// # Ok::<(), Box<dyn std::error::Error>>(())
 /// ```
 #[derive(Debug)]
@@ -305,7 +305,7 @@ impl EtcdLog {
     }
 
     // Puts the opening behind the log, and then lets the log begin there.
-    fn put_opening(&mut self, opening: &Opening) -> Result<(), EtcdError> {
+    fn put_opening(&mut self, opening: &JournalLines) -> Result<(), EtcdError> {
         let at = self.head;
         let (mut puts, mut sum) = (Vec::new(), 0);
         for (number, text) in (at.next..).zip(parts(&opening.text, self.client.options().batch)) {
@@ -352,16 +352,14 @@ impl EtcdLog {
 }
 
 impl BatchLog for EtcdLog {
-    fn append(&mut self, lines: &EntryLines) -> Result<(), Failure> {
+    fn append(&mut self, lines: &JournalLines) -> Result<(), Failure> {
         self.check_next(lines.first)?;
         let size = self.client.options().batch;
         self.unless_broken(|log| {
+            if lines.is_opening() {
+                return log.put_opening(lines);
+            }
             parts(&lines.text, size).try_for_each(|part| log.append_part(part))
         })
-    }
-
-    fn restart(&mut self, opening: &Opening) -> Result<(), Failure> {
-        self.check_next(opening.next)?;
-        self.unless_broken(|log| log.put_opening(opening))
     }
 }

@@ -229,8 +229,8 @@ impl Follower {
         let epoch = leadership.epoch();
         let guardian = takes.into_guardian().map_err(|_| Error::OutOfMemory)?;
         let log = EtcdLog::begin(client, leadership, head)?;
-        let (logged, aborted) = Logged::resumed(guardian, Box::new(log), patience)?;
-        let entry = position.entry;
+        let logged = Logged::over(guardian, Box::new(log), patience)?;
+        let (entry, aborted) = (position.entry, logged.counts().entries);
         Ok((
             logged,
             Takeover {

@@ -53,7 +53,7 @@ impl fmt::Display for LogError {
                 write!(f, ": {why}")
             }
             LogError::Guardian(error) => write!(f, "the guardian can't go on: {error}"),
-            LogError::Broken(failure) => write!(f, "{failure}"),
+            LogError::Broken(failure) => write!(f, "the log couldn't be written: {failure}"),
         }
     }
 }

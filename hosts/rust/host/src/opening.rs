@@ -68,7 +68,8 @@ fn open_etcd(
             format!("by the log's lines entry {lines} comes next, and by its head entry {head}");
         return Err(why.into());
     }
-    let (logged, aborted) = Logged::resumed(guardian, Box::new(log), Shared::PATIENCE)?;
+    let logged = Logged::over(guardian, Box::new(log), Shared::PATIENCE)?;
+    let aborted = logged.counts().entries;
     let opened = opened(logged, leadership.epoch(), entries, aborted);
     Ok(OpenGuardian {
         leadership: Some(leadership),

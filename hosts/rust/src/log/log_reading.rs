@@ -1,40 +1,27 @@
 //! Reads a log in a database, and changes nothing: what is wrong with it is named.
 
-use crate::guardian::Guardian;
-use crate::log::batch_log::{line_feeds, log_sum};
-use crate::log::error::LogFault::{
-    Locked, LogCut, LogOld, NoLog, NotALog, OtherFormat, OtherLog, OtherReply, PagesDamaged,
-    RowChanged, RowDoubled, RowMissing, RowSwapped, Unreadable, WalDamaged, WalMissing,
-};
-use crate::log::error::LoggedError;
-use crate::log::log_options::{LogFound, LogOptions};
-use crate::log::logged::Names;
-use crate::log::sqlite_log::{KEEPS_WAL, connected, resolved};
-use crate::{Error, LineError, ObjId, Resumption};
-use rusqlite::{Connection, OpenFlags, Row};
-use std::cmp::Ordering::{Equal, Greater, Less};
+use crate::log::sqlite_log::{APPLICATION, FORMAT, KEEPS_WAL};
+use crate::log::{LogFault as Fault, LogFound, LogOptions, LoggedError, Result, log_sum};
+use crate::{Error, Guardian, LineError, ObjId, Object, Resumption};
+use rusqlite::{Connection, Error as Sql, ErrorCode as Code, OpenFlags};
+use std::collections::HashMap;
 use std::fs;
-use std::num::Wrapping;
+use std::io::ErrorKind;
 use std::path::{Path, PathBuf};
-use std::time::Duration;
 
-/// "ARGU" in ASCII.
-pub(crate) const APPLICATION: i64 = 0x4152_4755;
-/// The number of the format.
-pub(crate) const FORMAT: i64 = 1;
-
-/// The connections to a log that was read, and to the second database, which has the lock; and its row of `log`.
-pub(crate) type Connected = ([Connection; 2], Head);
-/// A log that was read, and what it has.
-pub(crate) type ReadLog = (Connected, Guardian, Names, LogFound);
+/// The end of a log: who writes, as an epoch; the next entry; and the chain's last sum.
+pub(crate) type End = (u64, u64, u32);
+/// The objects by their names.
+pub(crate) type Named = HashMap<String, Object>;
+/// A log that was read: the connections to it, and to the second database, which has the lock; and what it has.
+pub(crate) type ReadLog = ([Connection; 2], Head, Guardian, Named, LogFound);
 
 /// The row of `log`.
 #[derive(Debug)]
 pub(crate) struct Head {
     pub(crate) name: String,
     is_open: bool,
-    /// Who writes, as an epoch; the next entry; and the chain's last sum.
-    pub(crate) end: (u64, u64, u32),
+    pub(crate) end: End,
 }
 
 /// The file beside this one whose name has this suffix, too.
@@ -44,85 +31,108 @@ pub(crate) fn beside(path: &Path, suffix: &str) -> PathBuf {
     name.into()
 }
 
+impl Fault {
+    /// The error that says this in words.
+    pub(crate) fn says(self, words: impl Into<String>) -> LoggedError {
+        LoggedError::Database(self, words.into())
+    }
+
+    pub(crate) fn unless(self, holds: bool, words: impl Into<String>) -> Result<()> {
+        if holds { Ok(()) } else { Err(self.says(words)) }
+    }
+}
+
+impl From<rusqlite::Error> for LoggedError {
+    fn from(error: rusqlite::Error) -> LoggedError {
+        let words = error.to_string();
+        let is_damage = words.contains("malformed") || words.starts_with("no such ");
+        let fault = match (error.sqlite_error_code(), error) {
+            (Some(Code::OutOfMemory), _) => return Error::OutOfMemory.into(),
+            (Some(Code::DatabaseBusy | Code::DatabaseLocked), _) => {
+                let who = "another process has the log, or another part of this one";
+                return Fault::Locked.says(format!("{who}: {words}"));
+            }
+            (Some(Code::NotADatabase), _) => Fault::NotALog,
+            (Some(Code::DatabaseCorrupt), _) => Fault::PagesDamaged,
+            _ if is_damage => Fault::PagesDamaged,
+            (None, Sql::QueryReturnedNoRows) => Fault::RowMissing,
+            (Some(_), _) | (None, Sql::InvalidPath(_) | Sql::NulError(_)) => Fault::Unreadable,
+            // What a row has is converted outside SQLite.
+            (None, _) => Fault::RowChanged,
+        };
+        fault.says(words)
+    }
+}
+
 // Locks a second database, which the process has until it ends.
-fn lock(path: &Path) -> Result<Connection, LoggedError> {
-    let (is_there, shown) = (path.exists(), path.display());
-    NoLog.unless(is_there, format!("no log is there: {shown}"))?;
+fn lock(path: &Path) -> Result<Connection> {
     // A pipe would have SQLite wait.
     let files = ["", "-wal", "-journal", "-owner"].map(|it| beside(path, it));
     for file in &files {
-        let is_other = fs::metadata(file).is_ok_and(|it| !it.is_file());
-        NotALog.unless(!is_other, format!("it isn't a file: {}", file.display()))?;
+        let words = format!("it isn't a file: {}", file.display());
+        Fault::NotALog.unless(file.is_file() || !file.exists(), words)?;
     }
-    let how = OpenFlags::SQLITE_OPEN_READ_WRITE | OpenFlags::SQLITE_OPEN_CREATE;
-    let owner = connected(&files[3], how)?;
-    owner.busy_timeout(Duration::ZERO)?;
+    let owner = Connection::open(&files[3])?;
     // Nothing is ever written there.
-    let locked = owner.execute_batch("PRAGMA journal_mode=OFF; BEGIN EXCLUSIVE");
-    let who = "another process has the log, or another part of this one";
-    locked.map_err(|error| match error.into() {
-        LoggedError::Database(Locked, _) => Locked.says(format!("{who}: {shown}")),
-        other => other,
-    })?;
+    let lock = "PRAGMA busy_timeout=0; PRAGMA journal_mode=OFF; BEGIN EXCLUSIVE";
+    owner.execute_batch(lock)?;
     Ok(owner)
 }
 
 /// Locks a log and reads it, and changes nothing.
-pub(crate) fn read_log(path: &Path, wanted: &LogOptions) -> Result<ReadLog, LoggedError> {
-    let path = resolved(path)?;
+pub(crate) fn read_log(path: &Path, wanted: &LogOptions) -> Result<ReadLog> {
+    // The file itself: SQLite puts the WAL beside that, where the path is a link to it.
+    let path = path.canonicalize().map_err(|error| match error.kind() {
+        ErrorKind::NotFound => Fault::NoLog.says(format!("no log is there: {}", path.display())),
+        _ => Fault::Unreadable.says(format!("{}: {error}", path.display())),
+    })?;
     let owner = lock(&path)?;
     // SQLite rolls back what was broken off without a WAL, and leaves a WAL where it is.
-    let database = connected(&path, OpenFlags::SQLITE_OPEN_READ_WRITE)?;
+    let database = Connection::open_with_flags(&path, OpenFlags::SQLITE_OPEN_READ_WRITE)?;
     database.set_db_config(KEEPS_WAL, true)?;
     database.execute_batch("BEGIN")?;
     let head = compared_head(&path, &database, wanted)?;
     let mut resumption = Resumption::new()?;
-    let (first, batches) = check_rows(&database, &head, |what, lines| {
+    check_rows(&database, &head, |what, lines| {
         let taken = resumption.take_whole([lines, b"\n"].concat());
-        taken.map_err(|it| not_taken(what, it))
+        taken.map_err(|error| not_taken(what, error))
     })?;
     let guardian = resumption.into_whole();
-    let guardian = guardian.map_err(|it| not_taken("the opening", it))?;
-    let (taken, (epoch, next, _)) = (guardian.entries(), head.end);
-    let words = format!("by the lines entry {taken} comes next, and by `log` entry {next}");
-    OtherReply.unless(taken == next, words)?;
-    let names = names_in(&database, &guardian)?;
-    database.execute_batch("COMMIT")?;
+    let guardian = guardian.map_err(|error| not_taken("the opening", error))?;
+    let named = named_in(&database, &guardian)?;
+    let batches = database.query_row("SELECT count(*) FROM batch", [], |row| row.get(0))?;
+    let (epoch, next, _) = head.end;
     let found = LogFound {
         path,
         name: head.name.clone(),
         batches,
-        entries: next - first,
+        entries: next - guardian.first_entry(),
         next,
         objects: guardian.objects(),
         epoch,
         aborted: 0,
     };
-    Ok((([database, owner], head), guardian, names, found))
+    database.execute_batch("COMMIT")?;
+    Ok(([database, owner], head, guardian, named, found))
 }
 
 fn not_taken(what: &str, error: LineError) -> LoggedError {
-    match error {
-        LineError::Fault { line, why } => {
-            OtherReply.says(format!("{what}, line {line} of it: {why}"))
-        }
-        LineError::OutOfMemory => Error::OutOfMemory.into(),
-    }
+    let LineError::Fault { line, why } = error else {
+        return Error::OutOfMemory.into();
+    };
+    Fault::OtherReply.says(format!("{what}, line {line} of it: {why}"))
 }
 
 // The row of `log`, if that is the one that is wanted, and the WAL is there, is sound, and belongs to the file.
-fn compared_head(
-    path: &Path,
-    database: &Connection,
-    wanted: &LogOptions,
-) -> Result<Head, LoggedError> {
+fn compared_head(path: &Path, database: &Connection, wanted: &LogOptions) -> Result<Head> {
     let (head, alone) = (head_of(database), head_alone(path));
     let is_open = alone.as_ref().is_some_and(|it| it.is_open);
     let wal = beside(path, "-wal");
-    if fs::metadata(&wal).is_ok_and(|it| it.len() >= HEADER as u64) {
+    // A WAL without its header is empty.
+    if fs::metadata(&wal).is_ok_and(|it| it.len() >= 32) {
         check_wal(&wal, alone.is_some() && !is_open)?;
     } else if is_open {
-        return Err(WalMissing.says(format!(
+        return Err(Fault::WalMissing.says(format!(
             "the log wasn't closed, and {} isn't there, or is empty: what it had is gone. If nothing was in it, since \
              sqlite3 has moved that, or this is a whole copy, `UPDATE log SET is_open = 0` says so",
             wal.display()
@@ -132,213 +142,160 @@ fn compared_head(
     let (name, (epoch, next, _), least) = (&head.name, head.end, wanted.at_least);
     let other = wanted.name.as_ref().unwrap_or(name);
     let words = format!("the log's name is {name}, and that of the one that is wanted {other}");
-    OtherLog.unless(other == name, words)?;
+    Fault::OtherLog.unless(other == name, words)?;
     let words = format!("the log has {next} entries, and had {least}: it is an older copy");
-    LogOld.unless(next >= least, words)?;
+    Fault::LogOld.unless(next >= least, words)?;
     if let Some((own, (begun, was, _))) = alone.map(|it| (it.name, it.end)) {
         let words = format!("the file is the log {own}, and the WAL beside it that of {name}");
-        OtherLog.unless(own == *name, words)?;
+        Fault::OtherLog.unless(own == *name, words)?;
         let words = format!("the file has {was} entries, and with its WAL {next}: that is older");
-        LogOld.unless((begun, was) <= (epoch, next), words)?;
+        Fault::LogOld.unless((begun, was) <= (epoch, next), words)?;
     }
     Ok(head)
 }
 
 // What the file says without its WAL; None if it can't be read so, as in the midst of a move.
 fn head_alone(path: &Path) -> Option<Head> {
-    let how = OpenFlags::SQLITE_OPEN_READ_ONLY | OpenFlags::SQLITE_OPEN_URI;
     let bytes = path.as_os_str().as_encoded_bytes().iter();
     let uri = bytes.fold("file:".to_owned(), |uri, it| format!("{uri}%{it:02x}"));
-    let database = connected(Path::new(&(uri + "?immutable=1")), how).ok()?;
+    let database = Connection::open(uri + "?mode=ro&immutable=1").ok()?;
     head_of(&database).ok().filter(|it| it.name.len() == 32)
 }
 
 // The objects that have names, each with the shape that it was declared with.
-fn names_in(database: &Connection, guardian: &Guardian) -> Result<Names, LoggedError> {
+fn named_in(database: &Connection, guardian: &Guardian) -> Result<Named> {
     let select = "SELECT name, number, shape FROM object WHERE name IS NOT NULL";
     let mut select = database.prepare(select)?;
     let rows = select.query_map([], |row| <(String, u32, String)>::try_from(row))?;
     rows.map(|row| {
         let (name, number, shape) = row?;
-        let is_there = number < guardian.objects();
-        let is_its = is_there && guardian.shape(ObjId::numbered(number))? == shape;
-        let which = format!("`{name}` is the name of object {number}");
-        RowChanged.unless(is_its, format!("{which}, which hasn't the shape {shape}"))?;
-        Ok((name, number))
+        let words = format!("`{name}` is the name of object {number}, which isn't {shape}");
+        Fault::RowChanged.unless(number < guardian.objects(), &words)?;
+        let object = guardian.object(ObjId::numbered(number))?.called(&name);
+        Fault::RowChanged.unless(object.shape() == shape, words)?;
+        Ok((name, object))
     })
     .collect()
 }
 
-// The row of `log`, if it is a log, in a format that is known.
-fn head_of(database: &Connection) -> Result<Head, LoggedError> {
-    let number = |pragma| database.pragma_query_value(None, pragma, |row| row.get::<_, i64>(0));
-    let is_log = number("application_id")? == APPLICATION;
-    NotALog.unless(is_log, "the file is no log of a guardian")?;
-    let format = number("user_version")?;
-    let words = format!("it has format {format}, which isn't known");
-    OtherFormat.unless(format == FORMAT, words)?;
+/// The row of `log`, if it is a log, in a format that is known.
+pub(crate) fn head_of(database: &Connection) -> Result<Head> {
+    let select = "SELECT * FROM pragma_application_id, pragma_user_version";
+    let (id, format): (i64, i64) = database.query_row(select, [], |it| it.try_into())?;
+    Fault::NotALog.unless(id == APPLICATION, "the file is no log of a guardian")?;
+    Fault::OtherFormat.unless(format == FORMAT, format!("format {format} isn't known"))?;
     let select = "SELECT name, is_open != 0, epoch, next_entry, sum FROM log";
     let (name, is_open, epoch, next, sum) = database.query_row(select, [], |it| it.try_into())?;
     let end = (epoch, next, sum);
     Ok(Head { name, is_open, end })
 }
 
-/// Compares the copy of a log.
-pub(crate) fn check_copy(database: &Connection) -> Result<(), LoggedError> {
-    check_rows(database, &head_of(database)?, |_, _| Ok(())).map(|_| ())
-}
-
-// Compares the pages, the opening and each batch, and has each taken then, as what it is, and its lines. Returns the
-// number of the first entry, and how many batches there are.
-fn check_rows(
+/// Compares the pages, the opening and each batch, and has each taken then, as what it is, and its lines.
+pub(crate) fn check_rows(
     database: &Connection,
     head: &Head,
-    mut take: impl FnMut(&str, &[u8]) -> Result<(), LoggedError>,
-) -> Result<(u64, u64), LoggedError> {
-    let check = "PRAGMA quick_check(1)";
-    let said: String = database.query_row(check, [], |row| row.get(0))?;
-    PagesDamaged.unless(said == "ok", format!("the database isn't sound: {said}"))?;
-    let opening = opening_of(database)?;
-    let begins = match opening.strip_prefix(b"opening entries ") {
-        None if opening.is_empty() => Some(0),
-        said => said.and_then(number_in),
-    };
-    let words = "line 0 of the opening doesn't say before which entry it stands";
-    let begins = begins.ok_or_else(|| RowChanged.says(words))?;
+    mut take: impl FnMut(&str, &[u8]) -> Result<()>,
+) -> Result<()> {
+    let said: String = database.pragma_query_value(None, "quick_check", |row| row.get(0))?;
+    Fault::PagesDamaged.unless(said == "ok", format!("the database isn't sound: {said}"))?;
+    let (opening, mut entry) = (opening_of(database)?, 0);
     if !opening.is_empty() {
+        let words = "line 0 of the opening doesn't say before which entry it stands";
+        let begins = number_after(b"opening entries ", &opening);
+        entry = begins.ok_or_else(|| Fault::RowChanged.says(words))?;
         take("the opening", &opening)?;
     }
-    let mut sum = log_sum(&head.name, begins, 0, &opening);
-    let (mut entry, mut batches) = (begins, 0);
-    let mut statement = database.prepare("SELECT first, lines, sum FROM batch ORDER BY first")?;
-    let mut rows = statement.query([])?;
-    while let Some(row) = rows.next()? {
-        let (first, lines) = (row.get(0)?, bytes_of(row, 1)?);
-        check_place(first, entry, lines)?;
+    let mut sum = log_sum(&head.name, entry, 0, &opening);
+    let select = "SELECT first, CAST(lines AS BLOB), sum FROM batch ORDER BY first";
+    let mut select = database.prepare(select)?;
+    for row in select.query_map([], |row| <(u64, Vec<u8>, u32)>::try_from(row))? {
+        let (first, lines, said) = row?;
+        check_place(first, entry, &lines)?;
         let what = format!("batch {first}");
-        sum = log_sum(&head.name, first, sum, lines);
+        sum = log_sum(&head.name, first, sum, &lines);
         let why = "hasn't the sum that it says: it was changed, or what is before it";
-        RowChanged.unless(row.get::<_, u32>(2)? == sum, format!("{what} {why}"))?;
-        take(&what, lines)?;
-        (entry, batches) = (entry + line_feeds(lines) + 1, batches + 1);
+        Fault::RowChanged.unless(said == sum, format!("{what} {why}"))?;
+        take(&what, &lines)?;
+        entry += lines.split(|it| *it == b'\n').count() as u64;
     }
-    check_end(head, entry, sum)?;
-    Ok((begins, batches))
-}
-
-fn bytes_of<'r>(row: &'r Row<'_>, column: usize) -> rusqlite::Result<&'r [u8]> {
-    Ok(row.get_ref(column)?.as_bytes()?)
+    let (_, next, last) = head.end;
+    let words = format!("the rows end before entry {entry}, and by `log` entry {next} comes next");
+    Fault::LogCut.unless(entry >= next, &words)?;
+    Fault::LogOld.unless(entry <= next, words)?;
+    let words = "`log` has another sum than the last batch or the opening: one was changed";
+    Fault::RowChanged.unless(sum == last, words)
 }
 
 // The opening's lines; none before the first checkpoint.
-fn opening_of(database: &Connection) -> Result<Vec<u8>, LoggedError> {
-    let mut statement = database.prepare("SELECT line, text FROM opening ORDER BY line")?;
-    let (mut rows, mut lines, mut count) = (statement.query([])?, Vec::new(), 0);
-    while let Some(row) = rows.next()? {
-        let is_next = row.get::<_, i64>(0)? == count;
-        RowMissing.unless(is_next, format!("line {count} of the opening isn't there"))?;
-        lines.extend((count > 0).then_some(b'\n'));
-        lines.extend_from_slice(bytes_of(row, 1)?);
-        count += 1;
-    }
-    Ok(lines)
+fn opening_of(database: &Connection) -> Result<Vec<u8>> {
+    let select = "SELECT line, CAST(text AS BLOB) FROM opening ORDER BY line";
+    let mut select = database.prepare(select)?;
+    let rows = select.query_map([], |row| <(usize, Vec<u8>)>::try_from(row))?;
+    let (numbers, lines): (Vec<_>, Vec<_>) = rows.collect::<rusqlite::Result<_>>()?;
+    let (count, next) = (lines.len(), numbers.last().map_or(0, |last| last + 1));
+    let words = format!("of {next} lines the opening has {count}");
+    Fault::RowMissing.unless(count == next, words)?;
+    Ok(lines.join(&b'\n'))
 }
 
-// The number that a text begins with, if its first word is one.
-fn number_in(text: &[u8]) -> Option<u64> {
-    let word = text.split(|it| matches!(it, b' ' | b'\n')).next()?;
-    std::str::from_utf8(word).ok()?.parse().ok()
+// The number that stands behind this at the beginning of a text, if the next word is one.
+fn number_after(before: &[u8], text: &[u8]) -> Option<u64> {
+    let mut words = text.strip_prefix(before)?.split(u8::is_ascii_whitespace);
+    std::str::from_utf8(words.next()?).ok()?.parse().ok()
 }
 
 // Whether this batch comes next, and its lines are in their place.
-fn check_place(first: u64, entry: u64, lines: &[u8]) -> Result<(), LoggedError> {
-    let begins = number_in(lines).unwrap_or(first);
-    let place = format!("in the place of batch {first} are the lines of entry {begins}");
-    let comes = format!("batch {first} comes where entry {entry} comes next");
-    let (fault, words) = match (first.cmp(&entry), begins.cmp(&first)) {
-        (Equal, Equal) => return Ok(()),
-        (Equal, Greater) => (RowSwapped, place + " and those after it"),
-        (Equal, Less) => (RowDoubled, place + " once more"),
-        (Less, _) => (RowDoubled, comes),
-        (Greater, _) => {
-            let missing = format!("the entries {entry} to {} aren't there", first - 1);
-            (RowMissing, format!("{missing}: batch {first} comes next"))
-        }
-    };
-    Err(fault.says(words))
+fn check_place(first: u64, entry: u64, lines: &[u8]) -> Result<()> {
+    let words = format!("batch {first} comes where entry {entry} comes next");
+    Fault::RowDoubled.unless(first >= entry, words)?;
+    let last = first.saturating_sub(1);
+    let words = format!("the entries {entry} to {last} aren't there: batch {first} comes next");
+    Fault::RowMissing.unless(first == entry, words)?;
+    let begins = number_after(b"", lines).unwrap_or(first);
+    let words = format!("in the place of batch {first} are the lines of entry {begins}");
+    Fault::RowDoubled.unless(begins >= first, format!("{words} once more"))?;
+    Fault::RowSwapped.unless(begins == first, format!("{words} and those after it"))
 }
 
-fn check_end(head: &Head, entry: u64, sum: u32) -> Result<(), LoggedError> {
-    let (_, next, last) = head.end;
-    let words = format!("the log ends before entry {entry}, and by `log` entry {next} comes next");
-    LogCut.unless(entry >= next, words)?;
-    let words = format!("`log` is older than the batches: it says {next}, in place of {entry}");
-    LogOld.unless(entry <= next, words)?;
-    let words = "`log` has another sum than the last batch or the opening: one was changed";
-    RowChanged.unless(sum == last, words)
+// Whether a frame of a WAL that was on disk has changed: SQLite drops what is behind it without a word. That is right of
+// a write that was torn, and wrong of a frame that rotted. Each commit is on disk before the next one's frames are
+// written, so behind the end of a torn commit there are no frames of this WAL. The format is SQLite's: numbers of 4 bytes
+// (sqlite.org/fileformat2.html, "The WAL File Format"). The header of a WAL that is new may be torn.
+fn check_wal(path: &Path, may_be_new: bool) -> Result<()> {
+    let content = fs::read(path).map_err(|error| Fault::Unreadable.says(error.to_string()))?;
+    let number = |it: &[u8]| it.try_into().map_or(0, u32::from_be_bytes);
+    let numbers: Vec<u32> = content.chunks_exact(4).map(number).collect();
+    let damaged = damaged_part(&numbers, may_be_new);
+    let (shown, what) = (path.display(), damaged.as_deref().unwrap_or_default());
+    let words = format!("{shown}: {what} has changed, and later work was written behind it");
+    Fault::WalDamaged.unless(damaged.is_none(), words)
 }
 
-// SQLite takes a WAL up to the first frame that doesn't verify, and drops what is behind it without a word. That is
-// right of a write that was torn, and wrong of a frame that rotted. Each commit is on disk before the next one's
-// frames are written, so they can be distinguished: behind the end of a torn commit there are no frames of this WAL.
-// The format is SQLite's (sqlite.org/fileformat2.html, "The WAL File Format"). A WAL without its header is empty.
-const HEADER: usize = 32;
-const FRAME: usize = 24;
-const MAGIC: u32 = 0x377f_0682;
-const VERSION: u32 = 3_007_000;
-
-// Whether a frame that was on disk has changed. The header of a WAL that is new may be torn: then nothing is in it.
-fn check_wal(path: &Path, may_be_new: bool) -> Result<(), LoggedError> {
-    let content = fs::read(path).map_err(|error| Unreadable.says(error.to_string()))?;
-    let what = match damaged_frame(&content) {
-        None => return Ok(()),
-        Some(0) if may_be_new => return Ok(()),
-        Some(0) => "the header".to_owned(),
-        Some(number) => format!("frame {number}"),
-    };
-    let words = "has changed, and later work was written behind it";
-    Err(WalDamaged.says(format!("{}: {what} {words}", path.display())))
-}
-
-// The number of the first damaged frame, from 1 on; 0 for the header.
-fn damaged_frame(wal: &[u8]) -> Option<u64> {
-    let (header, frames) = wal.split_at_checked(HEADER)?;
-    let is_big = word(header, 0) & 1 == 1;
-    let mut sums = summed(is_big, &header[..24], (0, 0));
-    let is_known = word(header, 0) & !1 == MAGIC && word(header, 4) == VERSION;
-    if !is_known || sums != (word(header, 24), word(header, 28)) {
-        return Some(0);
+// The header, or the first frame, from 1 on, that has changed.
+fn damaged_part(wal: &[u32], may_be_new: bool) -> Option<String> {
+    let (header, frames) = wal.split_at_checked(8)?;
+    // The last bit of the first number says in which order sums take bytes. The second one is the format's.
+    let is_big = header[0] & 1 == 1;
+    let mut sums = summed(is_big, &header[..6], [0, 0]);
+    if header[0] & !1 != 0x377f_0682 || header[1] != 3_007_000 || header[6..] != sums {
+        return (!may_be_new).then(|| "the header".to_owned());
     }
-    let (mut damaged, mut is_ended) = (None, false);
-    for (number, frame) in (1..).zip(frames.chunks_exact(FRAME + word(header, 8) as usize)) {
-        let is_own = frame[8..16] == header[16..24];
-        if damaged.is_none() {
-            sums = summed(is_big, &frame[FRAME..], summed(is_big, &frame[..8], sums));
-            let is_sound = is_own && sums == (word(frame, 16), word(frame, 20));
-            damaged = (!is_sound).then_some(number);
-        }
-        if damaged.is_some() && is_own {
-            if is_ended {
-                return damaged;
-            }
-            // Of a commit that was torn, the frame with which it ends may be there.
-            is_ended = word(frame, 4) != 0;
-        }
-    }
-    None
+    let is_own = |frame: &&[u32]| frame[2..4] == header[4..6];
+    let frames = frames.chunks_exact(6 + header[2] as usize / 4);
+    let damaged = frames.clone().position(|frame| {
+        sums = summed(is_big, &frame[6..], summed(is_big, &frame[..2], sums));
+        !is_own(&frame) || frame[4..6] != sums
+    })?;
+    // Of a commit that was torn, the frame with which it ends may be there.
+    let mut ended = frames.skip(damaged).filter(is_own);
+    let later = ended.find(|it| it[1] != 0).and(ended.next());
+    later.map(|_| format!("frame {}", damaged + 1))
 }
 
-fn word(bytes: &[u8], at: usize) -> u32 {
-    let bytes = bytes[at..at + 4].iter();
-    bytes.fold(0, |word, byte| word << 8 | u32::from(*byte))
-}
-
-fn summed(is_big: bool, data: &[u8], (one, two): (u32, u32)) -> (u32, u32) {
-    let read = |it| Wrapping(if is_big { it } else { u32::swap_bytes(it) });
-    let (mut one, mut two) = (Wrapping(one), Wrapping(two));
-    for it in data.chunks_exact(8) {
-        one += read(word(it, 0)) + two;
-        two += read(word(it, 4)) + one;
-    }
-    (one.0, two.0)
+fn summed(is_big: bool, numbers: &[u32], sums: [u32; 2]) -> [u32; 2] {
+    let read = |it: u32| if is_big { it } else { it.swap_bytes() };
+    numbers.chunks_exact(2).fold(sums, |[one, two], it| {
+        let one = one.wrapping_add(read(it[0])).wrapping_add(two);
+        [one, two.wrapping_add(read(it[1])).wrapping_add(one)]
+    })
 }

@@ -1,22 +1,18 @@
-//! `SqliteLog`: a log in a SQLite database: how it is made, written and copied.
+//! `LogOptions`: how a log in a SQLite database is opened, made and copied; `SqliteLog`: how it is written.
 
-use crate::log::batch_log::{BatchLog, EntryLines, Opening, log_sum};
-use crate::log::error::LogFault::{Exists, Locked, LogCut, Unreadable};
-use crate::log::error::{Failure, LoggedError};
-use crate::log::log_options::LogOptions;
-use crate::log::log_reading::{APPLICATION, Connected, FORMAT, Head, beside, check_copy, read_log};
+use crate::log::LogFault::{Exists, Locked, LogCut, NoLog, Unreadable};
+use crate::log::log_reading::{End, Head, beside, check_rows, head_of, read_log};
+use crate::log::{BatchLog, Failure, JournalLines, LogFound, Logged, LoggedError, Result, log_sum};
 use rusqlite::backup::{Backup, StepResult};
 pub(crate) use rusqlite::config::DbConfig::SQLITE_DBCONFIG_NO_CKPT_ON_CLOSE as KEEPS_WAL;
-use rusqlite::{Connection, OpenFlags, params, version_number};
-use std::fs::{self, File};
-use std::io::{self, ErrorKind};
-use std::path::{Path, PathBuf, absolute};
+use rusqlite::{Connection, OpenFlags, version_number};
+use std::path::{Path, absolute};
 use std::time::Duration;
-use std::{mem, process};
+use std::{fs, io, mem, process};
 
-// How long SQLite waits for a lock; and who changes the log, until which nothing has changed: some weeks.
-const BUSY: Duration = Duration::from_secs(5);
-const PATIENT: Duration = Duration::from_millis(i32::MAX as u64);
+/// What a log's file says that it is, "ARGU" in ASCII; and in which format.
+pub(crate) const APPLICATION: i64 = 0x4152_4755;
+pub(crate) const FORMAT: i64 = 1;
 
 // Each commit is on disk when it returns. Debian's SQLite writes zeros over all that is deleted: a checkpoint would
 // write the whole log once more. A WAL that a reader has kept from being moved becomes short again, and never empty.
@@ -33,92 +29,156 @@ CREATE TABLE batch   (first INTEGER PRIMARY KEY, lines TEXT NOT NULL, sum INTEGE
 CREATE TABLE object  (number INTEGER PRIMARY KEY, name TEXT UNIQUE, shape TEXT NOT NULL, base TEXT){};
 ";
 const VERSION: &str = env!("CARGO_PKG_VERSION");
-const BEGIN: &str = "UPDATE log SET is_open=1, version=?";
-const MOVE: &str =
-    "UPDATE log SET epoch=?, next_entry=?, sum=? WHERE epoch=? AND next_entry=? AND sum=?";
-const APPEND: &str = "INSERT INTO batch VALUES (?, ?, ?)";
-const NAME: &str = "INSERT INTO object (number, name, shape) VALUES (?, ?, ?) \
-     ON CONFLICT (number) DO UPDATE SET name = excluded.name";
-const BASE: &str = "INSERT INTO object (number, shape, base) VALUES (?, ?, nullif(?, 'absent')) \
-     ON CONFLICT (number) DO UPDATE SET shape = excluded.shape, base = excluded.base";
+const MOVE: &str = "UPDATE log SET epoch=?, next_entry=?, sum=?, is_open=?, version=? \
+     WHERE epoch=? AND next_entry=? AND sum=?";
+const OBJECT: &str = "INSERT INTO object VALUES (?, ?, ?, nullif(?, 'absent')) ON CONFLICT (number) \
+     DO UPDATE SET name = ifnull(excluded.name, name), shape = excluded.shape, \
+     base = ifnull(excluded.base, base)";
 
-/// A connection that reads, or that writes what is there, or that makes it.
-pub(crate) fn connected(path: &Path, how: OpenFlags) -> rusqlite::Result<Connection> {
-    let database = Connection::open_with_flags(path, how | OpenFlags::SQLITE_OPEN_NO_MUTEX)?;
-    database.busy_timeout(BUSY)?;
-    Ok(database)
-}
-
-/// The file itself: SQLite puts the WAL beside that, where the path is a link to it.
-pub(crate) fn resolved(path: &Path) -> Result<PathBuf, LoggedError> {
-    let found = match path.canonicalize() {
-        Err(error) if error.kind() == ErrorKind::NotFound => absolute(path),
-        found => found,
-    };
-    found.map_err(|error| Unreadable.says(format!("{}: {error}", path.display())))
-}
-
-// A random name, of 32 hexadecimal digits.
-fn new_name(database: &Connection) -> rusqlite::Result<String> {
+fn random_name(database: &Connection) -> rusqlite::Result<String> {
     database.query_row("SELECT lower(hex(randomblob(16)))", [], |row| row.get(0))
 }
 
-/// Makes an empty log.
-pub(crate) fn make_log(path: &Path) -> Result<(), LoggedError> {
-    make(&resolved(path)?, |database| {
-        // SQLite before 3.37 has no `STRICT`.
-        let has_strict = version_number() >= 3_037_000;
-        let tables = TABLES.replace("{}", if has_strict { " STRICT" } else { "" });
-        let name = new_name(database)?;
-        let sum = log_sum(&name, 0, 0, b"");
-        Ok(database.execute_batch(&format!(
-            "BEGIN IMMEDIATE; PRAGMA application_id={APPLICATION}; PRAGMA user_version={FORMAT}; {tables} \
-             INSERT INTO log VALUES (0, '{name}', '{VERSION}', 0, 0, 0, {sum}); COMMIT;",
-        ))?)
-    })
+fn make_log(path: &Path) -> Result<()> {
+    let database = Connection::open_in_memory()?;
+    let name = random_name(&database)?;
+    // SQLite before 3.37 has no `STRICT`.
+    let has_strict = version_number() >= 3_037_000;
+    let tables = TABLES.replace("{}", if has_strict { " STRICT" } else { "" });
+    let sum = log_sum(&name, 0, 0, b"");
+    database.execute_batch(&format!(
+        "PRAGMA application_id={APPLICATION}; PRAGMA user_version={FORMAT}; {tables} \
+         INSERT INTO log VALUES (0, '{name}', '{VERSION}', 0, 0, 0, {sum})",
+    ))?;
+    copy_log(&database, path)
 }
 
-/// Copies the log as it is at one moment, and compares the copy's rows.
-pub(crate) fn copy_log(path: &Path, into: &Path) -> Result<(), LoggedError> {
-    make(&resolved(into)?, |copy| {
-        let source = connected(path, OpenFlags::SQLITE_OPEN_READ_ONLY)?;
-        if Backup::new(&source, copy)?.step(-1)? != StepResult::Done {
-            return Err(Locked.says("a program has the database locked"));
-        }
-        copy.execute_batch("PRAGMA journal_mode=DELETE; UPDATE log SET is_open=0")?;
-        check_copy(copy)
-    })
-}
-
-// Makes it under another name beside this one, which is a path from the root on, and gives it its own when it is whole.
-fn make(
-    path: &Path,
-    fill: impl FnOnce(&mut Connection) -> Result<(), LoggedError>,
-) -> Result<(), LoggedError> {
+// Copies a log as it is at one moment, under another name. When the copy is whole and was compared, it gets its own.
+fn copy_log(source: &Connection, path: &Path) -> Result<()> {
+    let (shown, is_there) = (path.display(), path.symlink_metadata().is_ok());
     let refused = |error: io::Error| match error.kind() {
-        ErrorKind::AlreadyExists => Exists.says(format!("a file is there: {}", path.display())),
-        _ => Unreadable.says(format!("{} can't be made: {error}", path.display())),
+        io::ErrorKind::AlreadyExists => Exists.says(format!("a file is there: {shown}")),
+        _ => Unreadable.says(format!("{shown} can't be made: {error}")),
     };
-    if path.symlink_metadata().is_ok() {
-        return Err(refused(ErrorKind::AlreadyExists.into()));
-    }
-    let name = new_name(&Connection::open_in_memory()?)?;
-    let new = beside(path, &format!("-new-{name}"));
-    let filled = || {
-        let how = OpenFlags::SQLITE_OPEN_READ_WRITE | OpenFlags::SQLITE_OPEN_CREATE;
-        let mut database = connected(&new, how)?;
-        database.execute_batch(DURABLE)?;
-        fill(&mut database)?;
-        database.close().map_err(|(_, error)| error)?;
+    Exists.unless(!is_there, format!("a file is there: {shown}"))?;
+    let path = absolute(path).map_err(refused)?;
+    let new = beside(&path, &format!("-new-{}", random_name(source)?));
+    let copied = || {
+        let mut copy = Connection::open(&new)?;
+        copy.execute_batch(DURABLE)?;
+        let is_done = Backup::new(source, &mut copy)?.step(-1)? == StepResult::Done;
+        Locked.unless(is_done, "a program has the database locked")?;
+        copy.execute_batch("PRAGMA journal_mode=DELETE; UPDATE log SET is_open=0")?;
+        check_rows(&copy, &head_of(&copy)?, |_, _| Ok(()))?;
+        copy.close().map_err(|(_, error)| error)?;
         // Two that make it at once: one of them is refused.
-        fs::hard_link(&new, path).map_err(refused)
+        fs::hard_link(&new, &path).map_err(refused)
     };
-    let (made, removed) = (filled(), fs::remove_file(&new));
+    let (made, removed) = (copied(), fs::remove_file(&new));
     made?;
     // So that the name outlives a power cut.
-    let folder = path.parent().unwrap_or(path);
-    let synced = removed.and_then(|()| File::open(folder)?.sync_all());
+    let folder = path.parent().unwrap_or(&path);
+    let synced = removed.and_then(|()| fs::File::open(folder)?.sync_all());
     synced.map_err(refused)
+}
+
+/// How a log in a database is opened or made.
+#[derive(Debug, Clone, PartialEq, Eq)]
+pub struct LogOptions {
+    /// How long an access waits for its lock at most: a second by default.
+    pub patience: Duration,
+    /// After so many entries the log makes a checkpoint by itself, and when half of the numbers for actions are used:
+    /// 100,000 by default. `None`: never.
+    pub checkpoint_after: Option<u64>,
+    /// The name that the log has to have.
+    pub name: Option<String>,
+    /// How many entries the log has to have had.
+    pub at_least: u64,
+}
+
+impl Default for LogOptions {
+    fn default() -> LogOptions {
+        LogOptions {
+            patience: crate::Shared::PATIENCE,
+            checkpoint_after: Some(100_000),
+            name: None,
+            at_least: 0,
+        }
+    }
+}
+
+impl LogOptions {
+    /// Opens the log that is there: makes each call in it again, compares its reply, and aborts what was live.
+    /// [`LoggedError::Database`]: nothing in the log has changed. [`LoggedError::InDoubt`]: the log was read, but the
+    /// first append failed. [`LoggedError::Guardian`]: out of memory. The other calls here fail so, too.
+    pub fn open(&self, path: impl AsRef<Path>) -> Result<Logged> {
+        let (connections, head, guardian, named, found) = read_log(path.as_ref(), self)?;
+        let log = Box::new(SqliteLog::begin(connections, head)?);
+        let mut logged = Logged::over(guardian, log, self.patience)?;
+        let aborted = logged.counts().entries;
+        logged.found = LogFound { aborted, ..found };
+        logged.names = Some(named.into());
+        logged.fold_after = self.checkpoint_after;
+        // No action is live yet. Later there may be no number left for one that commits.
+        logged.checkpoint_if_due();
+        Ok(logged)
+    }
+
+    /// Makes a log, and opens it; [`LogFault::Exists`](Exists) if a file is there.
+    pub fn create(&self, path: impl AsRef<Path>) -> Result<Logged> {
+        make_log(path.as_ref())?;
+        self.open(path)
+    }
+
+    /// Opens the log that is there; if there is none, makes one. Where there has to be one, [`open`](Self::open) is
+    /// safer: a disk that isn't mounted looks like a log that isn't there.
+    pub fn open_or_create(&self, path: impl AsRef<Path>) -> Result<Logged> {
+        match make_log(path.as_ref()) {
+            Ok(()) | Err(LoggedError::Database(Exists, _)) => self.open(path),
+            Err(error) => Err(error),
+        }
+    }
+
+    /// Reads a log that no process has, such as a backup, as [`open`](Self::open) does, and changes nothing.
+    pub fn check(&self, path: impl AsRef<Path>) -> Result<LogFound> {
+        read_log(path.as_ref(), self).map(|(.., found)| found)
+    }
+}
+
+impl Logged {
+    /// Opens the log that is there, with default options: [`LogOptions::open`]. It never makes one.
+    pub fn open(path: impl AsRef<Path>) -> Result<Logged> {
+        LogOptions::default().open(path)
+    }
+
+    /// Makes a log, and opens it: [`LogOptions::create`].
+    pub fn create(path: impl AsRef<Path>) -> Result<Logged> {
+        LogOptions::default().create(path)
+    }
+
+    /// Opens the log that is there; if there is none, makes one: [`LogOptions::open_or_create`].
+    ///
+    /// ```no_run
+    /// use argus_guardian::{Access, log::{Logged, LoggedError}};
+    /// let bank = Logged::open_or_create("bank.db")?;
+    /// let account = bank.named("account", "atomic_record[balance:int]")?;
+    /// if bank.base(&account)?.is_none() {
+    ///     bank.run(|top| top.create(&account, (5,)))?; // Ok: it is on disk
+    /// }
+    /// # Ok::<(), LoggedError>(())
+    /// ```
+    pub fn open_or_create(path: impl AsRef<Path>) -> Result<Logged> {
+        LogOptions::default().open_or_create(path)
+    }
+
+    /// Makes a copy of the log as it is at one moment, whole and compared, while others go on. It is a log, too.
+    /// [`LogFault::Exists`](Exists) if a file is there; [`LogFault::NoLog`](NoLog) if this log isn't in a database.
+    pub fn backup(&self, path: impl AsRef<Path>) -> Result<()> {
+        let own = &self.found.path;
+        NoLog.unless(own.is_absolute(), "the log isn't in a database")?;
+        let own = Connection::open_with_flags(own, OpenFlags::SQLITE_OPEN_READ_ONLY)?;
+        copy_log(&own, path.as_ref())
+    }
 }
 
 /// A log in a SQLite database, which this process writes. [`LogOptions`] opens one with its guardian.
@@ -127,7 +187,7 @@ pub struct SqliteLog {
     // That which writes; and that of the second database, which has the lock and is closed last. None when dropped.
     connections: Option<[Connection; 2]>,
     head: Head,
-    broken: Option<Failure>,
+    state: Result<(), Failure>,
     // The one that writes: SQLite's connections mustn't even be closed in a process that is forked from it.
     process: u32,
 }
@@ -135,116 +195,90 @@ pub struct SqliteLog {
 impl SqliteLog {
     /// Makes a log, for a program that writes a journal's lines into it itself, as the example `log_of_files` does. An
     /// opening may come first. It fails as [`LogOptions::create`].
-    pub fn create(path: impl AsRef<Path>) -> Result<SqliteLog, LoggedError> {
+    pub fn create(path: impl AsRef<Path>) -> Result<SqliteLog> {
         make_log(path.as_ref())?;
-        let (read, ..) = read_log(path.as_ref(), &LogOptions::default())?;
-        SqliteLog::begin(read)
+        let (connections, head, ..) = read_log(path.as_ref(), &LogOptions::default())?;
+        SqliteLog::begin(connections, head)
     }
 
     /// Makes one that was read this process's: from now on whoever had it before is refused.
-    pub(crate) fn begin((connections, head): Connected) -> Result<SqliteLog, LoggedError> {
-        let (database, (epoch, next, sum)) = (&connections[0], head.end);
+    pub(crate) fn begin(connections: [Connection; 2], mut head: Head) -> Result<SqliteLog> {
+        let (database, end) = (&connections[0], head.end);
         database.execute_batch(DURABLE)?;
         let mode: String = database.query_row("PRAGMA journal_mode=WAL", [], |row| row.get(0))?;
-        let words = format!("the database can't have a WAL: SQLite says {mode}");
-        Unreadable.unless(mode == "wal", words)?;
-        database.busy_timeout(PATIENT)?;
-        let mut log = SqliteLog {
+        Unreadable.unless(mode == "wal", format!("it has no WAL: SQLite says {mode}"))?;
+        // From now on it waits some weeks for a lock: until it has that, nothing has changed.
+        database.execute_batch("PRAGMA busy_timeout=2147483647")?;
+        head.end.0 += 1;
+        move_end(database, end, head.end, true)?;
+        // What was read is on disk now, also where whoever wrote it was killed: it is moved, if no reader is in the way.
+        database.execute_batch("PRAGMA wal_checkpoint(PASSIVE)")?;
+        Ok(SqliteLog {
             connections: Some(connections),
             head,
-            broken: None,
+            state: Ok(()),
             process: process::id(),
-        };
-        let begin = |it: &Connection| it.execute(BEGIN, [VERSION]).map(drop);
-        log.change((epoch + 1, next, sum), begin)?;
-        // What was read and isn't on disk, since whoever wrote it was killed, is on disk now; and the file says that
-        // there is a WAL. So it is moved into the file, as far as no reader is in the way.
-        let moved = "PRAGMA wal_checkpoint(PASSIVE)";
-        log.writing().query_row(moved, [], |_| Ok(()))?;
-        Ok(log)
+        })
     }
 
-    fn writing(&self) -> &Connection {
-        let [writing, _] = self.connections.as_ref().expect("it isn't dropped");
-        writing
-    }
-
-    // Carries out statements and moves the log's end, in one transaction. Nothing is done if the end isn't ours.
-    fn change(
-        &mut self,
-        end: (u64, u64, u32),
-        work: impl FnOnce(&Connection) -> rusqlite::Result<()>,
-    ) -> Result<(), LoggedError> {
-        let (database, was) = (self.writing(), self.head.end);
-        database.prepare_cached("BEGIN IMMEDIATE")?.execute([])?;
-        let ends = params![end.0, end.1, end.2, was.0, was.1, was.2];
-        let moved = database.prepare_cached(MOVE)?.execute(ends)?;
-        Locked.unless(moved == 1, "another process has opened the log")?;
-        work(database)?;
-        database.prepare_cached("COMMIT")?.execute([])?;
+    // Puts lines into the log, and moves its end behind them, in one transaction.
+    fn put(&mut self, lines: &JournalLines) -> Result<()> {
+        let (epoch, next, last) = self.head.end;
+        let (first, is_opening) = (lines.first, lines.is_opening());
+        let fits = first == next || is_opening && next == 0;
+        LogCut.unless(fits, format!("entry {first} where {next} is the next one"))?;
+        let text = lines.text.strip_suffix('\n').unwrap_or(&lines.text);
+        let before = if is_opening { 0 } else { last };
+        let sum = log_sum(&self.head.name, first, before, text.as_bytes());
+        let end = (epoch, lines.next, sum);
+        let [database, _] = self.connections.as_ref().expect("it isn't dropped");
+        let transaction = database.unchecked_transaction()?;
+        move_end(&transaction, self.head.end, end, true)?;
+        if is_opening {
+            put_opening(&transaction, text)?;
+        } else {
+            let mut append = transaction.prepare_cached("INSERT INTO batch VALUES (?, ?, ?)")?;
+            append.execute((first, text, sum))?;
+        }
+        for it in &lines.named {
+            transaction.execute(OBJECT, (it.id().number(), it.name(), it.shape(), "absent"))?;
+        }
+        transaction.commit()?;
         self.head.end = end;
         Ok(())
     }
+}
 
-    // Puts these lines behind the sum before them, and moves the log's end there. A failure breaks the log, and rolls
-    // back what has begun, so that others may write.
-    fn put(
-        &mut self,
-        (first, next, before): (u64, u64, u32),
-        lines: &str,
-        work: impl FnOnce(&Connection, &str, u32) -> rusqlite::Result<()>,
-    ) -> Result<(), Failure> {
-        if let Some(failure) = &self.broken {
-            return Err(failure.clone());
+// Moves the end of a log, if it is there where this process has left it.
+fn move_end(database: &Connection, was: End, end: End, is_open: bool) -> Result<()> {
+    let ends = (end.0, end.1, end.2, is_open, VERSION, was.0, was.1, was.2);
+    let moved = database.prepare_cached(MOVE)?.execute(ends)?;
+    Locked.unless(moved == 1, "another process has opened the log")
+}
+
+// Puts an opening in place of all rows.
+fn put_opening(database: &Connection, text: &str) -> rusqlite::Result<()> {
+    database.execute_batch("DELETE FROM batch; DELETE FROM opening")?;
+    let mut insert = database.prepare_cached("INSERT INTO opening VALUES (?, ?)")?;
+    let mut object = database.prepare_cached(OBJECT)?;
+    for (number, line) in (-1..).zip(text.split('\n')) {
+        insert.execute((number + 1, line))?;
+        // As in `opening o0 atomic_record[balance:int] {5}`; the first line is of none.
+        let words: Vec<&str> = line.splitn(4, ' ').collect();
+        if let (0.., [_, _, shape, held]) = (number, &words[..]) {
+            object.execute((number, None::<&str>, shape, held))?;
         }
-        let (epoch, at, _) = self.head.end;
-        // As rows have lines.
-        let text = lines.strip_suffix('\n').unwrap_or(lines);
-        let sum = log_sum(&self.head.name, first, before, text.as_bytes());
-        let is_next = first == at || text.starts_with("opening ") && at == 0;
-        let words = format!("entry {first} where {at} is the next one");
-        let put = LogCut.unless(is_next, words);
-        let put = put.and_then(|()| self.change((epoch, next, sum), |it| work(it, text, sum)));
-        put.map_err(|error| {
-            let _ = self.writing().execute_batch("ROLLBACK");
-            self.broken.insert(io::Error::other(error).into()).clone()
-        })
     }
+    Ok(())
 }
 
 impl BatchLog for SqliteLog {
-    fn append(&mut self, lines: &EntryLines) -> Result<(), Failure> {
-        if lines.text.is_empty() {
-            return Ok(());
+    fn append(&mut self, lines: &JournalLines) -> Result<(), Failure> {
+        if self.state.is_ok() && !lines.text.is_empty() {
+            let put = self.put(lines);
+            self.state = put.map_err(|error| io::Error::other(error).into());
         }
-        let place = (lines.first, lines.next, self.head.end.2);
-        self.put(place, &lines.text, |database, text, sum| {
-            let mut append = database.prepare_cached(APPEND)?;
-            append.execute(params![lines.first, text, sum])?;
-            for it in &lines.names {
-                database.execute(NAME, params![it.number, it.name, it.shape])?;
-            }
-            Ok(())
-        })
-    }
-
-    // Puts the opening in place of all rows.
-    fn restart(&mut self, opening: &Opening) -> Result<(), Failure> {
-        let place = (opening.next, opening.next, 0);
-        self.put(place, &opening.text, |database, text, _| {
-            database.execute_batch("DELETE FROM batch; DELETE FROM opening")?;
-            let mut insert = database.prepare_cached("INSERT INTO opening VALUES (?, ?)")?;
-            let mut base = database.prepare_cached(BASE)?;
-            for (number, line) in (-1..).zip(text.split('\n')) {
-                insert.execute(params![number + 1, line])?;
-                // As in `opening o0 atomic_record[balance:int] {5}`; the first line is of none.
-                let words: Vec<&str> = line.splitn(4, ' ').collect();
-                if let (0.., [_, _, shape, held]) = (number, &words[..]) {
-                    base.execute(params![number, shape, held])?;
-                }
-            }
-            Ok(())
-        })
+        self.state.clone()
     }
 }
 
@@ -252,12 +286,10 @@ impl Drop for SqliteLog {
     fn drop(&mut self) {
         if self.process != process::id() {
             mem::forget(self.connections.take());
-        } else if self.broken.is_none() {
+        } else if let (Some([database, _]), Ok(())) = (&self.connections, &self.state) {
             // The file says that it has no WAL. If that fails, the WAL stays, as if the process had been killed.
-            let say = |it: &Connection| it.execute_batch("UPDATE log SET is_open=0");
-            if self.change(self.head.end, say).is_ok() {
-                let _ = self.writing().set_db_config(KEEPS_WAL, false);
-            }
+            let closed = move_end(database, self.head.end, self.head.end, false);
+            let _ = closed.map(|()| database.set_db_config(KEEPS_WAL, false));
         }
     }
 }

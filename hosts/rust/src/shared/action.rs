@@ -1,8 +1,9 @@
-//! `SharedAction`: a live action of a guardian that threads share.
+//! `SharedAction`: a live action of a guardian that threads share; `Sharer`: what shares that among them.
 
 use crate::access::{Caller, found};
 use crate::call::Call;
 use crate::error::Error;
+use crate::guardian::Guardian;
 use crate::ids::ActionId;
 use crate::object::{AsObject, Object};
 use crate::reply::{Answer, Reply};
@@ -10,6 +11,63 @@ use crate::shared::Shared;
 use crate::shared::state::DroppedAction;
 use crate::shared::waits::Lineage;
 use std::{iter, mem};
+
+/// What shares a guardian among threads: a [`Shared`], or a `log::Logged`. A function over actions of any of them works
+/// with a log and without one.
+///
+/// ```
+/// use argus_guardian::{Access, Guardian, Object, Shared, SharedAction, Sharer};
+///
+/// fn count<S: Sharer>(top: &SharedAction<'_, S>, counter: &Object) -> Result<(), S::Error> {
+///     let sub = top.subaction()?;
+///     sub.update(counter, "n", |it: i64| it + 1)?;
+///     sub.commit()
+/// }
+///
+/// let shared = Shared::from(Guardian::new()?);
+/// let counter = shared.named("counter", "atomic_record[n:int]")?;
+/// shared.run(|top| top.create(&counter, (0,)))?;
+/// shared.run(|top| count(top, &counter))?;
+/// assert_eq!(shared.into_inner().base(&counter)?, Some((1,).into()));
+/// # Ok::<(), argus_guardian::Error>(())
+/// ```
+pub trait Sharer: Shares {}
+
+impl<S: Shares> Sharer for S {}
+
+/// How actions reach their guardian. It has no public name, so that nobody else calls these.
+pub trait Shares {
+    /// Why calls of its actions fail.
+    type Error: From<Error>;
+
+    /// How many entries the journal has had, if commits are acknowledged by that.
+    const COUNT: fn(&Guardian) -> u64 = |_| 0;
+
+    /// The guardian, for what is no call of a program.
+    fn kept(&self) -> &Shared;
+
+    /// The guardian, for a call, unless none is made any more.
+    fn shared(&self) -> Result<&Shared, Self::Error>;
+
+    /// Acknowledges the commit of a topaction, nested or not: the last one of so many entries.
+    fn acknowledge(&self, _entries: u64, _is_outermost: bool) -> Result<(), Self::Error> {
+        Ok(())
+    }
+}
+
+impl Shares for Shared {
+    type Error = Error;
+
+    #[inline]
+    fn kept(&self) -> &Shared {
+        self
+    }
+
+    #[inline]
+    fn shared(&self) -> Result<&Shared, Error> {
+        Ok(self)
+    }
+}
 
 /// A live action of a guardian that threads share. It aborts when it is dropped, unless it has
 /// committed; if there isn't even memory for that, it stays live.
@@ -23,6 +81,9 @@ use std::{iter, mem};
 ///
 /// Several threads may begin subactions of one action, and run them at the same time. The action
 /// can't commit or abort while one of these exists.
+///
+/// The type of errors is [`Error`]; of a guardian with a log it is `LoggedError`, and `log::LoggedAction` says what else
+/// is so of its actions.
 ///
 /// ```
 /// use argus_guardian::{Access, Guardian, Shared};
@@ -48,42 +109,42 @@ use std::{iter, mem};
 /// ```
 #[derive(Debug)]
 #[must_use = "an action that is dropped aborts"]
-pub struct SharedAction<'s> {
-    shared: &'s Shared,
+pub struct SharedAction<'s, S: Sharer = Shared> {
+    sharer: &'s S,
     id: ActionId,
     // The action that has begun it.
-    creator: Option<&'s SharedAction<'s>>,
+    creator: Option<&'s SharedAction<'s, S>>,
     // Whether it is a nested topaction of that one, and no subaction.
     is_nested: bool,
 }
 
-impl<'s> SharedAction<'s> {
+impl<'s, S: Sharer> SharedAction<'s, S> {
     // A child of this action.
-    fn begun(&'s self, call: &Call, is_nested: bool) -> Result<SharedAction<'s>, Error> {
+    fn begun(&'s self, call: &Call, is_nested: bool) -> Result<SharedAction<'s, S>, S::Error> {
         let id = self.call(call)?.action()?;
         Ok(SharedAction {
-            shared: self.shared,
+            sharer: self.sharer,
             id,
             creator: Some(self),
             is_nested,
         })
     }
 
-    pub(crate) fn of(shared: &'s Shared, id: ActionId) -> SharedAction<'s> {
+    pub(crate) fn of(sharer: &'s S, id: ActionId) -> SharedAction<'s, S> {
         SharedAction {
-            shared,
+            sharer,
             id,
             creator: None,
             is_nested: false,
         }
     }
 
-    fn call(&self, call: &Call) -> Result<Reply, Error> {
-        self.shared.call(call)
+    fn call(&self, call: &Call) -> Result<Reply, S::Error> {
+        Ok(self.sharer.shared()?.call(call)?)
     }
 
     // The action itself and its ancestors.
-    fn own(&self) -> impl Iterator<Item = &SharedAction<'s>> {
+    fn own(&self) -> impl Iterator<Item = &SharedAction<'s, S>> {
         iter::successors(Some(self), |it| it.creator.filter(|_| !it.is_nested))
     }
 
@@ -95,6 +156,11 @@ impl<'s> SharedAction<'s> {
     // Its topaction, if it is a subaction.
     fn topaction(&self) -> Option<ActionId> {
         self.own().skip(1).last().map(SharedAction::id)
+    }
+
+    // Whether nothing is around it.
+    fn is_outermost(&self) -> bool {
+        self.creator.is_none()
     }
 
     /// Its number.
@@ -126,7 +192,7 @@ impl<'s> SharedAction<'s> {
     /// top.commit()?;
     /// # Ok::<(), Error>(())
     /// ```
-    pub fn subaction(&self) -> Result<SharedAction<'_>, Error> {
+    pub fn subaction(&self) -> Result<SharedAction<'_, S>, S::Error> {
         self.begun(&Call::BeginSub(self.id), false)
     }
 
@@ -145,7 +211,7 @@ impl<'s> SharedAction<'s> {
     /// top.abort()?;
     /// # Ok::<(), Error>(())
     /// ```
-    pub fn nested(&self) -> Result<SharedAction<'_>, Error> {
+    pub fn nested(&self) -> Result<SharedAction<'_, S>, S::Error> {
         self.begun(&Call::BeginNested(self.id), true)
     }
 
@@ -165,8 +231,8 @@ impl<'s> SharedAction<'s> {
     /// assert_eq!(second.commit(), Err(Error::Refused(Refusal::Over)));
     /// # Ok::<(), Error>(())
     /// ```
-    pub fn abort_others(&self) -> Result<(), Error> {
-        self.call(&Call::AbortOthers(self.id))?.answer()?.done()
+    pub fn abort_others(&self) -> Result<(), S::Error> {
+        Ok(self.call(&Call::AbortOthers(self.id))?.answer()?.done()?)
     }
 
     /// Commits. After an error it aborts.
@@ -182,8 +248,14 @@ impl<'s> SharedAction<'s> {
     /// shared.topaction()?.commit()?;
     /// # Ok::<(), Error>(())
     /// ```
-    pub fn commit(self) -> Result<(), Error> {
-        self.end(Call::Commit)
+    pub fn commit(self) -> Result<(), S::Error> {
+        let (sharer, is_outermost) = (self.sharer, self.is_outermost());
+        let is_sub = self.topaction().is_some();
+        let entries = self.end(Call::Commit)?;
+        if is_sub {
+            return Ok(());
+        }
+        sharer.acknowledge(entries, is_outermost)
     }
 
     /// Aborts, and returns an error if that fails, which a drop can't.
@@ -200,42 +272,22 @@ impl<'s> SharedAction<'s> {
     /// shared.topaction()?.abort()?;
     /// # Ok::<(), Error>(())
     /// ```
-    pub fn abort(self) -> Result<(), Error> {
-        self.end(Call::Abort)
+    pub fn abort(self) -> Result<(), S::Error> {
+        self.end(Call::Abort).map(drop)
     }
 
-    fn end(self, how: impl FnOnce(ActionId) -> Call) -> Result<(), Error> {
-        self.shared
-            .end(&how(self.id), self.topaction(), self.is_outermost())?;
+    fn end(self, how: impl FnOnce(ActionId) -> Call) -> Result<u64, S::Error> {
+        let (call, topaction) = (how(self.id), self.topaction());
+        let shared = self.sharer.shared()?;
+        let entries = shared.end(&call, topaction, self.is_outermost(), S::COUNT)?;
         // It is over: there is nothing to abort, and nothing in it to drop.
-        mem::forget(self);
-        Ok(())
-    }
-
-    // Whether nothing is around it.
-    pub(crate) fn is_outermost(&self) -> bool {
-        self.creator.is_none()
-    }
-
-    // Whether it is a nested topaction.
-    #[cfg(all(feature = "logged", unix))]
-    pub(crate) fn is_nested(&self) -> bool {
-        self.is_nested
-    }
-
-    // Commits. Returns how many entries the journal has had up to this commit.
-    #[cfg(all(feature = "logged", unix))]
-    pub(crate) fn commit_counted(self) -> Result<u64, Error> {
-        let commit = Call::Commit(self.id);
-        let (reply, entries) = self.shared.call_counted(&commit)?;
-        reply.answer()?.done()?;
         mem::forget(self);
         Ok(entries)
     }
 }
 
-impl Caller for SharedAction<'_> {
-    type Error = Error;
+impl<S: Sharer> Caller for SharedAction<'_, S> {
+    type Error = S::Error;
 
     #[inline]
     fn number(&self) -> ActionId {
@@ -243,19 +295,20 @@ impl Caller for SharedAction<'_> {
     }
 
     #[inline]
-    fn make(&self, call: &Call, object: &impl AsObject) -> Result<Answer, Error> {
+    fn make(&self, call: &Call, object: &impl AsObject) -> Result<Answer, S::Error> {
         let lineage_of = |_| self.lineage();
-        self.shared.answer(call, lineage_of, object)
+        Ok(self.sharer.shared()?.answer(call, lineage_of, object)?)
     }
 
-    fn find(&self, object: &impl AsObject) -> Result<Object, Error> {
-        self.shared.lend(|guardian| found(guardian, object))
+    fn find(&self, object: &impl AsObject) -> Result<Object, S::Error> {
+        let shared = self.sharer.shared()?;
+        Ok(shared.lend(|guardian| found(guardian, object))?)
     }
 }
 
-impl Drop for SharedAction<'_> {
+impl<S: Sharer> Drop for SharedAction<'_, S> {
     fn drop(&mut self) {
-        self.shared.abort_dropped(DroppedAction {
+        self.sharer.kept().abort_dropped(DroppedAction {
             id: self.id,
             topaction: self.topaction(),
             is_outermost: self.is_outermost(),

@@ -4,7 +4,7 @@ use crate::error::Error;
 #[cfg(all(feature = "logged", unix))]
 use crate::log::LoggedError;
 use crate::shared::Shared;
-use crate::shared::action::SharedAction;
+use crate::shared::action::{SharedAction, Sharer};
 use std::hash::{BuildHasher, Hasher, RandomState};
 use std::time::Duration;
 use std::{error, iter, thread};
@@ -150,18 +150,18 @@ impl Shared {
         is_conflict: impl Fn(&E) -> bool,
         mut work: impl FnMut(&SharedAction<'_>) -> Result<T, E>,
     ) -> Result<T, E> {
-        retried(is_conflict, || self.run_once(&mut work))
+        retried(is_conflict, || commit_after(self.topaction()?, &mut work))
     }
+}
 
-    fn run_once<T, E: From<Error>>(
-        &self,
-        work: &mut impl FnMut(&SharedAction<'_>) -> Result<T, E>,
-    ) -> Result<T, E> {
-        let top = self.topaction()?;
-        let result = work(&top)?;
-        top.commit()?;
-        Ok(result)
-    }
+/// The result of the work, carried out as this topaction, which commits then.
+pub(crate) fn commit_after<S: Sharer, T, E: From<S::Error>>(
+    top: SharedAction<'_, S>,
+    work: impl FnOnce(&SharedAction<'_, S>) -> Result<T, E>,
+) -> Result<T, E> {
+    let result = work(&top)?;
+    top.commit()?;
+    Ok(result)
 }
 
 /// The result of the work, which is carried out again while this function says that its error is a conflict, at most

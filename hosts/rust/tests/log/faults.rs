@@ -4,7 +4,7 @@ use crate::bank::{CLIENTS, carry_out, last_of, number};
 use crate::opened_bank::open_bank;
 use crate::scratch::Scratch;
 use argus_guardian::log::{
-    BatchLog, LogFault, LogOptions, Logged, LoggedError, Opening, SqliteLog,
+    BatchLog, JournalLines, LogFault, LogOptions, Logged, LoggedError, SqliteLog,
 };
 use rusqlite::Connection;
 use std::collections::BTreeMap;
@@ -420,8 +420,8 @@ fn an_opening_that_isnt_whole_is_named() {
     ] {
         let made = Made::empty();
         let mut log = SqliteLog::create(&made.path).expect("made");
-        let opening = Opening::new(2, opening.to_owned()).expect("whole lines");
-        log.restart(&opening).expect("written");
+        let opening = JournalLines::new(2, opening.to_owned()).expect("whole lines");
+        log.append(&opening).expect("written");
         drop(log);
         made.refuse(LogFault::OtherReply, words);
     }

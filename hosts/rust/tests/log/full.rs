@@ -7,21 +7,21 @@ use std::fs;
 use std::time::Duration;
 
 fn count(logged: &Logged) -> Result<(), LoggedError> {
-    let record = logged.declare_named("count", "atomic_record[n:int]")?;
-    if logged.base(record)?.is_none() {
+    let record = logged.named("count", "atomic_record[n:int]")?;
+    if logged.base(&record)?.is_none() {
         logged.run(|top| {
-            Ok::<_, LoggedError>(top.alter(record, Change::Create("{0}".parse()?))?.done()?)
+            Ok::<_, LoggedError>(top.alter(&record, Change::Create("{0}".parse()?))?.done()?)
         })?;
     }
     logged.run(|top| {
-        let next = top.get::<i64>(record, 0)? + 1;
-        top.set(record, 0, next)
+        let next = top.get::<i64>(&record, 0)? + 1;
+        top.set(&record, 0, next)
     })
 }
 
 fn base(logged: &Logged) -> i64 {
     let record = logged
-        .declare_named("count", "atomic_record[n:int]")
+        .named("count", "atomic_record[n:int]")
         .expect("found");
     let base = logged
         .base(record)

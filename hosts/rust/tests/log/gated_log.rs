@@ -1,6 +1,6 @@
 //! `GatedLog`: a log in memory, whose writes a test lets through one by one.
 
-use argus_guardian::log::{BatchLog, EntryLines, Failure, Opening};
+use argus_guardian::log::{BatchLog, Failure, JournalLines};
 use std::io;
 use std::sync::mpsc::{Receiver, Sender, channel};
 use std::sync::{Arc, Mutex};
@@ -66,12 +66,14 @@ impl GatedLog {
 }
 
 impl BatchLog for GatedLog {
-    fn append(&mut self, lines: &EntryLines) -> Result<(), Failure> {
-        self.keep(Piece::Lines(lines.text.clone()))
-    }
-
-    fn restart(&mut self, opening: &Opening) -> Result<(), Failure> {
-        self.keep(Piece::Opening(opening.text.clone()))
+    fn append(&mut self, lines: &JournalLines) -> Result<(), Failure> {
+        let is_opening = lines.is_opening();
+        let piece = if is_opening {
+            Piece::Opening
+        } else {
+            Piece::Lines
+        };
+        self.keep(piece(lines.text.clone()))
     }
 }
 

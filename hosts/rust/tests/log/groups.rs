@@ -1,7 +1,7 @@
 //! Commits that wait for a log together, and what they are told when it fails.
 
 use crate::gated_log::{Gate, GatedLog, Piece, Say};
-use argus_guardian::log::{EntryLines, Logged, LoggedAction, LoggedError, Opening};
+use argus_guardian::log::{JournalLines, Logged, LoggedAction, LoggedError};
 use argus_guardian::{Access, Change, Error, Guardian, ObjId, Refusal, Value};
 use std::sync::Arc;
 use std::sync::mpsc::{Receiver, channel};
@@ -13,7 +13,8 @@ const LONG: Duration = Duration::from_secs(60);
 fn logged() -> (Logged, Gate) {
     let (log, gate) = GatedLog::new();
     let guardian = Guardian::new().expect("made");
-    (Logged::over(guardian, Box::new(log), LONG), gate)
+    let logged = Logged::over(guardian, Box::new(log), LONG).expect("made");
+    (logged, gate)
 }
 
 fn lines(text: &[&str]) -> Piece {
@@ -30,13 +31,18 @@ fn until_entries(logged: &Logged, entries: u64) {
 #[test]
 fn lines_are_whole() {
     let text = "7 begin_top -> a3\n8 commit a3 -> done\n";
-    let lines = EntryLines::new(7, text.into()).expect("whole lines");
+    let lines = JournalLines::new(7, text.into()).expect("whole lines");
     assert_eq!((lines.first, lines.next, &lines.text[..]), (7, 9, text));
-    assert_eq!(EntryLines::new(7, "7 begin_top -> a3".into()), None);
+    assert!(!lines.is_opening());
+    assert_eq!(JournalLines::new(7, "7 begin_top -> a3".into()), None);
     let text = "opening entries 4 actions 1\n";
-    let opening = Opening::new(4, text.into()).expect("whole lines");
-    assert_eq!((opening.next, &opening.text[..]), (4, text));
-    assert_eq!(Opening::new(4, "opening".into()), None);
+    let opening = JournalLines::new(4, text.into()).expect("whole lines");
+    assert_eq!(
+        (opening.first, opening.next, &opening.text[..]),
+        (4, 4, text)
+    );
+    assert!(opening.is_opening());
+    assert_eq!(JournalLines::new(4, "opening ".into()), None);
 }
 
 #[test]

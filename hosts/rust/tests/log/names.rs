@@ -12,38 +12,30 @@ fn open(made: &Made) -> Logged {
     Logged::open_or_create(&made.path).expect("opened")
 }
 
+fn named(logged: &Logged, name: &str) -> ObjId {
+    logged.named(name, SHAPE).expect("found or declared").id()
+}
+
 #[test]
 fn they_are_found_again() {
     let made = Made::empty();
     let logged = open(&made);
     let unnamed = logged.declare(SHAPE).expect("declared");
-    let account = logged.declare_named("account", SHAPE).expect("declared");
+    let account = named(&logged, "account");
     assert_ne!(unnamed, account);
-    assert_eq!(
-        logged.declare_named("account", SHAPE).expect("found"),
-        account
-    );
-    let other = logged
-        .declare_named("konto ☃ '\n", SHAPE)
-        .expect("declared");
-    assert_eq!(other, ObjId::numbered(2));
+    assert_eq!(named(&logged, "account"), account);
+    assert_eq!(named(&logged, "konto ☃ '\n"), ObjId::numbered(2));
     let created = logged.run(|top| top.create(account, (5,)));
     created.expect("acknowledged");
     drop(logged);
     for folds in [false, true, false] {
         drop(logged_after(&made, folds));
         let logged = open(&made);
-        let found = logged.declare_named("account", SHAPE).expect("found");
+        let found = named(&logged, "account");
         assert_eq!(found.number(), account.number());
         // It is this guardian's.
         assert_eq!(logged.base(found).expect("told"), "{5}".parse().ok());
-        assert_eq!(
-            logged
-                .declare_named("konto ☃ '\n", SHAPE)
-                .expect("found")
-                .number(),
-            2
-        );
+        assert_eq!(named(&logged, "konto ☃ '\n").number(), 2);
         assert_eq!(logged.objects().expect("told"), 3);
     }
 }
@@ -101,33 +93,27 @@ fn logged_after(made: &Made, folds: bool) -> Logged {
 fn another_shape_is_refused() {
     let made = Made::empty();
     let logged = open(&made);
-    logged.declare_named("account", SHAPE).expect("declared");
+    named(&logged, "account");
     let error = logged
-        .declare_named("account", "atomic_array[int]")
+        .named("account", "atomic_array[int]")
         .expect_err("another shape");
     assert!(
-        matches!(&error, LoggedError::OtherShape(shape) if shape == SHAPE),
+        matches!(&error, LoggedError::Guardian(Error::OtherShape { shape, .. }) if **shape == *SHAPE),
         "{error}"
     );
-    let error = logged
-        .declare_named("list", "atomic_array[")
-        .expect_err("no shape");
+    let error = logged.named("list", "atomic_array[").expect_err("no shape");
     assert!(
         matches!(error, LoggedError::Guardian(Error::BadShape(_))),
         "{error}"
     );
     assert_eq!(logged.objects().expect("told"), 1);
-    logged
-        .declare_named("list", "atomic_array[int]")
-        .expect("declared");
+    logged.named("list", "atomic_array[int]").expect("declared");
 }
 
 #[test]
 fn a_log_that_isnt_in_a_database_keeps_none() {
     let logged = Logged::in_memory().expect("made");
-    let error = logged
-        .declare_named("account", SHAPE)
-        .expect_err("no names");
+    let error = logged.named("account", SHAPE).expect_err("no names");
     assert!(matches!(error, LoggedError::NoNames), "{error}");
     let made = Made::empty();
     let error = logged.backup(&made.path).expect_err("no database");
@@ -143,7 +129,7 @@ fn threads_that_declare_one_at_once_have_the_same() {
     let made = Made::empty();
     let logged = open(&made);
     let found = thread::scope(|scope| {
-        let declare = || logged.declare_named("account", SHAPE).expect("declared");
+        let declare = || named(&logged, "account");
         let threads = [(); 8].map(|()| scope.spawn(declare));
         threads.map(|it| it.join().expect("no panic"))
     });
@@ -159,9 +145,7 @@ fn a_row_that_doesnt_fit_is_named() {
         "UPDATE object SET number = -1",
     ] {
         let made = Made::empty();
-        open(&made)
-            .declare_named("account", SHAPE)
-            .expect("declared");
+        named(&open(&made), "account");
         made.sql(change);
         made.refuse(LogFault::RowChanged, "");
     }

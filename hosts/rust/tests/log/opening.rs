@@ -5,7 +5,7 @@ use crate::faults::{Made, with};
 use crate::opened_bank::{OPTIONS, open_bank};
 use crate::scratch::Scratch;
 use argus_guardian::log::{
-    BatchLog, EntryLines, LogFault, LogOptions, Logged, LoggedError, Opening, SqliteLog,
+    BatchLog, JournalLines, LogFault, LogOptions, Logged, LoggedError, SqliteLog,
 };
 use argus_guardian::{Access, ActionId, Change, Guardian, Listing, ObjId};
 use rusqlite::Connection;
@@ -196,7 +196,7 @@ fn one_whose_numbers_for_actions_are_used_up_goes_on() {
     let made = Made::empty();
     let opening = format!("opening entries 7 actions {}\n", Guardian::MAX_ACTIONS);
     let mut log = SqliteLog::create(&made.path).expect("made");
-    log.restart(&Opening::new(7, opening).expect("a whole line"))
+    log.append(&JournalLines::new(7, opening).expect("a whole line"))
         .expect("written");
     drop(log);
     let logged = open(&made.path);
@@ -218,8 +218,9 @@ fn checkpoints_come_by_themselves() {
     };
     let logged = options.open_or_create(&made.path).expect("opened");
     let record = logged
-        .declare_named("record", "atomic_record[n:int]")
+        .named("record", "atomic_record[n:int]")
         .expect("declared");
+    let record = record.id();
     let create = logged.run(|top| {
         Ok::<_, LoggedError>(top.alter(record, Change::Create("{0}".parse()?))?.done()?)
     });
@@ -255,10 +256,10 @@ fn checkpoints_come_by_themselves() {
     .expect("opened");
     for number in 1..=200 {
         let record = logged
-            .declare_named("record", "atomic_record[n:int]")
+            .named("record", "atomic_record[n:int]")
             .expect("found");
         logged
-            .run(|top| top.set(record, 0, number))
+            .run(|top| top.set(&record, 0, number))
             .expect("acknowledged");
     }
     assert_eq!(logged.counts().checkpoints, 0);
@@ -307,7 +308,7 @@ fn backups_beside_orders() {
 fn lines_that_arent_the_next_ones_break_a_log() {
     let made = Made::empty();
     let mut log = SqliteLog::create(&made.path).expect("made");
-    let lines = |first, text: &str| EntryLines::new(first, text.to_owned()).expect("whole lines");
+    let lines = |first, text: &str| JournalLines::new(first, text.to_owned()).expect("whole lines");
     log.append(&lines(0, "")).expect("nothing");
     log.append(&lines(0, "0 begin_top -> a0\n"))
         .expect("appended");

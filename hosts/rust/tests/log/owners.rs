@@ -1,9 +1,7 @@
 //! What a guardian with a log refuses: ids of other guardians, and a log that waits for its own guardian.
 
 use crate::scratch::Scratch;
-use argus_guardian::log::{
-    BatchLog, EntryLines, Failure, Logged, LoggedAction, LoggedError, Opening,
-};
+use argus_guardian::log::{BatchLog, Failure, JournalLines, Logged, LoggedAction, LoggedError};
 use argus_guardian::{Access, Change, Error, Guardian, ObjId, Query, Value};
 use std::panic::{AssertUnwindSafe, catch_unwind};
 use std::sync::{Arc, OnceLock};
@@ -72,14 +70,10 @@ fn ids_from_before_a_restart_are_of_another_guardian() {
 struct SelfishLog(Arc<OnceLock<Logged>>);
 
 impl BatchLog for SelfishLog {
-    fn append(&mut self, _: &EntryLines) -> Result<(), Failure> {
+    fn append(&mut self, _: &JournalLines) -> Result<(), Failure> {
         let logged = self.0.get().expect("it is set before the first batch");
         let committed = logged.topaction().and_then(LoggedAction::commit);
         panic!("it was told: {committed:?}");
-    }
-
-    fn restart(&mut self, _: &Opening) -> Result<(), Failure> {
-        Ok(())
     }
 }
 
@@ -88,11 +82,11 @@ fn a_log_that_waits_for_its_own_guardian_is_broken() {
     let slot = Arc::new(OnceLock::new());
     let log = Box::new(SelfishLog(Arc::clone(&slot)));
     let guardian = Guardian::new().expect("made");
-    let logged = Logged::over(guardian, log, Duration::ZERO);
+    let logged = Logged::over(guardian, log, Duration::ZERO).expect("made");
     let logged = slot.get_or_init(|| logged);
     let commit = || logged.topaction().expect("begun").commit();
     let panicked = catch_unwind(AssertUnwindSafe(commit)).expect_err("it panics");
-    let words = panicked.downcast_ref::<&str>().expect("words");
+    let words = panicked.downcast_ref::<String>().expect("words");
     assert!(words.contains("waits for its own guardian"), "{words}");
     assert!(logged.broken().is_some());
     let next = logged.topaction().map(|top| top.id());

@@ -162,10 +162,8 @@ fn names_outlive_pythons_checkpoints() {
     by_rust(&made.path, false);
     let declare = || {
         let logged = LogOptions::default().open(&made.path).expect("opened");
-        logged
-            .declare_named("account", SHAPE)
-            .expect("declared")
-            .number()
+        let account = logged.named("account", SHAPE).expect("declared");
+        account.id().number()
     };
     let number = declare();
     if by_python(&made.path, true).is_some() {

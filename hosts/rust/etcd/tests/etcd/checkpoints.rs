@@ -4,7 +4,7 @@
 use crate::cluster::{Cluster, has_etcd};
 use crate::leading::{begins_opening, lead, lines, text_of};
 use crate::proxy::{Proxy, Way};
-use argus_guardian::log::{BatchLog, Opening};
+use argus_guardian::log::{BatchLog, JournalLines};
 use argus_guardian_etcd::{Campaign, EtcdLog, EtcdOptions};
 use std::thread;
 use std::time::Duration;
@@ -13,12 +13,12 @@ const OPENING: &str = "opening entries 3 actions 3\n\
     opening o0 atomic_record[first:int] {5}\n\
     opening o1 atomic_record[second:int] {6}\n";
 
-fn opening() -> Opening {
+fn opening() -> JournalLines {
     opening_of(OPENING)
 }
 
-fn opening_of(text: &str) -> Opening {
-    Opening::new(3, text.to_owned()).expect("whole lines")
+fn opening_of(text: &str) -> JournalLines {
+    JournalLines::new(3, text.to_owned()).expect("whole lines")
 }
 
 // Three batches of an entry.
@@ -50,7 +50,7 @@ fn an_opening_takes_the_place_of_all_before() {
     for (entry, line) in (0..).zip(BEFORE) {
         log.append(&lines(entry, line)).expect("appended");
     }
-    log.restart(&opening()).expect("begun anew");
+    log.append(&opening()).expect("begun anew");
     assert_eq!(
         (text_of(&options).0, batches_in(&cluster, "argus")),
         (OPENING.to_owned(), 3)
@@ -82,13 +82,13 @@ fn a_reader_of_half_an_opening_finds_the_next_one() {
     };
     let mut log = lead(&options, "first");
     log.append(&lines(0, &BEFORE.concat())).expect("appended");
-    log.restart(&opening()).expect("begun anew");
+    log.append(&opening()).expect("begun anew");
     let later = OPENING.replace("{5}", "{7}");
     let (mut text, mut is_later, mut batches) = (String::new(), false, 0);
     let read = EtcdLog::read(&options, |batch| {
         if !is_later {
             // With it, etcd forgets the rest of the opening that is being read.
-            log.restart(&opening_of(&later)).expect("begun anew");
+            log.append(&opening_of(&later)).expect("begun anew");
             is_later = true;
         }
         if begins_opening(batch) {
@@ -143,7 +143,7 @@ fn cut_off(proxy: &Proxy, straight: &EtcdOptions, transactions: i64) {
         log.append(&lines(entry, line)).expect("appended");
     }
     proxy.cut_after(transactions);
-    let restarted = log.restart(&opening());
+    let restarted = log.append(&opening());
     assert_eq!(restarted.is_ok(), transactions == 4, "{restarted:?}");
 }
 
@@ -192,7 +192,7 @@ fn a_beginning_that_comes_late_deletes_no_opening() {
     // Two parts of the opening come, and then what was held up; only then the last part, which moves the head.
     other.cut_after(2);
     thread::scope(|scope| {
-        let restarted = scope.spawn(|| log.restart(&opening()));
+        let restarted = scope.spawn(|| log.append(&opening()));
         other.await_cut();
         late.set(Way::Open);
         thread::sleep(Duration::from_millis(500));

@@ -3,7 +3,7 @@
 use crate::cluster::{Cluster, has_etcd};
 use crate::leading::{lead, lines};
 use crate::proxy::{Proxy, Way};
-use argus_guardian::log::{BatchLog, EntryLines, Logged, LoggedAction, LoggedError, Opening};
+use argus_guardian::log::{BatchLog, JournalLines, Logged, LoggedAction, LoggedError};
 use argus_guardian::{Access, Call, Error, Guardian, Listing, ObjId, Shared};
 use argus_guardian_etcd::{Campaign, EtcdOptions, Follower, Leadership, LogError, Position};
 use std::time::{Duration, Instant};
@@ -241,7 +241,7 @@ fn a_line_that_no_guardian_writes_is_named() {
     }
     let text = "4 begin_top -> a1\n5 ask a1 o0 field 0 -> val 6\n";
     let (key, line, why) = damage_after("lines", |liar, _| {
-        liar.append(&EntryLines::new(4, text.to_owned()).expect("lines"))
+        liar.append(&JournalLines::new(4, text.to_owned()).expect("lines"))
             .expect("appended");
     });
     assert_eq!(key, "argus/batches/00000000000000000001");
@@ -259,7 +259,7 @@ fn an_opening_that_changes_what_objects_hold_is_named() {
     }
     let text = "opening entries 4 actions 1\nopening o0 atomic_record[n:int] {6}\n";
     let (_, _, why) = damage_after("contents", |liar, _| {
-        liar.restart(&Opening::new(4, text.to_owned()).expect("lines"))
+        liar.append(&JournalLines::new(4, text.to_owned()).expect("lines"))
             .expect("begun anew");
     });
     assert_eq!(why, "the opening before it changes what objects hold");
@@ -278,7 +278,7 @@ fn an_opening_that_refers_to_nothing_is_named() {
     let mut near = Follower::begin(&options).expect("made");
     near.catch_up().expect("followed");
     let text = "opening entries 2 actions 1\nopening o0 atomic_record[to:atomic] {@1}\n";
-    liar.restart(&Opening::new(2, text.to_owned()).expect("lines"))
+    liar.append(&JournalLines::new(2, text.to_owned()).expect("lines"))
         .expect("begun anew");
     // Who had read up to there compares it, and others make a guardian of it when they need one.
     let mut far = Follower::begin(&options).expect("made");

@@ -6,13 +6,12 @@ use crate::leading::begins_opening;
 use crate::ledger::Ledger;
 use crate::node::Node;
 use crate::replica::{options, sum_of};
-use argus_guardian::log::{BatchLog, EntryLines, Failure, Logged, Opening};
-use argus_guardian::{Listing, Resumption};
+use argus_guardian::log::Logged;
+use argus_guardian::{Guardian, Listing, Resumption};
 use argus_guardian_etcd::EtcdLog;
 use std::collections::BTreeSet;
-use std::io::{Error, ErrorKind};
-use std::thread;
 use std::time::{Duration, Instant};
+use std::{io, thread};
 
 const LONG: Duration = Duration::from_secs(40);
 
@@ -24,19 +23,6 @@ pub(crate) struct Hosts {
     // What was said before was counted.
     counted: Instant,
     begun: Instant,
-}
-
-/// A log that takes nothing, for guardians that are only read.
-struct ReadOnlyLog;
-
-impl BatchLog for ReadOnlyLog {
-    fn append(&mut self, _: &EntryLines) -> Result<(), Failure> {
-        Err(Error::from(ErrorKind::Unsupported).into())
-    }
-
-    fn restart(&mut self, _: &Opening) -> Result<(), Failure> {
-        Err(Error::from(ErrorKind::Unsupported).into())
-    }
 }
 
 /// Waits until there is one, and fails once that takes too long.
@@ -183,10 +169,11 @@ impl Hosts {
         for (client, number) in orders {
             self.ledger.note(client, number);
         }
-        let bank = self.read_anew();
-        let journal = bank.list(Listing::Journal).expect("listed");
-        let read = BTreeSet::from([(bank.entries(), sum_of(&journal))]);
+        let guardian = self.read_anew();
+        let journal = guardian.list(Listing::Journal).expect("listed");
+        let read = BTreeSet::from([(guardian.entries(), sum_of(&journal))]);
         assert_eq!(*journals, read, "journals differ");
+        let bank = Logged::over(guardian, Box::new(io::sink()), LONG).expect("made");
         self.ledger.check(&bank).expect("told");
         let Ledger {
             acknowledged,
@@ -196,8 +183,8 @@ impl Hosts {
         format!("{acknowledged} orders acknowledged, {standing} stand; 4 journals are the same")
     }
 
-    // The bank, made of the log as it is read now.
-    fn read_anew(&self) -> Logged {
+    // The bank's guardian, made of the log as it is read now.
+    fn read_anew(&self) -> Guardian {
         let mut resumption = Resumption::new().expect("made");
         let endpoints = self
             .cluster
@@ -212,8 +199,7 @@ impl Hosts {
             resumption.take_whole(batch.lines)
         })
         .expect("whole");
-        let guardian = resumption.into_whole().expect("made");
-        Logged::over(guardian, Box::new(ReadOnlyLog), LONG)
+        resumption.into_whole().expect("made")
     }
 }
 

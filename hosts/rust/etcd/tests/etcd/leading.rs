@@ -1,6 +1,6 @@
 //! What tests of a log without a guardian have in common.
 
-use argus_guardian::log::{EntryLines, Failure};
+use argus_guardian::log::{Failure, JournalLines};
 use argus_guardian_etcd::{Batch, Campaign, EtcdError, EtcdLog, EtcdOptions};
 
 /// Leads, and reads the log.
@@ -11,8 +11,8 @@ pub(crate) fn lead(options: &EtcdOptions, name: &str) -> EtcdLog {
     EtcdLog::open(options, leadership, |_| Ok(())).expect("read")
 }
 
-pub(crate) fn lines(first: u64, text: &str) -> EntryLines {
-    EntryLines::new(first, text.to_owned()).expect("whole lines")
+pub(crate) fn lines(first: u64, text: &str) -> JournalLines {
+    JournalLines::new(first, text.to_owned()).expect("whole lines")
 }
 
 /// Whether an opening begins with this batch: what was read before it doesn't count any more.
@@ -34,6 +34,6 @@ pub(crate) fn text_of(options: &EtcdOptions) -> (String, u64) {
 
 /// What etcd has said to a log that is broken.
 pub(crate) fn etcd_error(failure: &Failure) -> &EtcdError {
-    let error = failure.error().get_ref().expect("an error of etcd");
+    let error = failure.get_ref().expect("an error of etcd");
     error.downcast_ref().expect("an error of etcd")
 }

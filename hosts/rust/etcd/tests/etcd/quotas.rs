@@ -2,7 +2,7 @@
 
 use crate::cluster::{Cluster, has_etcd};
 use crate::leading::{etcd_error, lead, lines, text_of};
-use argus_guardian::log::{BatchLog, Failure, Opening};
+use argus_guardian::log::{BatchLog, Failure, JournalLines};
 use argus_guardian_etcd::{EtcdError, EtcdOptions, Maintenance};
 use std::time::Duration;
 
@@ -20,8 +20,8 @@ fn use_up(options: &EtcdOptions) -> Failure {
     let failures = (0..).find_map(|entry| {
         let appended = log.append(&lines(entry, &long_line(entry, 500_000)));
         let opening = format!("opening entries {} actions 0\n", entry + 1);
-        let opening = Opening::new(entry + 1, opening).expect("a whole line");
-        appended.and_then(|()| log.restart(&opening)).err()
+        let opening = JournalLines::new(entry + 1, opening).expect("a whole line");
+        appended.and_then(|()| log.append(&opening)).err()
     });
     failures.expect("the quota is used up")
 }

@@ -2,7 +2,7 @@
 
 use crate::host::{Host, database_in};
 use crate::scratch::Scratch;
-use argus_guardian::log::{BatchLog, EntryLines, LogOptions, Opening, SqliteLog};
+use argus_guardian::log::{BatchLog, JournalLines, LogOptions, SqliteLog};
 use std::path::Path;
 use std::thread;
 use std::time::{Duration, Instant};
@@ -22,10 +22,10 @@ fn until_checkpoint(mut has_come: impl FnMut() -> bool) {
 fn log_after(actions: u32, folder: &Path) {
     let mut log = SqliteLog::create(database_in(folder)).expect("made");
     let line = "0 begin_top -> a0\n".to_owned();
-    log.append(&EntryLines::new(0, line).expect("a whole line"))
+    log.append(&JournalLines::new(0, line).expect("a whole line"))
         .expect("appended");
     let line = format!("opening entries 1 actions {actions}\n");
-    log.restart(&Opening::new(1, line).expect("a whole line"))
+    log.append(&JournalLines::new(1, line).expect("a whole line"))
         .expect("begun anew");
 }
 
