@@ -3,10 +3,7 @@
 use crate::call_reading::call_of;
 use crate::row_fault::{Result, RowFault};
 use crate::setting::Setting;
-use crate::sharing::budgets;
-use crate::telling::{
-    tell_checkpoint, tell_content, tell_effect, tell_number, tell_owner, tell_reply, tell_word,
-};
+use crate::telling::{tell, tell_checkpoint, tell_content, tell_effect, tell_owner, tell_reply};
 use crate::word_reading::{action, first_word, object};
 use argus_guardian::resume_laws::calls_are_well_formed;
 use argus_guardian::{FailStop, Guardian, Resumed, replay_base, replay_for, resume};
@@ -19,16 +16,15 @@ opening entries 9223372036854775807 actions 3
 opening o0 atomic_record[balance:int] {7}
 ";
 
-/// Tells the answer to the row, with each allocation of a question refused in turn if that is asked
-/// for. Calls are never refused memory: that is tried by the rows over the archive (hosts/rows).
+/// Tells the answer to the row. Where memory is tight, each allocation of a question is refused in
+/// turn. Calls are never refused memory: that is tried by the rows over the archive (hosts/rows).
 pub(crate) fn answer_at_last(
     guardian: &mut Guardian,
     setting: Setting,
-    is_tight: bool,
     asked: &str,
     told: &mut String<Room>,
 ) -> Result<()> {
-    for allowed in budgets(is_tight) {
+    for allowed in setting.budgets() {
         told.clear();
         let answered = answer(guardian, setting.allowing(allowed), asked, told);
         setting.lift();
@@ -50,15 +46,16 @@ fn answer(
         "checkpoint" => tell_checkpoint(guardian.checkpoint(), out),
         "last" => {
             *guardian = last(setting)?;
-            tell_word("done", out)
+            tell("done", out)
         }
-        "length" => tell_number(guardian.journal().journal().len(), out),
-        "first_entry" => tell_number(guardian.journal().journal().first_entry(), out),
-        "base" => tell_base(guardian, rest, out),
+        "length" => tell(guardian.journal().journal().len(), out),
+        "first_entry" => tell(guardian.journal().journal().first_entry(), out),
+        "base" => match guardian.base(object(rest)?) {
+            Some(content) => tell_content(content, out),
+            None => tell("undeclared", out),
+        },
         "owner" => tell_owner(owner_of(guardian.journal().journal(), action(rest)?), out),
-        "effect" => tell_effect_of(guardian, setting, rest, out),
-        "replay" => tell_replay(guardian, setting, rest, out),
-        "replay_base" => tell_replay_base(guardian, setting, rest, out),
+        "effect" | "replay" | "replay_base" => answer_question(guardian, setting, word, rest, out),
         _ => answer_call(guardian, setting, asked, out),
     }
 }
@@ -67,6 +64,27 @@ fn last(setting: Setting) -> Result<Guardian> {
     let mut reader = FailStop::new(LAST.as_bytes());
     let Resumed { guardian, .. } = resume(setting.heap, &mut reader)?;
     Ok(guardian)
+}
+
+// What takes memory.
+fn answer_question(
+    guardian: &Guardian,
+    setting: Setting,
+    word: &str,
+    rest: &str,
+    out: &mut String<Room>,
+) -> Result<()> {
+    let journal = guardian.journal().journal();
+    setting.limit();
+    let content = match word {
+        "effect" => return tell_effect(guardian.effect(action(rest)?)?, out),
+        "replay" => {
+            let (a, o) = first_word(rest);
+            replay_for(setting.heap, journal, action(a)?, object(o)?)?
+        }
+        _ => replay_base(setting.heap, journal, object(rest)?)?,
+    };
+    tell_content(&content, out)
 }
 
 fn answer_call(
@@ -79,47 +97,4 @@ fn answer_call(
     calls_are_well_formed(&call);
     let reply = guardian.call(call)?;
     tell_reply(&reply, out)
-}
-
-fn tell_base(guardian: &Guardian, object_word: &str, out: &mut String<Room>) -> Result<()> {
-    match guardian.base(object(object_word)?) {
-        Some(content) => tell_content(content, out),
-        None => tell_word("undeclared", out),
-    }
-}
-
-fn tell_effect_of(
-    guardian: &Guardian,
-    setting: Setting,
-    action_word: &str,
-    out: &mut String<Room>,
-) -> Result<()> {
-    let a = action(action_word)?;
-    setting.limit();
-    tell_effect(guardian.effect(a)?, out)
-}
-
-fn tell_replay(
-    guardian: &Guardian,
-    setting: Setting,
-    words: &str,
-    out: &mut String<Room>,
-) -> Result<()> {
-    let (one, other) = first_word(words);
-    let (a, o) = (action(one)?, object(other)?);
-    setting.limit();
-    let content = replay_for(setting.heap, guardian.journal().journal(), a, o)?;
-    tell_content(&content, out)
-}
-
-fn tell_replay_base(
-    guardian: &Guardian,
-    setting: Setting,
-    object_word: &str,
-    out: &mut String<Room>,
-) -> Result<()> {
-    let o = object(object_word)?;
-    setting.limit();
-    let content = replay_base(setting.heap, guardian.journal().journal(), o)?;
-    tell_content(&content, out)
 }

@@ -1,13 +1,33 @@
-//! The calls of a list, as a row spells them, and their receipts.
+//! The calls of a list, which a seat makes together, and their receipts.
 
 use crate::call_reading::{call_of, reply_of};
-use crate::row_fault::Result;
-use argus_guardian::{CallsMade, Demand, DemandedCall, Receipt};
+use crate::row_fault::{Result, RowFault};
+use crate::setting::Setting;
+use crate::telling::{tell, tell_reply};
+use argus_guardian::{CallsEnd, CallsMade, Demand, DemandedCall, Receipt, Seat, Shared, Sharing};
 use argus_journal::{Call, Reply};
 use argus_values::{Heap, Room};
+use std::sync::Wait;
 
-/// The calls between commas, but for the first ones.
-pub(crate) fn calls_of(heap: Heap, text: &str, made: usize) -> Result<Vec<DemandedCall, Room>> {
+/// Makes the calls between commas, but for the first ones, and adds their receipts.
+pub(crate) fn make_each<N: Sharing, R: Wait + Drop>(
+    rt: &R,
+    setting: Setting,
+    shared: &Shared<N, R>,
+    seat: &mut Seat<N>,
+    text: &str,
+    made: usize,
+    receipts: &mut Vec<Receipt, Room>,
+) -> Result<CallsEnd> {
+    let calls = calls_of(setting.heap, text, made)?;
+    setting.limit();
+    let made = shared.call_each(rt, seat, calls.as_slice());
+    setting.lift();
+    push_receipts(setting.texts, calls.as_slice(), &made, receipts)?;
+    Ok(made.end)
+}
+
+fn calls_of(heap: Heap, text: &str, made: usize) -> Result<Vec<DemandedCall, Room>> {
     let mut calls = Vec::new(heap.room());
     for part in text.split(", ").skip(made) {
         calls.push(demanded_of(heap, part)?)?;
@@ -29,8 +49,7 @@ fn demanded_of(heap: Heap, text: &str) -> Result<DemandedCall> {
     Ok(DemandedCall { call, demand })
 }
 
-/// Adds the receipts of the calls that were made.
-pub(crate) fn push_receipts(
+fn push_receipts(
     heap: Heap,
     calls: &[DemandedCall],
     made: &CallsMade,
@@ -49,4 +68,22 @@ pub(crate) fn receipt_of(heap: Heap, at: u64, call: &Call, reply: &Reply) -> Res
     let call = call.duplicate(heap)?;
     let reply = reply.duplicate(heap)?;
     Ok(Receipt { at, call, reply })
+}
+
+/// Tells the replies to all calls of the row, and why no more were made.
+pub(crate) fn tell_each(
+    receipts: &[Receipt],
+    before: usize,
+    end: CallsEnd,
+    out: &mut String<Room>,
+) -> Result<()> {
+    let end = match end {
+        CallsEnd::OutOfMemory => return Err(RowFault::OutOfMemory),
+        CallsEnd::Unmet => "unmet",
+        CallsEnd::Whole => "whole",
+    };
+    for receipt in receipts.iter().skip(before) {
+        tell_reply(&receipt.reply, out)?;
+    }
+    tell(end, out)
 }

@@ -19,8 +19,7 @@ const OTHER: ActionId = ActionId(2);
 pub(crate) fn are_parts_right(heap: Heap) -> Result<bool> {
     let tree = tree_of(heap)?;
     walk(&tree);
-    let is_exclusive = read_lock_excludes(heap, &tree)? && version_excludes(heap, &tree)?;
-    Ok(is_exclusive && is_passed_on(heap)? && is_entry_copied(heap)? && is_reply_taken())
+    Ok(are_locks_exclusive(heap, &tree)? && is_passed_on(heap)? && are_copied_and_taken(heap)?)
 }
 
 // A topaction with a subaction, and another topaction.
@@ -42,22 +41,18 @@ fn walk(tree: &ActionTree) {
     }
 }
 
-// Whether an object that the other topaction reads may be read, and not written.
-fn read_lock_excludes(heap: Heap, tree: &ActionTree) -> Result<bool> {
-    let mut cell = Cell::new(heap, None);
-    grant(&mut cell, tree, OTHER, false)?;
-    Ok(cell.may_read(tree, SUB) && !cell.may_write(tree, SUB))
+// Whether an object that the other topaction reads may be read, and not written, by the subaction; and
+// one that the subaction writes may be written by it, and not read by others.
+fn are_locks_exclusive(heap: Heap, tree: &ActionTree) -> Result<bool> {
+    let read = locked(heap, tree, OTHER, false)?;
+    let is_shared = read.may_read(tree, SUB) && !read.may_write(tree, SUB);
+    let written = locked(heap, tree, SUB, true)?;
+    Ok(is_shared && written.may_write(tree, SUB) && !written.may_read(tree, OTHER))
 }
 
-// Whether an object that the subaction writes may be written by it, and not read by others.
-fn version_excludes(heap: Heap, tree: &ActionTree) -> Result<bool> {
+// An object with a read lock, or a write lock, in room that is made first.
+fn locked(heap: Heap, tree: &ActionTree, a: ActionId, is_write: bool) -> Result<Cell> {
     let mut cell = Cell::new(heap, None);
-    grant(&mut cell, tree, SUB, true)?;
-    Ok(cell.may_write(tree, SUB) && !cell.may_read(tree, OTHER))
-}
-
-// A read lock, or a write lock, in room that is made first.
-fn grant(cell: &mut Cell, tree: &ActionTree, a: ActionId, is_write: bool) -> Result<()> {
     cell.reserve_grant()?;
     match tree.commit_refusal(a) {
         None if is_write && cell.lawful(tree) && cell.may_write(tree, a) => {
@@ -68,7 +63,7 @@ fn grant(cell: &mut Cell, tree: &ActionTree, a: ActionId, is_write: bool) -> Res
         }
         Some(_) | None => return Err(RowFault::Other),
     }
-    Ok(())
+    Ok(cell)
 }
 
 // Whether the topaction has the one object of the subaction's list, once that is passed on.
@@ -81,19 +76,16 @@ fn is_passed_on(heap: Heap) -> Result<bool> {
     Ok(lists.of(SUB).is_empty() && lists.of(TOP) == [ObjId(5)].as_slice())
 }
 
-fn is_entry_copied(heap: Heap) -> Result<bool> {
+fn are_copied_and_taken(heap: Heap) -> Result<bool> {
     let entry = Entry {
         call: Call::BeginTop,
         reply: Reply::Begun(TOP),
     };
-    Ok(entry.duplicate(heap)? == entry)
-}
-
-fn is_reply_taken() -> bool {
+    let is_copied = entry.duplicate(heap)? == entry;
     let receipt = Receipt {
         at: 0,
         call: Call::BeginTop,
         reply: Reply::Begun(TOP),
     };
-    receipt.into_reply() == Reply::Begun(TOP)
+    Ok(receipt.into_reply() == entry.reply && is_copied)
 }

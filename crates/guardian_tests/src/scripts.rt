@@ -13,16 +13,14 @@ mod telling;
 mod turns;
 mod writing;
 
+use crate::host::Host;
 use crate::row_fault::Result;
 use crate::setting::Setting;
 use crate::test::Test;
 use checking::check_worked;
 use showing::check_shown;
 use std::fs;
-use std::io::Print;
 use std::rt::Files;
-use std::sync::Wait;
-use std::thread::Threads;
 use writing::check_written;
 
 // What is done with the scripts of a file.
@@ -41,10 +39,7 @@ const FILES: [(&str, Kind); 4] = [
 ];
 
 /// Whether the scripts of all files come out as their rows say.
-pub(crate) fn test_scripts<R: Threads + Wait + Files + Print + Alloc + Copy + Drop + Send + Sync>(
-    rt: R,
-    setting: Setting,
-) -> Result<bool> {
+pub(crate) fn test_scripts<R: Host + Files + Alloc>(rt: R, setting: Setting) -> Result<bool> {
     rt.println("scripts:")?;
     let mut wrong = 0u32;
     for (name, kind) in &FILES {
@@ -55,7 +50,7 @@ pub(crate) fn test_scripts<R: Threads + Wait + Files + Print + Alloc + Copy + Dr
 }
 
 // Counts the tests of a file that don't come out as they say.
-fn test_text<R: Threads + Wait + Print + Copy + Drop + Send + Sync>(
+fn test_text<R: Host>(
     rt: R,
     setting: Setting,
     text: &str,
@@ -64,7 +59,7 @@ fn test_text<R: Threads + Wait + Print + Copy + Drop + Send + Sync>(
 ) -> Result<()> {
     for block in text.split("\n\n") {
         if let Some(test) = Test::of_block(block) {
-            rt.print(format_args!("{}: ", test.name))?;
+            print!(rt; "{}: ", test.name)?;
             let told = match check(rt, setting, kind, test) {
                 Ok(()) => "as written",
                 Err(fault) => {
@@ -78,12 +73,7 @@ fn test_text<R: Threads + Wait + Print + Copy + Drop + Send + Sync>(
     Ok(())
 }
 
-fn check<R: Threads + Wait + Print + Copy + Drop + Send + Sync>(
-    rt: R,
-    setting: Setting,
-    kind: Kind,
-    test: Test<'_>,
-) -> Result<()> {
+fn check<R: Host>(rt: R, setting: Setting, kind: Kind, test: Test<'_>) -> Result<()> {
     match kind {
         Kind::Worked => check_worked(rt, setting, test),
         Kind::Written => check_written(&rt, setting, test),

@@ -1,30 +1,31 @@
 //! `Session`: a guardian from its sharing to its settlement, or its drop, which answers rows.
 
 use crate::call_reading::reply_of;
-use crate::calling::{make_call, make_each, push_told};
-use crate::each_call::receipt_of;
+use crate::calling::{make_call, push_told};
+use crate::each_call::{make_each, receipt_of, tell_each};
+use crate::host::Host;
 use crate::row_fault::{Result, RowFault};
 use crate::setting::Setting;
-use crate::sharing::budgets;
-use crate::telling::{tell_checkpoint, tell_content, tell_number, tell_shown, tell_word};
-use crate::waiting::{Meanwhile, Others, WAITING, wait_meanwhile};
+use crate::tally::Tally;
+use crate::telling::{tell, tell_checkpoint, tell_content, tell_shown};
+use crate::test::asked_in;
+use crate::waiting::{WAITING, wait_meanwhile};
 use crate::word_reading::{first_word, object};
 use argus_guardian::{
     Guardian, LookFault, Looker, Parts, Receipt, Seat, SettleFault, Shared, Sharing, Unsettled,
 };
 use argus_values::{Heap, ObjId, Room};
-use std::fmt::Write;
 use std::mem::replace;
 use std::sync::Wait;
-use std::thread::Threads;
 
 /// A guardian that is shared, or was, with its seats and lookers, and the receipts of all calls so
 /// far.
 ///
 /// ```text
 /// let mut session = Session::new(setting, parts);
-/// session.answer_at_last(rt, setting, false, "begin_top", &mut told)?;        // ` a0`
+/// session.play(rt, setting, "begin_top -> a0\nsettle all -> done", &mut tally)?;
 /// ```
+#[derive(Drop)]
 pub(crate) struct Session<N: Sharing, R: Wait + Drop> {
     // Until it is settled or dropped.
     shared: Option<Shared<N, R>>,
@@ -42,102 +43,7 @@ pub(crate) struct Session<N: Sharing, R: Wait + Drop> {
     seen: String<Room>,
 }
 
-// Written by hand, so that dropping a session is one call; a derived `Drop` is expanded at each
-// place.
-impl<N: Sharing, R: Wait + Drop> Drop for Session<N, R> {
-    fn drop(self) {
-        let Session {
-            shared: _,
-            guardian: _,
-            seats: _,
-            left_out: _,
-            lookers: _,
-            receipts: _,
-            named: _,
-            before: _,
-            seen: _,
-        } = self;
-    }
-}
-
-impl<N: Sharing + Send + Sync, R: Threads + Wait + Copy + Drop + Send + Sync> Session<N, R> {
-    /// Tells the answer to the row, with each allocation refused in turn if that is asked for. After
-    /// a refusal lookers see what they saw before, unless a list of calls has made some.
-    pub(crate) fn answer_at_last(
-        &mut self,
-        rt: R,
-        setting: Setting,
-        is_tight: bool,
-        asked: &str,
-        told: &mut String<Room>,
-    ) -> Result<()> {
-        self.seen = sight(setting.texts, &mut self.lookers)?;
-        self.before = self.receipts.len();
-        for allowed in budgets(is_tight) {
-            told.clear();
-            let answered = self.answer(rt, setting.allowing(allowed), asked, told);
-            setting.lift();
-            if !matches!(answered, Err(RowFault::OutOfMemory)) {
-                return answered;
-            }
-            if !self.is_as_before(setting.texts)? {
-                return Err(RowFault::Changed);
-            }
-        }
-        Err(RowFault::NeverAnswered)
-    }
-
-    fn answer(
-        &mut self,
-        rt: R,
-        setting: Setting,
-        asked: &str,
-        out: &mut String<Room>,
-    ) -> Result<()> {
-        let (word, rest) = first_word(asked);
-        match word {
-            "while" => self.wait(rt, setting, rest, out),
-            "look" => look(setting, &mut self.lookers, rest, out),
-            "brief" => self.brief(&rt, setting, rest, out),
-            "refresh" | "checkpoint" => self.publish(&rt, setting, word, out),
-            "forge" | "made" | "drop" | "settle" | "settle_short" => {
-                self.answer_end(setting, word, rest, out)
-            }
-            _ => self.answer_call(&rt, setting, asked, out),
-        }
-    }
-
-    // `commit a3, abort a4: wait 3 CALL`: seat 1 waits, and seat 0 makes the others.
-    fn wait(&mut self, rt: R, setting: Setting, text: &str, out: &mut String<Room>) -> Result<()> {
-        let (others, waiting) = text.split_once(": wait ").unwrap_or((text, ""));
-        let (patience, asked) = first_word(waiting);
-        let patience = patience.parse::<u32>()?;
-        if asked != WAITING {
-            return Err(RowFault::NotSpelled);
-        }
-        let others = Others {
-            heap: setting.heap,
-            text: others,
-        };
-        self.make_meanwhile(rt, patience, others, out)
-    }
-
-    fn make_meanwhile(
-        &mut self,
-        rt: R,
-        patience: u32,
-        others: Others<'_>,
-        out: &mut String<Room>,
-    ) -> Result<()> {
-        let shared = self.shared.as_ref().ok_or(RowFault::NotSpelled)?;
-        let second = self.seats.pop().ok_or(RowFault::NotSpelled)?;
-        let first = self.seats.pop().ok_or(RowFault::NotSpelled)?;
-        let meanwhile = wait_meanwhile(&rt, shared, first, second, patience, others);
-        self.take_back(meanwhile, out)
-    }
-}
-
-impl<N: Sharing, R: Wait + Drop> Session<N, R> {
+impl<N: Sharing + Send + Sync, R: Host> Session<N, R> {
     pub(crate) fn new(setting: Setting, parts: Parts<N, R>) -> Session<N, R> {
         let Parts {
             shared,
@@ -158,111 +64,150 @@ impl<N: Sharing, R: Wait + Drop> Session<N, R> {
         }
     }
 
+    /// Answers the rows between a sharing and its settlement or its drop, and behind it.
+    pub(crate) fn play(
+        &mut self,
+        rt: R,
+        setting: Setting,
+        rows: &str,
+        tally: &mut Tally,
+    ) -> Result<()> {
+        let mut told = String::new(setting.texts.room());
+        for row in rows.lines() {
+            if !row.starts_with('#') {
+                let answered = self.answer_at_last(rt, setting, asked_in(row), &mut told);
+                tally.compare(&rt, row, answered, told.as_str())?;
+            }
+        }
+        Ok(())
+    }
+
+    // Tells the answer to the row. Where memory is tight, each allocation is refused in turn. After a
+    // refusal lookers see what they saw before, unless a list of calls has made some.
+    fn answer_at_last(
+        &mut self,
+        rt: R,
+        setting: Setting,
+        asked: &str,
+        told: &mut String<Room>,
+    ) -> Result<()> {
+        self.seen = sight(setting.texts, &mut self.lookers)?;
+        self.before = self.receipts.len();
+        for allowed in setting.budgets() {
+            told.clear();
+            let answered = self.answer(rt, setting.allowing(allowed), asked, told);
+            setting.lift();
+            if !matches!(answered, Err(RowFault::OutOfMemory)) {
+                return answered;
+            }
+            if !self.is_as_before(setting.texts)? {
+                return Err(RowFault::Changed);
+            }
+        }
+        Err(RowFault::NeverAnswered)
+    }
+
     fn is_as_before(&mut self, texts: Heap) -> Result<bool> {
         let seen = sight(texts, &mut self.lookers)?;
         Ok(seen.as_str() == self.seen.as_str() || self.receipts.len() > self.before)
     }
 
-    // What is pending is published, and the looker sees it.
-    fn brief(
+    fn answer(
         &mut self,
-        rt: &R,
+        rt: R,
         setting: Setting,
-        number: &str,
+        asked: &str,
         out: &mut String<Room>,
     ) -> Result<()> {
-        let number = number.parse::<usize>()?;
-        let looker = self.lookers.get_mut(number).ok_or(RowFault::NotSpelled)?;
-        let shared = self.shared.as_ref().ok_or(RowFault::NotSpelled)?;
-        setting.limit();
-        tell_shown(shared.brief(rt, looker), out)
-    }
-
-    // What is pending is published, or folded by a checkpoint.
-    fn publish(&self, rt: &R, setting: Setting, word: &str, out: &mut String<Room>) -> Result<()> {
-        let shared = self.shared.as_ref().ok_or(RowFault::NotSpelled)?;
-        setting.limit();
-        if word == "checkpoint" {
-            tell_checkpoint(shared.checkpoint(rt), out)
-        } else {
-            tell_shown(shared.refresh(rt), out)
-        }
-    }
-
-    // How a sharing ends, and what comes before that.
-    fn answer_end(
-        &mut self,
-        setting: Setting,
-        word: &str,
-        rest: &str,
-        out: &mut String<Room>,
-    ) -> Result<()> {
+        let (word, rest) = first_word(asked);
         match word {
+            "while" => self.wait(rt, setting, rest, out),
+            "look" => look(setting, &mut self.lookers, rest, out),
+            "brief" | "refresh" | "checkpoint" => self.publish(&rt, setting, word, rest, out),
             "forge" => forge(setting, &mut self.receipts, rest, out),
             "made" => tell_made(self.seats.as_slice(), rest, out),
             "drop" => {
                 self.shared = None;
-                tell_word("done", out)
+                tell("done", out)
             }
+            "settle" => self.settle(setting, rest, out),
             "settle_short" => {
                 self.left_out = self.seats.pop();
                 self.settle(setting, rest, out)
             }
-            _ => self.settle(setting, rest, out),
+            _ => self.call(&rt, setting, asked, out),
         }
     }
 
-    // `seat 1 CALL`, or by seat 0; behind `each` a list of calls.
-    fn answer_call(
+    // `commit a3, abort a4: wait 3 CALL`: seat 1 waits, and seat 0 makes the others.
+    fn wait(&mut self, rt: R, setting: Setting, text: &str, out: &mut String<Room>) -> Result<()> {
+        let (others, waiting) = text.split_once(": wait ").unwrap_or((text, ""));
+        let (patience, asked) = first_word(waiting);
+        let patience = patience.parse::<u32>()?;
+        if asked != WAITING {
+            return Err(RowFault::NotSpelled);
+        }
+        let shared = self.shared.as_ref().ok_or(RowFault::NotSpelled)?;
+        let [first, second] = self.seats.as_mut_slice() else {
+            return Err(RowFault::NotSpelled);
+        };
+        let receipts = &mut self.receipts;
+        let waited = wait_meanwhile(
+            &rt, setting, shared, first, second, patience, others, receipts,
+        );
+        push_told(waited?, receipts, out)
+    }
+
+    // What is pending is published, which the looker of this number sees then; or it is folded.
+    fn publish(
+        &mut self,
+        rt: &R,
+        setting: Setting,
+        word: &str,
+        number: &str,
+        out: &mut String<Room>,
+    ) -> Result<()> {
+        let shared = self.shared.as_ref().ok_or(RowFault::NotSpelled)?;
+        setting.limit();
+        match word {
+            "refresh" => tell_shown(shared.refresh(rt), out),
+            "checkpoint" => tell_checkpoint(shared.checkpoint(rt), out),
+            _ => {
+                let looker = self.lookers.get_mut(number.parse::<usize>()?);
+                tell_shown(shared.brief(rt, looker.ok_or(RowFault::NotSpelled)?), out)
+            }
+        }
+    }
+
+    // `seat 1 CALL`, or by seat 0; behind `each` a list, of which those that weren't made yet are made
+    // together.
+    fn call(
         &mut self,
         rt: &R,
         setting: Setting,
         asked: &str,
         out: &mut String<Room>,
     ) -> Result<()> {
-        let (number, call) = match asked.strip_prefix("seat ") {
+        let (number, text) = match asked.strip_prefix("seat ") {
             Some(rest) => first_word(rest),
             None => ("0", asked),
         };
-        let number = number.parse::<usize>()?;
-        match call.strip_prefix("each ") {
-            Some(list) => self.call_each(rt, setting, number, list, out),
-            None => self.call_once(rt, setting, number, call, out),
-        }
-    }
-
-    fn call_once(
-        &mut self,
-        rt: &R,
-        setting: Setting,
-        number: usize,
-        text: &str,
-        out: &mut String<Room>,
-    ) -> Result<()> {
         let shared = self.shared.as_ref().ok_or(RowFault::NotSpelled)?;
-        let seat = self.seats.get_mut(number).ok_or(RowFault::NotSpelled)?;
-        let receipt = make_call(rt, setting, shared, seat, text)?;
-        push_told(receipt, &mut self.receipts, out)
-    }
-
-    // `CALL, CALL`: those that weren't made yet are made together.
-    fn call_each(
-        &mut self,
-        rt: &R,
-        setting: Setting,
-        number: usize,
-        text: &str,
-        out: &mut String<Room>,
-    ) -> Result<()> {
-        let shared = self.shared.as_ref().ok_or(RowFault::NotSpelled)?;
-        let seat = self.seats.get_mut(number).ok_or(RowFault::NotSpelled)?;
+        let seat = self.seats.get_mut(number.parse::<usize>()?);
+        let seat = seat.ok_or(RowFault::NotSpelled)?;
         let receipts = &mut self.receipts;
-        make_each(rt, setting, shared, seat, receipts, self.before, text, out)
+        let Some(list) = text.strip_prefix("each ") else {
+            let receipt = make_call(rt, setting, shared, seat, text)?;
+            return push_told(receipt, receipts, out);
+        };
+        let made = receipts.len().saturating_sub(self.before);
+        let end = make_each(rt, setting, shared, seat, list, made, receipts)?;
+        tell_each(receipts.as_slice(), self.before, end, out)
     }
 
     // With all receipts, or those of these numbers.
     fn settle(&mut self, setting: Setting, words: &str, out: &mut String<Room>) -> Result<()> {
-        self.named = named(setting.texts, self.receipts.as_slice(), words)?;
+        copy_named(setting.texts, self.receipts.as_slice(), words, &mut self.named)?;
         let shared = self.shared.take().ok_or(RowFault::NotSpelled)?;
         let seats = replace(&mut self.seats, Vec::new(setting.texts.room()));
         setting.limit();
@@ -275,7 +220,7 @@ impl<N: Sharing, R: Wait + Drop> Session<N, R> {
         match settled {
             Ok(guardian) => {
                 self.guardian = guardian;
-                tell_word("done", out)
+                tell("done", out)
             }
             Err(unsettled) => self.keep(unsettled, out),
         }
@@ -298,24 +243,8 @@ impl<N: Sharing, R: Wait + Drop> Session<N, R> {
             SettleFault::NotThere(_)
             | SettleFault::Twice(_)
             | SettleFault::Count { .. }
-            | SettleFault::Folded(_) => Ok(write!(out, " {fault}")?),
+            | SettleFault::Folded(_) => tell(fault, out),
         }
-    }
-
-    fn take_back(&mut self, meanwhile: Meanwhile<N>, out: &mut String<Room>) -> Result<()> {
-        let Meanwhile {
-            ended,
-            mut made,
-            waited,
-            first,
-            second,
-        } = meanwhile;
-        // There was room for both before.
-        let _ = self.seats.push(first);
-        let _ = self.seats.push(second);
-        self.receipts.append(&mut made)?;
-        ended?;
-        push_told(waited?, &mut self.receipts, out)
     }
 }
 
@@ -343,39 +272,6 @@ fn look<N: Sharing>(
     tell_look(looker, setting.heap, objects.as_slice(), out)
 }
 
-// `0 o5`: puts this reply into receipt 0.
-fn forge(
-    setting: Setting,
-    receipts: &mut Vec<Receipt, Room>,
-    text: &str,
-    out: &mut String<Room>,
-) -> Result<()> {
-    let (number, rest) = first_word(text);
-    let number = number.parse::<usize>()?;
-    let receipt = receipts.get_mut(number).ok_or(RowFault::NotSpelled)?;
-    receipt.reply = reply_of(setting.texts, rest)?;
-    tell_word("done", out)
-}
-
-// How many calls the seat made.
-fn tell_made<N: Sharing>(seats: &[Seat<N>], number: &str, out: &mut String<Room>) -> Result<()> {
-    match seats.get(number.parse::<usize>()?) {
-        Some(seat) => tell_number(seat.made(), out),
-        None => Err(RowFault::NotSpelled),
-    }
-}
-
-// Copies of the receipts of these numbers; none for `all`.
-fn named(texts: Heap, receipts: &[Receipt], words: &str) -> Result<Vec<Receipt, Room>> {
-    let mut named = Vec::new(texts.room());
-    for word in words.split(' ') {
-        if word != "all" && !word.is_empty() {
-            named.push(copy_of(texts, receipts.get(word.parse::<usize>()?))?)?;
-        }
-    }
-    Ok(named)
-}
-
 // Adds what the looker finds in these objects.
 fn tell_look<N: Sharing>(
     looker: &mut Looker<N>,
@@ -391,7 +287,7 @@ fn tell_look<N: Sharing>(
             Ok(())
         }
         Err(LookFault::Memory) => Err(RowFault::OutOfMemory),
-        Err(LookFault::Closed) => tell_word("closed", out),
+        Err(LookFault::Closed) => tell("closed", out),
     }
 }
 
@@ -403,7 +299,40 @@ fn objects_of(texts: Heap, text: &str) -> Result<Vec<ObjId, Room>> {
     Ok(objects)
 }
 
-fn copy_of(texts: Heap, receipt: Option<&Receipt>) -> Result<Receipt> {
-    let receipt = receipt.ok_or(RowFault::NotSpelled)?;
-    receipt_of(texts, receipt.at, &receipt.call, &receipt.reply)
+// `0 o5`: puts this reply into receipt 0.
+fn forge(
+    setting: Setting,
+    receipts: &mut Vec<Receipt, Room>,
+    text: &str,
+    out: &mut String<Room>,
+) -> Result<()> {
+    let (number, rest) = first_word(text);
+    let number = number.parse::<usize>()?;
+    let receipt = receipts.get_mut(number).ok_or(RowFault::NotSpelled)?;
+    receipt.reply = reply_of(setting.texts, rest)?;
+    tell("done", out)
+}
+
+// How many calls the seat made.
+fn tell_made<N: Sharing>(seats: &[Seat<N>], number: &str, out: &mut String<Room>) -> Result<()> {
+    let seat = seats.get(number.parse::<usize>()?);
+    tell(seat.ok_or(RowFault::NotSpelled)?.made(), out)
+}
+
+// Replaces the copies by those of the receipts of these numbers; by none for `all`.
+fn copy_named(
+    texts: Heap,
+    receipts: &[Receipt],
+    words: &str,
+    named: &mut Vec<Receipt, Room>,
+) -> Result<()> {
+    named.clear();
+    for word in words.split(' ') {
+        if word != "all" && !word.is_empty() {
+            let receipt = receipts.get(word.parse::<usize>()?);
+            let receipt = receipt.ok_or(RowFault::NotSpelled)?;
+            named.push(receipt_of(texts, receipt.at, &receipt.call, &receipt.reply)?)?;
+        }
+    }
+    Ok(())
 }

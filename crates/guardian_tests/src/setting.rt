@@ -2,6 +2,10 @@
 
 use argus_values::{Budget, Heap};
 use std::alloc::{AllocError, Global};
+use std::ops::Range;
+
+// Nothing here takes this many allocations.
+const MOST: u64 = 10_000;
 
 /// The heaps in which a row is answered, and how many allocations its calls are allowed.
 ///
@@ -19,6 +23,8 @@ pub(crate) struct Setting {
     pub(crate) heap: Heap,
     budget: Budget,
     allowed: u64,
+    // Whether each allocation is refused in turn.
+    is_tight: bool,
 }
 
 impl Setting {
@@ -30,7 +36,26 @@ impl Setting {
             heap: Heap::with_budget(alloc, budget),
             budget,
             allowed: u64::MAX,
+            is_tight: false,
         })
+    }
+
+    /// The same heaps, where each allocation is refused in turn.
+    pub(crate) fn tight(self) -> Setting {
+        Setting {
+            is_tight: true,
+            ..self
+        }
+    }
+
+    /// How many allocations are to be allowed, one after another, until there are enough: any number
+    /// at once; where memory is tight none, one, two and so on.
+    pub(crate) fn budgets(self) -> Range<u64> {
+        if self.is_tight {
+            0..MOST
+        } else {
+            u64::MAX - 1..u64::MAX
+        }
     }
 
     /// The same heaps, with this many allocations.

@@ -3,43 +3,26 @@
 ghost use Rattle.std.specs.Prelude.{◌≡◌};
 ghost use Rattle.argus_guardian.specs.Starting.{StartsWith};
 
+use crate::host::Host;
 use crate::row_fault::{Result, RowFault};
 use crate::setting::Setting;
-use crate::task::{Task, perform};
+use crate::task::Task;
 use argus_guardian::{Guardian, Keeper, NotShared, Shared, Sharing};
-use std::io::Print;
 use std::marker::Brand;
 use std::mem::replace;
-use std::ops::Range;
-use std::sync::Wait;
 use std::sync::ledger::Blank;
-use std::thread::Threads;
 
-// Nothing here takes this many allocations.
-const MOST: u64 = 10_000;
-
-/// How many allocations are allowed, one after another, until there are enough: any number at once,
-/// or none, one, two and so on.
-pub(crate) fn budgets(is_tight: bool) -> Range<u64> {
-    if is_tight {
-        0..MOST
-    } else {
-        u64::MAX - 1..u64::MAX
-    }
-}
-
-/// Shares the guardian among this many seats and lookers for the task. Each allocation of the
-/// sharing is refused in turn, if that is asked for.
-pub(crate) fn share<R: Threads + Wait + Print + Copy + Drop + Send + Sync>(
+/// Shares the guardian among this many seats and lookers for the task. Where memory is tight, each
+/// allocation of the sharing is refused in turn.
+pub(crate) fn share<R: Host>(
     rt: R,
     setting: Setting,
-    is_tight: bool,
     guardian: &mut Guardian,
     seats: u8,
     lookers: u8,
     task: &mut Task<'_>,
 ) -> Result<()> {
-    for allowed in budgets(is_tight) {
+    for allowed in setting.budgets() {
         let setting = setting.allowing(allowed);
         let blank = Blank::new(u64::from(seats));
         let keeper = Keeper::new();
@@ -55,7 +38,7 @@ pub(crate) fn share<R: Threads + Wait + Print + Copy + Drop + Send + Sync>(
 }
 
 // Whether the guardian that was taken is shared. If not, it is put back.
-fn share_as<N: Sharing + Send + Sync, R: Threads + Wait + Print + Copy + Drop + Send + Sync>(
+fn share_as<N: Sharing + Send + Sync, R: Host>(
     rt: R,
     setting: Setting,
     taken: Guardian,
@@ -77,7 +60,7 @@ fn share_as<N: Sharing + Send + Sync, R: Threads + Wait + Print + Copy + Drop + 
     setting.lift();
     match parts {
         Ok(parts) => {
-            perform(rt, parts, task, guardian)?;
+            task.perform(rt, setting, parts, guardian)?;
             Ok(true)
         }
         Err(NotShared { guardian: kept }) => {

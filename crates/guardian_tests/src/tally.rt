@@ -9,7 +9,7 @@ use std::io::Print;
 /// ```text
 /// let mut tally = Tally::new();
 /// tally.compare(&rt, "begin_top -> a0", Ok(()), " a0")?;
-/// assert!(rt; tally.is_content());
+/// assert!(rt; tally.tell(&rt)?);
 /// ```
 #[derive(Clone, Copy)]
 pub(crate) struct Tally {
@@ -48,17 +48,13 @@ impl Tally {
         Ok(())
     }
 
-    /// Reports how many tests and rows there were, and how many wrong answers.
-    pub(crate) fn tell(&self, rt: &impl Print) -> Result<()> {
+    /// Reports how many tests and rows there were. Returns whether every row got the answer that it
+    /// says.
+    pub(crate) fn tell(&self, rt: &impl Print) -> Result<bool> {
         println!(rt;
             "{} tests, {} rows, {} wrong answers",
             self.tests, self.rows, self.wrong
         )?;
-        Ok(())
-    }
-
-    /// Whether every row got the answer that it says.
-    pub(crate) fn is_content(&self) -> bool {
-        self.wrong == 0
+        Ok(self.wrong == 0)
     }
 }

@@ -1,29 +1,14 @@
 //! Answers, as text: each item with a space before it.
 
 use crate::row_fault::{Result, RowFault};
-use argus_actions::ActionId;
 use argus_guardian::CheckpointError;
 use argus_journal::{Owner, Reply, write_reply};
 use argus_values::{Content, ObjId, Room, write_content};
-use std::fmt::Write;
+use std::fmt::{Display, Write};
 
-/// Adds a word.
-pub(crate) fn tell_word(word: &str, out: &mut String<Room>) -> Result<()> {
-    out.push_str(" ")?;
-    out.push_str(word)?;
-    Ok(())
-}
-
-/// Adds a number.
-pub(crate) fn tell_number(number: u64, out: &mut String<Room>) -> Result<()> {
-    write!(out, " {number}")?;
-    Ok(())
-}
-
-/// Adds an action, as `a0`.
-pub(crate) fn tell_action(a: ActionId, out: &mut String<Room>) -> Result<()> {
-    write!(out, " a{}", a.0)?;
-    Ok(())
+/// Adds a word or a number.
+pub(crate) fn tell(item: impl Display + Drop, out: &mut String<Room>) -> Result<()> {
+    Ok(write!(out, " {item}")?)
 }
 
 /// Adds a content, or `absent`.
@@ -33,7 +18,7 @@ pub(crate) fn tell_content(content: &Option<Content>, out: &mut String<Room>) ->
             out.push_str(" ")?;
             Ok(write_content(content, out)?)
         }
-        None => tell_word("absent", out),
+        None => tell("absent", out),
     }
 }
 
@@ -49,9 +34,9 @@ pub(crate) fn tell_checkpoint(
     out: &mut String<Room>,
 ) -> Result<()> {
     match outcome {
-        Ok(()) => tell_word("done", out),
-        Err(CheckpointError::Busy) => tell_word("Busy", out),
-        Err(CheckpointError::Full) => tell_word("Full", out),
+        Ok(()) => tell("done", out),
+        Err(CheckpointError::Busy) => tell("Busy", out),
+        Err(CheckpointError::Full) => tell("Full", out),
         Err(CheckpointError::Memory) => Err(RowFault::OutOfMemory),
     }
 }
@@ -59,7 +44,7 @@ pub(crate) fn tell_checkpoint(
 /// Adds that it is shown; without memory it isn't.
 pub(crate) fn tell_shown(is_shown: bool, out: &mut String<Room>) -> Result<()> {
     if is_shown {
-        tell_word("true", out)
+        tell("true", out)
     } else {
         Err(RowFault::OutOfMemory)
     }
@@ -68,11 +53,11 @@ pub(crate) fn tell_shown(is_shown: bool, out: &mut String<Room>) -> Result<()> {
 /// Adds the owner.
 pub(crate) fn tell_owner(owner: Option<Owner>, out: &mut String<Room>) -> Result<()> {
     match owner {
-        None => tell_word("unbegun", out),
-        Some(Owner::Folded) => tell_word("folded", out),
-        Some(Owner::Gone) => tell_word("gone", out),
-        Some(Owner::Base) => tell_word("base", out),
-        Some(Owner::Held(holder)) => tell_action(holder, out),
+        None => tell("unbegun", out),
+        Some(Owner::Folded) => tell("folded", out),
+        Some(Owner::Gone) => tell("gone", out),
+        Some(Owner::Base) => tell("base", out),
+        Some(Owner::Held(holder)) => Ok(write!(out, " a{}", holder.0)?),
     }
 }
 
@@ -83,10 +68,10 @@ pub(crate) fn tell_effect(
     out: &mut String<Room>,
 ) -> Result<()> {
     let Some(effect) = effect else {
-        return tell_word("none", out);
+        return tell("none", out);
     };
     if effect.is_empty() {
-        return tell_word("nothing", out);
+        return tell("nothing", out);
     }
     for (o, content) in &effect {
         write!(out, " o{}", o.0)?;

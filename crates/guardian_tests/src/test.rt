@@ -1,6 +1,8 @@
 //! `Test`: a test among rows, and the lines of one kind in it.
 
-use argus_values::{Heap, OutOfMemory, Room};
+use crate::row_fault::{Result, RowFault};
+use argus_commands::{Script, parse};
+use argus_values::{Heap, Room};
 
 /// A test among rows. One empty line separates blocks.
 ///
@@ -31,7 +33,7 @@ impl<'a> Test<'a> {
     }
 
     /// The lines that begin with this, without it.
-    pub(crate) fn lines_of(&self, heap: Heap, begin: &str) -> Result<String<Room>, OutOfMemory> {
+    pub(crate) fn lines_of(&self, heap: Heap, begin: &str) -> Result<String<Room>> {
         let mut found = String::new(heap.room());
         for line in self.lines.lines() {
             if let Some(rest) = line.strip_prefix(begin) {
@@ -40,6 +42,15 @@ impl<'a> Test<'a> {
             }
         }
         Ok(found)
+    }
+
+    /// The script whose lines stand behind `| `.
+    pub(crate) fn script(&self, heap: Heap) -> Result<Script> {
+        let text = self.lines_of(heap, "| ")?;
+        match parse(heap, text.as_bytes()) {
+            Ok(script) => Ok(script),
+            Err(_) => Err(RowFault::NotSpelled),
+        }
     }
 }
 

@@ -1,15 +1,17 @@
 //! A call that waits in one thread, and what another thread does meanwhile.
 
 use crate::call_reading::call_of;
-use crate::each_call::{calls_of, push_receipts};
+use crate::each_call::make_each;
+use crate::host::Host;
 use crate::row_fault::{Result, RowFault};
+use crate::setting::Setting;
 use argus_actions::ActionId;
 use argus_guardian::{CallsEnd, Receipt, Seat, Shared, Sharing};
 use argus_journal::{Call, Reply};
-use argus_values::{Change, Heap, ObjId, OutOfMemory, Room, Value};
+use argus_values::{Change, ObjId, OutOfMemory, Room, Value};
 use std::sync::Wait;
 use std::sync::atomic::{AtomicU64, Ordering};
-use std::thread::{Threads, join, yield_now};
+use std::thread::{join, yield_now};
 
 // How often the first thread yields, so that the second one may begin to wait, or wake up.
 const YIELDS: u32 = 1000;
@@ -22,71 +24,45 @@ const BEGUN: u64 = 1;
 
 const ANSWERED: u64 = 2;
 
-/// What the first seat makes while a call of the second one waits: calls between commas, one by one;
-/// `together` and such calls; or `others end`, for topactions that it aborts until that call returns.
-#[derive(Clone, Copy)]
-pub(crate) struct Others<'a> {
-    pub(crate) heap: Heap,
-    pub(crate) text: &'a str,
-}
-
-/// What comes of a call that waits.
-pub(crate) type WaitedFor = std::result::Result<Receipt, OutOfMemory>;
-
-/// What came of a call that waited, and of those that were made meanwhile.
-#[derive(Drop)]
-pub(crate) struct Meanwhile<N: Sharing> {
-    /// Whether all others were made.
-    pub(crate) ended: Result<()>,
-    pub(crate) made: Vec<Receipt, Room>,
-    pub(crate) waited: WaitedFor,
-    pub(crate) first: Seat<N>,
-    pub(crate) second: Seat<N>,
-}
-
 /// Makes the waiting call by the second seat in a thread of its own. When that has begun, the first
-/// seat makes the others.
-pub(crate) fn wait_meanwhile<N: Sharing + Send + Sync, R: Threads + Wait + Drop + Send + Sync>(
+/// seat makes the others, whose receipts are added: calls between commas, one by one; `together` and
+/// such calls; or `others end`, for topactions that it aborts until the waiting call returns.
+pub(crate) fn wait_meanwhile<N: Sharing + Send + Sync, R: Host>(
     rt: &R,
+    setting: Setting,
     shared: &Shared<N, R>,
-    mut first: Seat<N>,
-    second: Seat<N>,
+    first: &mut Seat<N>,
+    second: &mut Seat<N>,
     patience: u32,
-    others: Others<'_>,
-) -> Meanwhile<N> {
+    others: &str,
+    receipts: &mut Vec<Receipt, Room>,
+) -> Result<Receipt> {
     let word = AtomicU64::new(0);
     let state = &word;
-    let ((waited, second), (ended, made, first)) = join(
+    let (waited, made) = join(
         rt,
         move || wait_there(rt, shared, second, patience, state),
         || {
             wait_for(rt, state);
-            let mut made = Vec::new(others.heap.room());
-            let ended = make_others(rt, shared, &mut first, others, state, &mut made);
-            (ended, made, first)
+            make_others(rt, setting, shared, first, others, state, receipts)
         },
     );
-    Meanwhile {
-        ended,
-        made,
-        waited,
-        first,
-        second,
-    }
+    made?;
+    Ok(waited?)
 }
 
 fn wait_there<N: Sharing, R: Wait + Drop>(
     rt: &R,
     shared: &Shared<N, R>,
-    mut seat: Seat<N>,
+    seat: &mut Seat<N>,
     patience: u32,
     state: &AtomicU64,
-) -> (WaitedFor, Seat<N>) {
+) -> std::result::Result<Receipt, OutOfMemory> {
     state.store(BEGUN, Ordering::SeqCst);
     let waiting = Call::Alter(ActionId(2), ObjId(0), Change::SetField(0, Value::Int(1)));
-    let waited = shared.call_waiting(rt, &mut seat, waiting, patience);
+    let waited = shared.call_waiting(rt, seat, waiting, patience);
     state.store(ANSWERED, Ordering::SeqCst);
-    (waited, seat)
+    waited
 }
 
 // Yields until the other thread has begun, and then for some time.
@@ -97,53 +73,40 @@ fn wait_for(rt: &impl Wait, state: &AtomicU64) {
         }
         yield_now();
     }
-    give_way();
+    take_turns(YIELDS);
 }
 
-fn give_way() {
-    for _ in 0..YIELDS {
+/// Yields this many times.
+pub(crate) fn take_turns(turns: u32) {
+    for _turn in 0..turns {
         yield_now();
     }
 }
 
-// What the first seat makes. The receipts are added.
 fn make_others<N: Sharing, R: Wait + Drop>(
     rt: &R,
+    setting: Setting,
     shared: &Shared<N, R>,
     seat: &mut Seat<N>,
-    others: Others<'_>,
+    others: &str,
     state: &AtomicU64,
     receipts: &mut Vec<Receipt, Room>,
 ) -> Result<()> {
-    let Others { heap, text } = others;
-    if let Some(together) = text.strip_prefix("together ") {
-        return make_together(rt, shared, seat, heap, together, receipts);
+    if let Some(together) = others.strip_prefix("together ") {
+        return match make_each(rt, setting, shared, seat, together, 0, receipts)? {
+            CallsEnd::Whole => Ok(()),
+            CallsEnd::Unmet | CallsEnd::OutOfMemory => Err(RowFault::Other),
+        };
     }
-    if text == "others end" {
+    if others == "others end" {
         return stir(rt, shared, seat, state, receipts);
     }
-    for call in text.split(", ") {
-        receipts.push(shared.call(rt, seat, call_of(heap, call)?)?)?;
-        give_way();
+    for call in others.split(", ") {
+        let call = call_of(setting.heap, call)?;
+        receipts.push(shared.call(rt, seat, call)?)?;
+        take_turns(YIELDS);
     }
     Ok(())
-}
-
-fn make_together<N: Sharing, R: Wait + Drop>(
-    rt: &R,
-    shared: &Shared<N, R>,
-    seat: &mut Seat<N>,
-    heap: Heap,
-    text: &str,
-    receipts: &mut Vec<Receipt, Room>,
-) -> Result<()> {
-    let calls = calls_of(heap, text, 0)?;
-    let made = shared.call_each(rt, seat, calls.as_slice());
-    push_receipts(heap, calls.as_slice(), &made, receipts)?;
-    match made.end {
-        CallsEnd::Whole => Ok(()),
-        CallsEnd::Unmet | CallsEnd::OutOfMemory => Err(RowFault::OutOfMemory),
-    }
 }
 
 // Begins topactions and aborts them until the other thread's call returns.

@@ -9,20 +9,14 @@ pub(crate) fn first_word<'a>(text: &'a str) -> (&'a str, &'a str) {
     text.split_once(' ').unwrap_or((text, ""))
 }
 
-// The number after this letter.
-fn number(letter: &str, text: &str) -> Result<u32> {
-    match text.strip_prefix(letter) {
-        Some(digits) => Ok(digits.parse::<u32>()?),
-        None => Err(RowFault::NotSpelled),
-    }
-}
-
 /// An action, as `a0`.
 pub(crate) fn action(text: &str) -> Result<ActionId> {
-    Ok(ActionId(number("a", text)?))
+    let digits = text.strip_prefix("a").ok_or(RowFault::NotSpelled)?;
+    Ok(ActionId(digits.parse::<u32>()?))
 }
 
 /// An object, as `o0`.
 pub(crate) fn object(text: &str) -> Result<ObjId> {
-    Ok(ObjId(number("o", text)?))
+    let digits = text.strip_prefix("o").ok_or(RowFault::NotSpelled)?;
+    Ok(ObjId(digits.parse::<u32>()?))
 }

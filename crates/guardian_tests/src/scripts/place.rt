@@ -8,7 +8,7 @@ use crate::word_reading::first_word;
 /// ```text
 /// let place = Place::of_words("1 0")?;            // Place { arm: 1, step: 0 }
 /// ```
-#[derive(Clone, Copy, PartialEq, Eq)]
+#[derive(Clone, Copy, PartialEq)]
 pub(crate) struct Place {
     pub(crate) arm: u32,
     pub(crate) step: u32,

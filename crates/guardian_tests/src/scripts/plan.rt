@@ -1,12 +1,15 @@
 //! `Plan`: how a script is run, and what comes of it.
 
+use crate::row_fault::Result;
 use crate::setting::Setting;
+use crate::test::Test;
 use argus_commands::Script;
 
 /// How a script is run, and what comes of it.
 ///
 /// ```text
-/// let tight = Plan { setting: plan.setting.allowing(3), is_tight: true, ..plan };
+/// let plan = Plan::of_team(setting, test, &script, "2: 4 2 2", wanted)?;
+/// let tight = Plan { setting: setting.allowing(3), is_tight: true, ..plan };
 /// let run = Run::made(rt, tight, &gate)?;
 /// ```
 #[derive(Clone, Copy)]
@@ -23,4 +26,28 @@ pub(crate) struct Plan<'a> {
     pub(crate) made: &'a str,
     /// The lines that tell what comes of it.
     pub(crate) wanted: &'a str,
+}
+
+impl<'a> Plan<'a> {
+    /// That of a team, as `2: 4 2 2`, or `2 patience 1000: 4 2 2`.
+    pub(crate) fn of_team(
+        setting: Setting,
+        test: Test<'a>,
+        script: &'a Script,
+        team: &'a str,
+        wanted: &'a str,
+    ) -> Result<Plan<'a>> {
+        let (crew, made) = team.split_once(": ").unwrap_or((team, ""));
+        let (workers, patience) = crew.split_once(" patience ").unwrap_or((crew, "0"));
+        Ok(Plan {
+            setting,
+            is_tight: false,
+            lines: test.lines,
+            script,
+            workers: workers.parse::<u8>()?,
+            patience: patience.parse::<u32>()?,
+            made,
+            wanted,
+        })
+    }
 }

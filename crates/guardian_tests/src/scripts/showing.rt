@@ -1,19 +1,15 @@
 //! Receipts written by hand, checked against scripts: what they show is compared, with each allocation
 //! refused in turn before.
 
-use crate::call_reading::{call_of, reply_of};
+use crate::call_reading::read_receipt;
 use crate::row_fault::{Result, RowFault};
 use crate::scripts::telling::{compare, tell_arms};
 use crate::setting::Setting;
 use crate::test::Test;
-use crate::word_reading::first_word;
-use argus_commands::{ArmOutcome, Script, check_run, parse};
+use argus_commands::{ArmOutcome, Script, check_run};
 use argus_guardian::Receipt;
 use argus_values::{Heap, Room};
 use std::io::Print;
-
-// More allocations than any test here makes.
-const MANY: u64 = 1_000;
 
 /// What the test's receipts show has to be what it says.
 pub(crate) fn check_shown(rt: &impl Print, setting: Setting, test: Test<'_>) -> Result<()> {
@@ -24,38 +20,9 @@ pub(crate) fn check_shown(rt: &impl Print, setting: Setting, test: Test<'_>) -> 
 }
 
 fn tell_shown(setting: Setting, test: Test<'_>, told: &mut String<Room>) -> Result<()> {
-    let text = test.lines_of(setting.texts, "| ")?;
-    let Ok(script) = parse(setting.texts, text.as_bytes()) else {
-        return Err(RowFault::NotSpelled);
-    };
+    let script = test.script(setting.texts)?;
     let receipts = receipts_of(setting.texts, test.lines)?;
-    tell_found(setting, &script, receipts.as_slice(), told)
-}
-
-// What the receipts show once no allocation is refused.
-fn tell_found(
-    setting: Setting,
-    script: &Script,
-    receipts: &[Receipt],
-    told: &mut String<Room>,
-) -> Result<()> {
-    for n in 0..MANY {
-        setting.allowing(n).limit();
-        let answer = check_run(setting.heap, script, receipts);
-        setting.lift();
-        if let Ok(found) = answer {
-            return if n > 0 {
-                tell_outcomes(&found, told)
-            } else {
-                Err(RowFault::NeverRefused)
-            };
-        }
-    }
-    Err(RowFault::NeverAnswered)
-}
-
-fn tell_outcomes(found: &Option<Vec<ArmOutcome, Room>>, told: &mut String<Room>) -> Result<()> {
-    match found {
+    match found_at_last(setting, &script, receipts.as_slice())? {
         None => Ok(told.push_str("nothing\n")?),
         Some(outcomes) => tell_arms(outcomes.as_slice(), told),
     }
@@ -72,11 +39,21 @@ fn receipts_of(heap: Heap, lines: &str) -> Result<Vec<Receipt, Room>> {
     Ok(receipts)
 }
 
-fn read_receipt(heap: Heap, line: &str) -> Result<Receipt> {
-    let (number, entry) = first_word(line);
-    let (call, reply) = entry.split_once(" -> ").ok_or(RowFault::NotSpelled)?;
-    let at = number.parse::<u64>()?;
-    let call = call_of(heap, call)?;
-    let reply = reply_of(heap, reply)?;
-    Ok(Receipt { at, call, reply })
+// What the receipts show once no allocation is refused.
+fn found_at_last(
+    setting: Setting,
+    script: &Script,
+    receipts: &[Receipt],
+) -> Result<Option<Vec<ArmOutcome, Room>>> {
+    for n in setting.tight().budgets() {
+        setting.allowing(n).limit();
+        let answer = check_run(setting.heap, script, receipts);
+        setting.lift();
+        match answer {
+            Ok(_) if n == 0 => return Err(RowFault::NeverRefused),
+            Ok(found) => return Ok(found),
+            Err(_) => {}
+        }
+    }
+    Err(RowFault::NeverAnswered)
 }

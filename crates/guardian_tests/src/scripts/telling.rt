@@ -1,12 +1,11 @@
 //! What comes of a run, as a row says it.
 
 use crate::row_fault::{Result, RowFault};
-use crate::telling::{tell_action, tell_number, tell_word};
 use crate::word_reading::first_word;
 use argus_commands::{ArmOutcome, RunFault, RunReport};
-use argus_guardian::{Guardian, Receipt, Seat, Sharing};
+use argus_guardian::{Guardian, Receipt};
 use argus_journal::{Entry, write_entry};
-use argus_values::{Heap, ObjId, Room, write_content};
+use argus_values::{ObjId, Room, write_content};
 use std::fmt::Write;
 use std::io::Print;
 
@@ -22,15 +21,6 @@ pub(crate) fn compare(rt: &impl Print, told: &str, wanted: &str) -> Result<()> {
     Err(RowFault::Other)
 }
 
-/// How many calls each seat made.
-pub(crate) fn told_made<N: Sharing>(heap: Heap, seats: &[Seat<N>]) -> Result<String<Room>> {
-    let mut out = String::new(heap.room());
-    for seat in seats {
-        tell_number(seat.made(), &mut out)?;
-    }
-    Ok(out)
-}
-
 /// Each call with its reply, in script order, and what became of each arm; or the fault. Then the
 /// bases. A line each.
 pub(crate) fn tell_run(
@@ -39,29 +29,15 @@ pub(crate) fn tell_run(
     out: &mut String<Room>,
 ) -> Result<()> {
     match report {
-        Ok(report) => tell_report(report, out)?,
+        Ok(report) => {
+            for receipt in report.receipts.as_slice() {
+                tell_receipt(receipt, out)?;
+            }
+            tell_arms(report.outcomes.as_slice(), out)?;
+        }
         Err(fault) => writeln!(out, "{fault}")?,
     }
     tell_bases(guardian, out)
-}
-
-// The bases of the objects that have one.
-fn tell_bases(guardian: &Guardian, out: &mut String<Room>) -> Result<()> {
-    out.push_str("bases")?;
-    for number in 0..guardian.objects() {
-        if let Some(Some(base)) = guardian.base(ObjId(number)) {
-            write!(out, " o{number} ")?;
-            write_content(base, out)?;
-        }
-    }
-    Ok(out.push_str("\n")?)
-}
-
-fn tell_report(report: &RunReport, out: &mut String<Room>) -> Result<()> {
-    for receipt in report.receipts.as_slice() {
-        tell_receipt(receipt, out)?;
-    }
-    tell_arms(report.outcomes.as_slice(), out)
 }
 
 fn tell_receipt(receipt: &Receipt, out: &mut String<Room>) -> Result<()> {
@@ -81,12 +57,24 @@ fn tell_receipt(receipt: &Receipt, out: &mut String<Room>) -> Result<()> {
 /// The arms: of each its coenter, its number, its action, and how it ended.
 pub(crate) fn tell_arms(outcomes: &[ArmOutcome], out: &mut String<Room>) -> Result<()> {
     for outcome in outcomes {
-        write!(out, "arm {} {}", outcome.coenter, outcome.arm)?;
+        write!(out, "arm {} {} ", outcome.coenter, outcome.arm)?;
         match outcome.action {
-            Some(action) => tell_action(action, out)?,
-            None => tell_word("none", out)?,
+            Some(action) => write!(out, "a{}", action.0)?,
+            None => out.push_str("none")?,
         }
         writeln!(out, " {:?}", outcome.ended)?;
     }
     Ok(())
+}
+
+// The bases of the objects that have one.
+fn tell_bases(guardian: &Guardian, out: &mut String<Room>) -> Result<()> {
+    out.push_str("bases")?;
+    for number in 0..guardian.objects() {
+        if let Some(Some(base)) = guardian.base(ObjId(number)) {
+            write!(out, " o{number} ")?;
+            write_content(base, out)?;
+        }
+    }
+    Ok(out.push_str("\n")?)
 }

@@ -4,6 +4,7 @@ use crate::row_fault::Result;
 use crate::scripts::hold::Hold;
 use crate::scripts::place::Place;
 use crate::setting::Setting;
+use crate::waiting::take_turns;
 use crate::word_reading::first_word;
 use argus_commands::Gate;
 use argus_values::{Heap, Room};
@@ -61,12 +62,6 @@ impl Turns {
         }
     }
 
-    fn note(&self, here: Place) {
-        if let Some(steps) = self.come.get(here.arm as usize) {
-            steps.store(u64::from(here.step).saturating_add(1), Ordering::SeqCst);
-        }
-    }
-
     fn wait(&self, here: Place) {
         for hold in self.holds.as_slice() {
             match *hold {
@@ -79,19 +74,14 @@ impl Turns {
 
     fn hold_up(&self, other: Place) {
         for _turn in 0..MOST {
-            if self.has_come(other) {
+            if let Some(steps) = self.come.get(other.arm as usize)
+                && steps.load(Ordering::SeqCst) > u64::from(other.step)
+            {
                 return;
             }
             yield_now();
         }
         self.given_up.store(1, Ordering::SeqCst);
-    }
-
-    fn has_come(&self, place: Place) -> bool {
-        match self.come.get(place.arm as usize) {
-            Some(steps) => steps.load(Ordering::SeqCst) > u64::from(place.step),
-            None => false,
-        }
     }
 }
 
@@ -99,7 +89,9 @@ impl Gate for Turns {
     fn pass(&self, arm: u32, step: u32) {
         let here = Place { arm, step };
         self.ration(here);
-        self.note(here);
+        if let Some(steps) = self.come.get(arm as usize) {
+            steps.store(u64::from(step).saturating_add(1), Ordering::SeqCst);
+        }
         self.wait(here);
     }
 }
@@ -123,10 +115,4 @@ fn no_steps(heap: Heap) -> Result<Vec<AtomicU64, Room>> {
         come.push(AtomicU64::new(0))?;
     }
     Ok(come)
-}
-
-fn take_turns(turns: u32) {
-    for _turn in 0..turns {
-        yield_now();
-    }
 }

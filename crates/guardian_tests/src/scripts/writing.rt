@@ -8,34 +8,32 @@ use crate::scripts::standing::guardian_after;
 use crate::scripts::telling::compare;
 use crate::setting::Setting;
 use crate::test::Test;
-use argus_commands::{FailStop, RunFault, Script, parse, run_serial};
+use argus_commands::{FailStop, RunFault, Script, run_serial};
 use std::io::Print;
 use std::str::from_utf8;
-
-// More allocations than any run here makes.
-const MANY: u64 = 2_000;
 
 /// What a run on the test's guardian writes has to be what the test says; where memory is refused,
 /// the front of it. A large test is run only with ample memory.
 pub(crate) fn check_written(rt: &impl Print, setting: Setting, test: Test<'_>) -> Result<()> {
-    let text = test.lines_of(setting.texts, "| ")?;
-    let Ok(script) = parse(setting.texts, text.as_bytes()) else {
-        return Err(RowFault::NotSpelled);
-    };
+    let script = test.script(setting.texts)?;
     let wanted = test.lines_of(setting.texts, "= ")?;
-    run_at_last(rt, setting, test, &script, wanted.as_str())
+    let setting = if test.is_large {
+        setting
+    } else {
+        setting.tight()
+    };
+    run_at_last(rt, setting, test.lines, &script, wanted.as_str())
 }
 
 fn run_at_last(
     rt: &impl Print,
     setting: Setting,
-    test: Test<'_>,
+    lines: &str,
     script: &Script,
     wanted: &str,
 ) -> Result<()> {
-    let first = if test.is_large { MANY - 1 } else { 0 };
-    for n in first..MANY {
-        if run_once(rt, setting.allowing(n), test.lines, script, wanted)? {
+    for allowed in setting.budgets() {
+        if run_once(rt, setting.allowing(allowed), lines, script, wanted)? {
             return Ok(());
         }
     }
