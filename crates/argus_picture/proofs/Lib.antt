@@ -1,5 +1,2 @@
 pub mod ReadLines
 pub mod Openings
-pub mod Agreeing
-pub mod Numbered
-pub mod Escapes

@@ -48,23 +48,21 @@ pub record IsTooLarge (listing : List ℕ) (fault : ListingFault) : Type 0 where
   pub more : MAX_BYTES < length listing
   pub is : fault ≡ record { line = 1; kind = kind.TooLong }
 
--- the text isn't too long, and the fault is at this line: the lines before it, `front`, are a
--- listing's, which has come to this place; the fault's number counts lines from 1; `behind` are the
--- parts after the line
-pub record IsAt (fault : ListingFault) (at : Place) (line : List ℕ) (behind : List (List ℕ))
-    (text : List ℕ) : Type 0 where
+-- the text isn't too long, and `rest` are its parts from the line with this number on: the lines
+-- before it, `front`, are a listing's, which has come to this place; lines are counted from 1
+pub record IsAt (line : ℕ) (at : Place) (rest : List (List ℕ)) (text : List ℕ) : Type 0 where
   pub most : length text ≤ MAX_BYTES
   pub front : List (List ℕ)
-  pub number : fault.line ≡ length front + 1
+  pub number : line ≡ length front + 1
   pub leads : Leads start front at
-  pub is : parts text ≡ front ++ line ∷ behind
+  pub is : parts text ≡ front ++ rest
 
 -- the listing isn't too long, and after its lines come bytes without a line feed
 pub record IsTorn (listing : List ℕ) (fault : ListingFault) : Type 0 where
   pub line : List ℕ
   pub place : Place
   pub some : line ≢ []
-  pub at : IsAt fault place line [] listing
+  pub at : IsAt fault.line place (line ∷ []) listing
   pub is : fault.kind ≡ kind.Torn
 
 -- the listing isn't too long, and the fault is at its first whole line that can't come next
@@ -73,7 +71,7 @@ pub record IsFaultyLine (listing : List ℕ) (fault : ListingFault) : Type 0 whe
   pub place : Place
   pub behind : List (List ℕ)
   pub whole : behind ≢ []
-  pub at : IsAt fault place line behind listing
+  pub at : IsAt fault.line place (line ∷ behind) listing
   pub says : SaysOf fault.kind place line
 
 -- what an error says about a listing; `OutOfMemory` says nothing

@@ -1,5 +1,5 @@
 -- Where the parts of a picture are, in pixels from its upper left corner.
-use Rattle.std.specs.Prelude.{if◌then◌else◌, max, nat_lt, ℕ, ◌+◌, ◌*◌}
+use Rattle.std.specs.Prelude.{if◌then◌else◌, max, min, nat_lt, ℕ, ◌+◌, ◌*◌, ◌/◌}
 use Rattle.argus_picture.specs.{declared.entry_spacing.EntrySpacing.EntrySpacing, declared.frame.Frame.Frame}
 use Rattle.argus_picture.specs.declared.entry_spacing.EntrySpacing.TheVariants.{Wide, Middle, Narrow}
 
@@ -42,9 +42,7 @@ table_line frame line = lane_top frame frame.lanes + 28 + 16 * line
 -- how many lines the table has for this many commits: five are in a line, and behind twenty there
 -- is one for how many more there are
 abbrev pub lines_for : ℕ → ℕ
-lines_for commits =
-    if nat_lt commits 1 then 0 else if nat_lt commits 6 then 1 else if nat_lt commits 11 then 2
-    else if nat_lt commits 16 then 3 else if nat_lt commits 21 then 4 else 5
+lines_for commits = (min commits 21 + 4) / 5
 
 -- the width of the picture
 abbrev pub width_of : Frame → ℕ

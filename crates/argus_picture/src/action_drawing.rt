@@ -1,8 +1,8 @@
 //! Draws the actions of a picture: their bars, the lines between bars, and the refused calls.
 
 use crate::action::Action;
-use crate::frame::{BAR, Frame, bar_top, entry_left};
-use crate::life::{Life, life_of, life_within};
+use crate::frame::{BAR, bar_top, entry_left};
+use crate::life::{life_of, life_within};
 use crate::limits::MAX_ROWS;
 use crate::pen::Pen;
 use crate::refused_call::RefusedCall;
@@ -39,23 +39,19 @@ fn draw_bars(pen: &mut Pen, run: &Run<'_>) {
     let mut number = u64::from(run.first_action);
     for action in &run.actions {
         if let Some(row) = action.row {
-            draw_bar(pen, action, life_drawn(run, action), row, number);
+            draw_bar(pen, run, action, row, number);
         }
         number = number.saturating_add(1);
     }
 }
 
-// The part of the action's life that is drawn: what lies within its parent's life.
-fn life_drawn(run: &Run<'_>, action: &Action<'_>) -> Life {
-    let life = life_of(action.begin, action.end, run.entries);
-    match run.action(action.parent) {
-        Some(parent) => life_within(life, life_of(parent.begin, parent.end, run.entries)),
-        None => life,
+// Draws the action's bar, within its parent's, with the sign at its end. The title has its first
+// line and its last.
+fn draw_bar(pen: &mut Pen, run: &Run<'_>, action: &Action<'_>, row: u32, number: u64) {
+    let mut life = life_of(action.begin, action.end, run.entries);
+    if let Some(parent) = run.action(action.parent) {
+        life = life_within(life, life_of(parent.begin, parent.end, run.entries));
     }
-}
-
-// Draws the action's bar with the sign at its end. The title has its first line and its last.
-fn draw_bar(pen: &mut Pen, action: &Action<'_>, life: Life, row: u32, number: u64) {
     let x = entry_left(&pen.frame, life.begin);
     let y = bar_top(&pen.frame, row);
     let end = entry_left(&pen.frame, life.end);
@@ -78,18 +74,23 @@ fn draw_bar(pen: &mut Pen, action: &Action<'_>, life: Life, row: u32, number: u6
     pen.put("</g>\n");
 }
 
-// Draws each refused call as a diamond, on its caller's bar, or above all bars if it has none. The
-// name of the refusal is written below if the name before it in the row leaves room. Otherwise
-// only the title has it.
+// Draws each refused call as a diamond, on its caller's bar, or above all bars if it has none, and
+// a line to the bar of the holder whose lock was in the way. The name of the refusal is written
+// below if the name before it in the row leaves room. Otherwise only the title has it.
 fn draw_refused(pen: &mut Pen, run: &Run<'_>) {
     let mut taken = [0u64; MAX_ROWS + 1];
     for call in &run.refused {
         let row = run.row(call.caller);
         let x = entry_left(&pen.frame, call.at);
-        let y = top_of(&pen.frame, row);
+        let y = match row {
+            Some(row) => bar_top(&pen.frame, row),
+            None => 82,
+        };
         open_refused(pen, run, call);
         if let (Some(_), Some(holder)) = (row, run.row(call.holder)) {
-            draw_against(pen, x, y, holder);
+            let to = bar_top(&pen.frame, holder).saturating_add(7);
+            pen.line("against", x, y.saturating_add(7), "V", to);
+            pen.circle("holder", x, to, 4);
         }
         pen.path("mark", x, y.saturating_add(1), "l6 6l-6 6l-6 -6z");
         if let Some(until) = taken.get_mut(row.unwrap_or(MAX_ROWS as u32) as usize) {
@@ -102,28 +103,10 @@ fn draw_refused(pen: &mut Pen, run: &Run<'_>) {
     }
 }
 
-// The top of the row's bars; without a row, of the place above all bars.
-fn top_of(frame: &Frame, row: Option<u32>) -> u64 {
-    match row {
-        Some(row) => bar_top(frame, row),
-        None => 82,
-    }
-}
-
 // How many pixels the name of the refusal takes.
 fn width_of_why(call: &RefusedCall<'_>) -> u64 {
-    let letters = (call.why().len() as u64).min(1000);
-    6 * letters + 10
-}
-
-// Whether the next refused call in the row leaves room for the object's name, too. That name isn't
-// known yet, and is taken to have ten letters.
-fn has_room_for_name(frame: &Frame, call: &RefusedCall<'_>) -> bool {
-    let Some(next) = call.next else {
-        return true;
-    };
-    let room = entry_left(frame, next).saturating_sub(entry_left(frame, call.at));
-    room >= width_of_why(call).saturating_add(66)
+    let letters = call.why().len() as u64;
+    letters.saturating_mul(6).saturating_add(10)
 }
 
 // Begins the call's group. The title says which object it is about, and whose lock was in the way.
@@ -146,21 +129,19 @@ fn open_refused(pen: &mut Pen, run: &Run<'_>, call: &RefusedCall<'_>) {
     pen.put("</title>");
 }
 
-// Writes why the call was refused; of a conflict also over which object, if there is room.
+// Writes why the call was refused; of a conflict also over which object, if the next refused call
+// in the row leaves room. The object's name isn't known yet, and is taken to have ten letters.
 fn draw_why(pen: &mut Pen, call: &RefusedCall<'_>, x: u64, y: u64) {
     pen.text("small refusal", x.saturating_sub(4), y.saturating_add(24));
     pen.put_escaped(call.why());
-    let is_named = call.is_conflict && has_room_for_name(&pen.frame, call);
+    let room = match call.next {
+        Some(next) => entry_left(&pen.frame, next).saturating_sub(x),
+        None => u64::MAX,
+    };
+    let is_named = call.is_conflict && room >= width_of_why(call).saturating_add(66);
     if let (Some(asked), true) = (call.asked, is_named) {
         pen.put(" ");
         pen.put_name(asked.object);
     }
     pen.put("</text>");
-}
-
-// Draws the line from a refused call to the bar of the holder whose lock was in the way.
-fn draw_against(pen: &mut Pen, x: u64, y: u64, holder: u32) {
-    let to = bar_top(&pen.frame, holder).saturating_add(7);
-    pen.line("against", x, y.saturating_add(7), "V", to);
-    pen.circle("holder", x, to, 4);
 }

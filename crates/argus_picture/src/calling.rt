@@ -54,6 +54,10 @@ impl Run<'_> {
             (Some(_), Some(row)) => first_free(&self.live.rows, (row as usize).saturating_add(1)),
             (Some(_), None) => None,
         };
+        match row {
+            Some(row) => self.rows = self.rows.max(row.saturating_add(1)),
+            None => self.without_row = self.without_row.saturating_add(1),
+        }
         self.live.add_action()?;
         self.actions.push(Action {
             creator,
@@ -93,18 +97,18 @@ impl Run<'_> {
 
     // Records the change of a call that makes one.
     fn take_change(&mut self, call: Call) -> Result<(), OutOfMemory> {
-        let Call::Alter(action, object, change) = call else {
-            return Ok(());
-        };
-        match self.live_place(action) {
-            Some(place) => self.note_change(place, object.0, change),
-            None => Ok(()),
+        if let Call::Alter(action, object, change) = call
+            && let Some(place) = self.live_place(action)
+            && let Some(drawn) = self.objects.get_mut(object.0 as usize)
+        {
+            drawn.writes.push((place, change))?;
         }
+        Ok(())
     }
 
     // Applies a commit, an abort, an access or a test that was not refused, up to its change. The
     // action must be live, and the object declared. An action has got the lock of a test only with
-    // the answer `flag true`.
+    // the answer `flag true`. An access is recorded if its object has a lane.
     fn take_answered(&mut self, call: &Call, answer: &Answer) -> Result<(), CallError> {
         let place = self.live_caller(call).ok_or(CallError::Unlawful)?;
         if !may_have(call, answer) {
@@ -123,8 +127,13 @@ impl Run<'_> {
         if !is_test || *answer == Answer::Flag(true) {
             self.take_lock(place, asked)?;
         }
-        if !is_test {
-            self.note_access(place, asked)?;
+        if !is_test && asked.object < MAX_LANES {
+            self.accesses.push(Access {
+                at: self.entries,
+                line: self.line,
+                action: place,
+                asked,
+            })?;
         }
         Ok(())
     }
@@ -134,20 +143,8 @@ impl Run<'_> {
         self.live_place(caller(call)?)
     }
 
-    // Records an access of an object that has a lane.
-    fn note_access(&mut self, action: usize, asked: LockAsked) -> Result<(), OutOfMemory> {
-        if asked.object < MAX_LANES {
-            self.accesses.push(Access {
-                at: self.entries,
-                line: self.line,
-                action,
-                asked,
-            })?;
-        }
-        Ok(())
-    }
-
-    // Records a refused call: its caller, and after a `Conflict` the first holder in the way.
+    // Records a refused call: its caller, and after a `Conflict` the first holder in the way. The
+    // last refused call in the caller's row is told that the next one comes now.
     fn take_refused(&mut self, call: &Call, refusal: Refusal) -> Result<(), OutOfMemory> {
         let (asked, caller) = (lock_asked(call), self.live_caller(call));
         let is_conflict = refusal == Refusal::Conflict;
@@ -155,7 +152,13 @@ impl Run<'_> {
             (Some(asked), Some(place)) if is_conflict => self.holder_against(place, asked),
             (Some(_), _) | (None, _) => None,
         };
-        self.note_next_refused(caller);
+        let row = self.row(caller).unwrap_or(MAX_ROWS as u32) as usize;
+        if let Some(last) = self.live.refused.get_mut(row)
+            && let Some(before) = replace(last, Some(self.refused.len()))
+            && let Some(call) = self.refused.get_mut(before)
+        {
+            call.next = Some(self.entries);
+        }
         self.refused.push(RefusedCall {
             at: self.entries,
             line: self.line,
@@ -166,17 +169,6 @@ impl Run<'_> {
             next: None,
         })?;
         Ok(())
-    }
-
-    // Notes at the last refused call in the caller's row that the next one comes now.
-    fn note_next_refused(&mut self, caller: Option<usize>) {
-        let row = self.row(caller).unwrap_or(MAX_ROWS as u32) as usize;
-        if let Some(last) = self.live.refused.get_mut(row)
-            && let Some(before) = replace(last, Some(self.refused.len()))
-            && let Some(call) = self.refused.get_mut(before)
-        {
-            call.next = Some(self.entries);
-        }
     }
 }
 

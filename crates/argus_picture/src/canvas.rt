@@ -82,7 +82,7 @@ impl Canvas {
     }
 }
 
-// Appends the text of the stretch, and the label of its object.
+// Appends the text of the stretch, and its object's name, or `o` and its number if it has no name.
 fn append_stretch(
     stretch: &Stretch,
     names: &[&str],
@@ -92,17 +92,9 @@ fn append_stretch(
         ++ stretch_text (map (λ name. name.now) names.now) stretch.now) }
 {
     out.push_str(stretch.text.as_str())?;
-    append_label(stretch.object, names, out)
-}
-
-// Appends the object's name, or `o` and its number if it has no name.
-fn append_label(object: u32, names: &[&str], out: &mut String<Room>) -> Result<(), OutOfMemory>
-    ensures { OnOk result (string_bytes out.new ≡ string_bytes out.old
-        ++ label_of (map (λ name. name.now) names.now) object) }
-{
-    match names.get(object as usize) {
+    match names.get(stretch.object as usize) {
         Some(name) => append_escaped(*name, out),
-        None => append_number(object, out),
+        None => append_number(stretch.object, out),
     }
 }
 

@@ -19,7 +19,7 @@ use crate::picture_error::PictureError;
 use crate::sketch::{Sketch, sketch_listing};
 use argus_language::limits::MAX_SCRIPT_BYTES;
 use argus_language::{ParseError, Script, parse};
-use argus_memory::{Heap, OutOfMemory};
+use argus_memory::Heap;
 use argus_streams::{FailStop, InputError, read_up_to, write_whole};
 use std::io::{Read, Write};
 
@@ -53,9 +53,8 @@ pub fn draw<R: Read + Drop, W: Write + Drop>(
     ensures unwritten { IfErr result (λ e. e ≢ DrawError.Write → writer.new ≡ writer.old) }
 {
     let sketch = read_sketch(heap, reader)?;
-    let text = match sketch.text(heap) {
-        Ok(text) => text,
-        Err(OutOfMemory) => return Err(DrawError::OutOfMemory),
+    let Ok(text) = sketch.text(heap) else {
+        return Err(DrawError::OutOfMemory);
     };
     match write_whole(writer, text.as_bytes()) {
         Ok(()) => Ok(()),

@@ -1,5 +1,6 @@
 //! How actions commit and are aborted, and how locks are got and released.
 
+use crate::action::Action;
 use crate::call_error::CallError;
 use crate::fate::Fate;
 use crate::held_lock::HeldLock;
@@ -54,16 +55,17 @@ impl<'a> Run<'a> {
             return Ok(at);
         }
         let at = self.holds.len();
-        self.live.add_lock()?;
+        self.live.locks.add_place()?;
+        self.live.holders.add_place()?;
         self.holds.push(lock)?;
         Ok(at)
     }
 
-    /// Releases the lock at index `at`.
-    pub(crate) fn release(&mut self, at: usize) -> Result<(), OutOfMemory> {
+    // Releases the lock at index `at`, and says whose it was.
+    fn release(&mut self, at: usize) -> Result<Option<(usize, LockAsked)>, OutOfMemory> {
         let entries = self.entries;
         let Some(hold) = self.holds.get_mut(at) else {
-            return Ok(());
+            return Ok(None);
         };
         hold.end = Some(entries);
         let (action, asked, strip) = (hold.action, hold.asked, hold.strip);
@@ -77,7 +79,7 @@ impl<'a> Run<'a> {
         if asked.object >= MAX_LANES {
             self.live.spare.push(at)?;
         }
-        Ok(())
+        Ok(Some((action, asked)))
     }
 
     /// Commits the action. Its locks go to its parent; if it has none, they are released.
@@ -100,13 +102,12 @@ impl<'a> Run<'a> {
     // Ends the lock at index `at`: the parent gets it. Without a parent it is released, and what
     // the action wrote becomes the object's base.
     fn pass_on(&mut self, at: usize, parent: Option<usize>) -> Result<(), CallError> {
-        let Some(hold) = self.holds.get(at).copied() else {
+        let Some((action, asked)) = self.release(at)? else {
             return Ok(());
         };
-        self.release(at)?;
         match parent {
-            Some(parent) => Ok(self.take_lock(parent, hold.asked)?),
-            None if hold.asked.writes => self.settle(hold.action, hold.asked.object),
+            Some(parent) => Ok(self.take_lock(parent, asked)?),
+            None if asked.writes => self.settle(action, asked.object),
             None => Ok(()),
         }
     }
@@ -131,13 +132,14 @@ impl<'a> Run<'a> {
     }
 
     /// Aborts the action, or with `others` all its live siblings; each with its subactions, theirs,
-    /// and so on.
+    /// and so on. They are the doomed ones: all have their fate before any loses its locks.
     pub(crate) fn abort(&mut self, place: usize, others: bool) -> Result<(), OutOfMemory> {
         let mut doomed = Vec::new(self.heap.room());
         if others {
             self.doom_siblings(place, &mut doomed)?;
         } else {
-            self.doom(place, Fate::AbortedAlone, &mut doomed)?;
+            doomed.push(place)?;
+            self.end(place, Fate::AbortedAlone);
         }
         self.doom_below(&mut doomed)?;
         for place in doomed.iter() {
@@ -146,21 +148,15 @@ impl<'a> Run<'a> {
         Ok(())
     }
 
-    // Gives the action this fate, and adds it to the doomed ones, which are being aborted.
-    fn doom(&mut self, place: usize, fate: Fate, doomed: &mut Places) -> Result<(), OutOfMemory> {
-        doomed.push(place)?;
-        self.end(place, fate);
-        Ok(())
-    }
-
     // Dooms the live actions that the same action began.
     fn doom_siblings(&mut self, place: usize, doomed: &mut Places) -> Result<(), OutOfMemory> {
-        let Some(creator) = self.action(Some(place)).and_then(|action| action.creator) else {
+        let Some(Action { creator: Some(creator), .. }) = self.action(Some(place)) else {
             return Ok(());
         };
         for sibling in self.live.begun.places(self.heap, creator)? {
             if sibling != place {
-                self.doom(sibling, Fate::AbortedBySibling, doomed)?;
+                doomed.push(sibling)?;
+                self.end(sibling, Fate::AbortedBySibling);
             }
         }
         Ok(())
@@ -184,38 +180,19 @@ impl<'a> Run<'a> {
     fn doom_each(&mut self, places: Places, doomed: &mut Places) -> Result<(), OutOfMemory> {
         for place in places {
             if self.parent(place).is_some() {
-                self.doom(place, Fate::AbortedWithAncestor, doomed)?;
+                doomed.push(place)?;
+                self.end(place, Fate::AbortedWithAncestor);
             }
         }
         Ok(())
     }
 
-    // Releases the locks of the doomed action, and undoes what was changed under them.
+    // Releases the locks of the doomed action.
     fn discard(&mut self, place: usize) -> Result<(), OutOfMemory> {
         for at in self.live.locks.places(self.heap, place)? {
             self.release(at)?;
-            self.undo_at(at);
         }
         Ok(())
-    }
-
-    // Drops the last changes of the lock's object, as far as they were made by aborted actions.
-    fn undo_at(&mut self, at: usize) {
-        let Some(hold) = self.holds.get(at) else {
-            return;
-        };
-        let Some(drawn) = self.objects.get_mut(hold.asked.object as usize) else {
-            return;
-        };
-        for _ in 0..drawn.writes.len() {
-            let Some((action, _)) = drawn.writes.last() else {
-                return;
-            };
-            match self.actions.get(*action) {
-                Some(action) if action.fate.is_aborted() => drawn.writes.pop(),
-                Some(_) | None => return,
-            };
-        }
     }
 }
 

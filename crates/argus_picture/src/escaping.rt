@@ -15,8 +15,7 @@ use argus_memory::{OutOfMemory, Room};
 pub(crate) fn append_escaped(text: &str, out: &mut String<Room>) -> Result<(), OutOfMemory>
     ensures { OnOk result (string_bytes out.new ≡ string_bytes out.old ++ escaped text.now) }
 {
-    let mut rest = text.chars();
-    while let Some(character) = rest.next() {
+    for character in text.chars() {
         append_character(character, out)?;
     }
     Ok(())

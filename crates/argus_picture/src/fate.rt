@@ -33,12 +33,4 @@ impl Fate {
             Fate::AbortedBySibling => Some(("cross", "m4 2l-8 5l8 5")),
         }
     }
-
-    /// Whether the action was aborted.
-    pub(crate) fn is_aborted(self) -> bool {
-        match self {
-            Fate::Live | Fate::Committed => false,
-            Fate::AbortedAlone | Fate::AbortedWithAncestor | Fate::AbortedBySibling => true,
-        }
-    }
 }

@@ -46,7 +46,7 @@ pub(crate) fn bar_top(frame: &Frame, row: u32) -> u64
     132 + 30 * u64::from(row)
 }
 
-/// The top of this lane.
+/// The top of this lane; behind the last one, where the lanes end.
 pub(crate) fn lane_at(frame: &Frame, lane: u32) -> u64
     ensures place { result ≡ lane_top frame.now lane }
     ensures apart { result + LANE < lane_top frame.now (lane + 1) }
@@ -64,20 +64,13 @@ pub(crate) fn order_at(frame: &Frame) -> u64
     134 + 30 * u64::from(frame.rows)
 }
 
-/// Where the lanes end, which are above the serial order's table.
-pub(crate) fn lanes_end(frame: &Frame) -> u64
-    ensures { result ≡ lane_top frame.now frame.now.lanes }
-{
-    lane_at(frame, frame.lanes)
-}
-
 /// The base line of the texts in this line of the serial order's table.
 pub(crate) fn table_at(frame: &Frame, line: u32) -> u64
     ensures place { result ≡ table_line frame.now line }
     ensures below { lane_top frame.now frame.now.lanes < result }
     ensures within { line < frame.now.lines → result < height_of frame.now }
 {
-    lanes_end(frame) + 28 + 16 * u64::from(line)
+    lane_at(frame, frame.lanes) + 28 + 16 * u64::from(line)
 }
 
 /// How many lines the table has for this many commits: five are in a line, and behind twenty there
@@ -85,14 +78,7 @@ pub(crate) fn table_at(frame: &Frame, line: u32) -> u64
 pub(crate) fn lines_of_table(commits: usize) -> u32
     ensures { result ≡ lines_for commits }
 {
-    match commits {
-        0 => 0,
-        1..=5 => 1,
-        6..=10 => 2,
-        11..=15 => 3,
-        16..=20 => 4,
-        _ => 5,
-    }
+    ((commits.min(21) + 4) / 5) as u32
 }
 
 /// The width of the picture.

@@ -50,12 +50,6 @@ impl Live {
         self.merged.add_list()?;
         self.merged.add_place()
     }
-
-    /// Makes room for one more lock.
-    pub(crate) fn add_lock(&mut self) -> Result<(), OutOfMemory> {
-        self.locks.add_place()?;
-        self.holders.add_place()
-    }
 }
 
 /// The first place from this one on that isn't taken.

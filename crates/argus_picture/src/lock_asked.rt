@@ -10,8 +10,7 @@ pub(crate) struct LockAsked {
 /// The lock of an action as a key, by which it is found: each lock that an action of a picture may
 /// have has another one.
 pub(crate) fn lock_key(action: usize, asked: LockAsked) -> u64 {
-    let locks = if asked.writes { 1 } else { 0 };
     (action as u64)
         .saturating_mul(131_072)
-        .saturating_add(2 * u64::from(asked.object) + locks)
+        .saturating_add(2 * u64::from(asked.object) + u64::from(asked.writes))
 }

@@ -1,6 +1,6 @@
 //! Compares the objects that a script declares with those of a journal.
 
-ghost use Rattle.std.specs.Prelude.{IfNone, IfOk, IfSome, IsTrue, List, map, ◌++◌, ◌↔◌, ◌≡◌};
+ghost use Rattle.std.specs.Prelude.{IfNone, IfOk, IfSome, List, map, ◌++◌, ◌≡◌};
 ghost use Rattle.argus_contents.specs.Shape.{PlainShape};
 ghost use Rattle.argus_picture.specs.Naming.{IsNamesFault};
 
@@ -15,29 +15,23 @@ pub(crate) fn names_fault(there: &[Shape], named: &[Shape]) -> Option<NamesFault
     ensures none { IfNone result ((more : List PlainShape) × (there.now ≡ named.now ++ more)) }
     ensures some { IfSome result (IsNamesFault there.now named.now) }
 {
-    let mut object = 0;
-    while object < named.len() {
+    for object in 0..named.len() {
+        let shape = &named[object];
         if object >= there.len() {
-            return Some(fault_at(object, NamesFaultKind::NotDeclared));
+            return Some(NamesFault {
+                object,
+                kind: NamesFaultKind::NotDeclared,
+            });
         }
-        if !are_same(&there[object], &named[object]) {
-            return Some(fault_at(object, NamesFaultKind::OtherShape));
+        let is_same = there[object] == *shape;
+        if !is_same {
+            return Some(NamesFault {
+                object,
+                kind: NamesFaultKind::OtherShape,
+            });
         }
-        object += 1;
     }
     None
-}
-
-fn are_same(there: &Shape, named: &Shape) -> bool
-    ensures { IsTrue result ↔ (there.now ≡ named.now) }
-{
-    *there == *named
-}
-
-fn fault_at(object: usize, kind: NamesFaultKind) -> NamesFault
-    ensures { result ≡ record { object = object; kind = kind } }
-{
-    NamesFault { object, kind }
 }
 
 /// The names as string slices.

@@ -1,7 +1,7 @@
 //! `Object`: a declared object and its base.
 
 ghost use Rattle.std.specs.Prelude.{◌≡◌, true};
-ghost use Rattle.argus_contents.specs.Content.{KeepsBounds, KeepsLimits, plain_option};
+ghost use Rattle.argus_contents.specs.Content.{KeepsLimits, plain_option};
 
 use crate::call_error::CallError;
 use crate::limits::MAX_STRIPS;
@@ -21,7 +21,7 @@ pub(crate) struct Object<'a> {
     /// change leaves what fits.
     pub is_fitting: bool,
     /// The changes that aren't in the base, in the order in which they were made, each behind its
-    /// action. Some of those that were undone may still be there.
+    /// action. Those that were undone stay until the next commit that changes the base.
     pub writes: Vec<(usize, Change), Room>,
     /// In which strips of its lane a lock is held.
     pub strips: [bool; MAX_STRIPS],
@@ -37,7 +37,12 @@ impl Object<'_> {
         declared: u32,
         change: &Change,
     ) -> Result<(), CallError> {
-        self.is_fitting = self.is_fitting || base_fits(&self.shape, &self.base, declared);
+        if !self.is_fitting {
+            self.is_fitting = match &self.base {
+                None => true,
+                Some(content) => fits(&self.shape, declared, content),
+            };
+        }
         if !self.is_fitting
             || !change_fits(&self.shape, declared, change)
             || !keeps_limits(&self.base)
@@ -49,27 +54,14 @@ impl Object<'_> {
     }
 }
 
-// Whether the base fits the shape.
-fn base_fits(shape: &Shape, base: &Option<Content>, declared: u32) -> bool {
-    match base {
-        None => true,
-        Some(content) => fits(shape, declared, content),
-    }
-}
-
 // Whether the base keeps the limits of an array, if it is one. A base that fits does.
 fn keeps_limits(base: &Option<Content>) -> bool
     ensures { result ≡ true → KeepsLimits (plain_option base.now) }
 {
-    match base {
-        Some(Content::Arr { low, items }) => keeps_bounds(*low, items.len()),
-        Some(Content::Rec(_)) | Some(Content::Var { .. }) | None => true,
-    }
-}
-
-fn keeps_bounds(low: i64, size: usize) -> bool
-    ensures { result ≡ true → KeepsBounds low size }
-{
+    let Some(Content::Arr { low, items }) = base else {
+        return true;
+    };
+    let (low, size) = (*low, items.len());
     if size > MAX_ITEMS || low < MIN_BOUND || low > MAX_BOUND {
         return false;
     }

@@ -105,7 +105,7 @@ fn draw_access(pen: &mut Pen, run: &Run<'_>, access: &Access<'_>) {
         pen.put(" writes ");
         pen.put_name(lane);
         pen.put(before);
-        if !fate.is_aborted() {
+        if matches!(fate, Fate::Live | Fate::Committed) {
             pen.put_action(run.number(owner));
         }
         pen.put(behind);

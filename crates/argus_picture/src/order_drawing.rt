@@ -88,7 +88,7 @@ fn draw_cell(pen: &mut Pen, run: &Run<'_>, place: usize, at: usize) {
     pen.put_number((at as u64).saturating_add(1));
     pen.put(": ");
     pen.put_action(run.number(place));
-    if let Some(end) = run.action(Some(place)).and_then(|action| action.end) {
+    if let Some(Action { end: Some(end), .. }) = run.action(Some(place)) {
         pen.put(" at entry ");
         pen.put_number(run.first_entry.saturating_add(u64::from(end)));
     }

@@ -158,22 +158,18 @@ impl Pen {
 
     /// Writes the number of an action, if these pixels are enough. Its class is in two parts.
     pub(crate) fn action(&mut self, class: [&str; 2], x: u64, y: u64, number: u64, room: u64) {
-        if room >= room_for(number) {
+        let least = match number {
+            0..=9 => 24,
+            10..=99 => 31,
+            100..=9_999 => 45,
+            _ => 90,
+        };
+        if room >= least {
             self.begin("<text class=\"", class);
             self.place(x, y);
             self.put(">a");
             self.put_number(number);
             self.put("</text>");
         }
-    }
-}
-
-// How many pixels the number of an action takes.
-fn room_for(number: u64) -> u64 {
-    match number {
-        0..=9 => 24,
-        10..=99 => 31,
-        100..=9_999 => 45,
-        _ => 90,
     }
 }

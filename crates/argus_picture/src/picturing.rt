@@ -6,7 +6,7 @@ ghost use Rattle.argus_picture.specs.{Faults.SaysOfListing, Listing.IsListing};
 use crate::action_drawing::draw_actions;
 use crate::canvas::Canvas;
 use crate::entry_spacing::EntrySpacing;
-use crate::frame::{Frame, entry_left, height, lanes_end, lines_of_table, width};
+use crate::frame::{Frame, entry_left, height, lane_at, lines_of_table, width};
 use crate::legend::{LEGEND, LOOKS};
 use crate::limits::{MAX_LANES, TALL};
 use crate::object_drawing::draw_objects;
@@ -34,9 +34,16 @@ pub fn picture(heap: Heap, listing: &[u8]) -> Result<String<Room>, PictureError>
     Ok(sketch.text(heap)?)
 }
 
-/// Draws the run.
+/// Draws the run. The frame has room for all rows and lanes.
 pub(crate) fn draw_run(heap: Heap, run: &Run<'_>) -> Result<Canvas, OutOfMemory> {
-    let mut pen = Pen::new(heap, frame_of(run));
+    let frame = Frame {
+        step: EntrySpacing::for_entries(run.entries),
+        entries: run.entries,
+        rows: run.rows,
+        lanes: run.objects.len().min(MAX_LANES as usize) as u32,
+        lines: lines_of_table(run.serial.len()),
+    };
+    let mut pen = Pen::new(heap, frame);
     draw_page(&mut pen, run);
     draw_actions(&mut pen, run);
     draw_order(&mut pen, run);
@@ -45,23 +52,6 @@ pub(crate) fn draw_run(heap: Heap, run: &Run<'_>) -> Result<Canvas, OutOfMemory>
     draw_counts(&mut pen, run);
     pen.put("</svg>\n");
     pen.finish()
-}
-
-// The frame, which has room for all rows and lanes.
-fn frame_of(run: &Run<'_>) -> Frame {
-    let mut rows = 0u32;
-    for action in &run.actions {
-        if let Some(row) = action.row {
-            rows = rows.max(row.saturating_add(1));
-        }
-    }
-    Frame {
-        step: EntrySpacing::for_entries(run.entries),
-        entries: run.entries,
-        rows,
-        lanes: run.objects.len().min(MAX_LANES as usize) as u32,
-        lines: lines_of_table(run.serial.len()),
-    }
 }
 
 // Draws the style sheet, the legend, and the numbers of entries.
@@ -86,7 +76,7 @@ fn draw_page(pen: &mut Pen, run: &Run<'_>) {
 // Draws the numbers of entries, each with a line from top to bottom; in a tall picture also at the
 // bottom.
 fn draw_axis(pen: &mut Pen, run: &Run<'_>) {
-    let bottom = lanes_end(&pen.frame).saturating_add(6);
+    let bottom = lane_at(&pen.frame, pen.frame.lanes).saturating_add(6);
     let tick = pen.frame.step.tick();
     for entry in 0..run.entries {
         if entry % tick == 0 {
@@ -110,20 +100,15 @@ fn draw_number(pen: &mut Pen, number: u64, x: u64, y: u64) {
 
 // Writes how many entries, actions and objects there are, and how many found no room.
 fn draw_counts(pen: &mut Pen, run: &Run<'_>) {
-    let no_row = run
-        .actions
-        .iter()
-        .filter(|action| action.row.is_none())
-        .count();
     let no_lane = run.objects.len().saturating_sub(pen.frame.lanes as usize);
     let line = height(&pen.frame).saturating_sub(14);
     pen.text("small", 14, line);
     pen.put_count(run.entries as usize, " entry, ", " entries, ");
     pen.put_count(run.actions.len(), " action, ", " actions, ");
     pen.put_count(run.objects.len(), " object. ", " objects. ");
-    if no_row > 0 || run.without_strip > 0 || no_lane > 0 {
+    if run.without_row > 0 || run.without_strip > 0 || no_lane > 0 {
         pen.put("Without room, and not drawn: ");
-        pen.put_count(no_row, " action, ", " actions, ");
+        pen.put_count(run.without_row, " action, ", " actions, ");
         pen.put_count(no_lane, " object, ", " objects, ");
         pen.put_count(run.without_strip, " lock. ", " locks. ");
     }

@@ -1,10 +1,8 @@
 //! Reads a listing line by line, up to the first faulty line.
 
 ghost use Rattle.std.specs.{List.position, Prelude.{◌≡◌}};
-ghost use Rattle.std.specs.Prelude.{IfErr, IfNone, IfOk, IfSome, OnOk, [], length, ◌<◌, ◌==◌, ◌∷◌};
-ghost use Rattle.argus_picture.specs.Faults.{SaysOfLine, SaysOfListing, error_at};
-ghost use Rattle.argus_picture.specs.{Listing.{IsListing, Takes, parts}, RunPlace.place_of};
-ghost use Rattle.argus_picture.specs.declared.picture_error.PictureError.TheVariants as error;
+ghost use Rattle.std.specs.Prelude.{IfErr, IfNone, IfOk, IfSome, [], length, ◌<◌, ◌==◌, ◌∷◌};
+ghost use Rattle.argus_picture.specs.{Faults.{SaysOfListing, error_at}, Listing.{IsListing, parts}};
 
 use crate::limits::MAX_BYTES;
 use crate::line_error::LineError;
@@ -13,7 +11,6 @@ use crate::listing_fault_kind::ListingFaultKind;
 use crate::picture_error::PictureError;
 use crate::run::Run;
 use argus_memory::Heap;
-use std::str::from_utf8;
 
 /// The run that the lines describe, or the first faulty line.
 pub(crate) fn read_run<'a>(heap: Heap, listing: &'a [u8]) -> Result<Run<'a>, PictureError>
@@ -21,21 +18,20 @@ pub(crate) fn read_run<'a>(heap: Heap, listing: &'a [u8]) -> Result<Run<'a>, Pic
     ensures fault { IfErr result (λ e. SaysOfListing e listing.now) }
 {
     if listing.len() > MAX_BYTES {
-        return Err(fault_at(1, ListingFaultKind::TooLong));
+        return Err(error_at(1, LineError::Fault(ListingFaultKind::TooLong)));
     }
     let mut run = Run::new(heap);
     let mut rest = listing;
     let mut line = 1;
     while let Some((text, behind)) = first_line(rest) {
-        match run.take_bytes(text) {
-            Ok(()) => {}
-            Err(error) => return Err(error_at(line, error)),
+        if let Err(error) = run.take(text) {
+            return Err(error_at(line, error));
         }
         rest = behind;
         line += 1;
     }
     if rest.len() > 0 {
-        return Err(fault_at(line, ListingFaultKind::Torn));
+        return Err(error_at(line, LineError::Fault(ListingFaultKind::Torn)));
     }
     Ok(run)
 }
@@ -46,14 +42,8 @@ fn error_at(line: u64, error: LineError) -> PictureError
 {
     match error {
         LineError::OutOfMemory => PictureError::OutOfMemory,
-        LineError::Fault(kind) => fault_at(line, kind),
+        LineError::Fault(kind) => PictureError::Fault(ListingFault { line, kind }),
     }
-}
-
-fn fault_at(line: u64, kind: ListingFaultKind) -> PictureError
-    ensures { result ≡ error.Fault (record { line = line; kind = kind }) }
-{
-    PictureError::Fault(ListingFault { line, kind })
 }
 
 // The first line, and what comes after its line feed. `None` if there is no line feed.
@@ -73,19 +63,4 @@ fn first_feed(text: &[u8]) -> Option<usize>
     ensures { result ≡ position (λ b. b == 10) text.now }
 {
     text.iter().position(|byte| *byte == b'\n')
-}
-
-impl<'a> Run<'a> {
-    // Takes a whole line, without its line feed.
-    fn take_bytes(&mut self, line: &'a [u8]) -> Result<(), LineError>
-        ensures line { OnOk result (Takes (place_of self.old) (place_of self.new) line.now) }
-        ensures fault { IfErr result (λ e. SaysOfLine e (place_of self.old) line.now) }
-    {
-        match from_utf8(line) {
-            Ok(text) => self.take(text),
-            Err(error) => Err(LineError::Fault(ListingFaultKind::NoText {
-                at: error.valid_up_to(),
-            })),
-        }
-    }
 }

@@ -1,7 +1,5 @@
 //! Replays the changes of a run, to find what commits leave in the objects' bases.
 
-ghost use Rattle.std.specs.Prelude.{if◌then◌else◌, nat_lt, ◌≡◌};
-
 use crate::beginning::beginning_of;
 use crate::call_error::CallError;
 use crate::fate::Fate;
@@ -13,19 +11,6 @@ use argus_memory::OutOfMemory;
 use std::mem::replace;
 
 impl Run<'_> {
-    /// Records a change that the action made.
-    pub(crate) fn note_change(
-        &mut self,
-        action: usize,
-        object: u32,
-        change: Change,
-    ) -> Result<(), OutOfMemory> {
-        if let Some(drawn) = self.objects.get_mut(object as usize) {
-            drawn.writes.push((action, change))?;
-        }
-        Ok(())
-    }
-
     /// Applies the changes that the action has made, or got, to the object's base, and records the
     /// commit.
     pub(crate) fn settle(&mut self, place: usize, object: u32) -> Result<(), CallError> {
@@ -70,7 +55,12 @@ impl Run<'_> {
         if lane >= MAX_LANES {
             return Ok(());
         }
-        let base = beginning_of(self.heap, &drawn.base, title_letters(self.entries))?;
+        let letters = if self.entries < 512 {
+            MAX_TITLE_LETTERS
+        } else {
+            MAX_LATE_TITLE_LETTERS
+        };
+        let base = beginning_of(self.heap, &drawn.base, letters)?;
         self.settlings.push(Settling {
             lane,
             at: self.entries,
@@ -79,15 +69,5 @@ impl Run<'_> {
             base,
         })?;
         Ok(())
-    }
-}
-
-// How many letters of a content the title of a commit has, which is at this entry.
-fn title_letters(entry: u32) -> usize
-    ensures { result ≡ (if nat_lt entry 512 then 500 else 100) }
-{
-    match entry {
-        0..=511 => MAX_TITLE_LETTERS,
-        _ => MAX_LATE_TITLE_LETTERS,
     }
 }

@@ -27,6 +27,10 @@ pub(crate) struct Run<'a> {
     /// How many entries were read.
     pub entries: u32,
     pub actions: Vec<Action<'a>, Room>,
+    /// How many rows have actions.
+    pub rows: u32,
+    /// How many actions found no row.
+    pub without_row: usize,
     pub objects: Vec<Object<'a>, Room>,
     /// Of locks on objects without a lane only those that are held, and perhaps some others.
     pub holds: Vec<HeldLock<'a>, Room>,
@@ -50,6 +54,8 @@ impl Drop for Run<'_> {
             first_action: _,
             entries: _,
             actions: _,
+            rows: _,
+            without_row: _,
             objects: _,
             holds: _,
             without_strip: _,
@@ -74,6 +80,8 @@ impl<'a> Run<'a> {
             first_action: 0,
             entries: 0,
             actions: Vec::new(heap.room()),
+            rows: 0,
+            without_row: 0,
             objects: Vec::new(heap.room()),
             holds: Vec::new(heap.room()),
             without_strip: 0,

@@ -1,16 +1,11 @@
 //! Takes a line of a listing into a run: a line of the opening, or of an entry.
 
 ghost use Rattle.std.specs.Prelude.{IfErr, IsTrue, OnOk, codes, length, true, ◌+◌, ◌++◌, ◌<◌, ◌↔◌};
-ghost use Rattle.std.specs.Prelude.{◌≡◌, ◌⊎◌};
+ghost use Rattle.std.specs.Prelude.{◌≡◌};
 ghost use Rattle.argus_contents.specs.Content.{plain_option};
 ghost use Rattle.argus_contents.specs.declared.limits.TheConstants.{MAX_OBJECTS};
-ghost use Rattle.argus_entries.specs.{Entry.plain_entry, EntrySpelling.entry_spelling};
-ghost use Rattle.argus_picture.specs.declared.listing_fault_kind.ListingFaultKind.TheVariants as kind;
 ghost use Rattle.argus_picture.specs.{Faults.SaysOfLine, Fitting.may_fit, RunPlace.place_of};
-ghost use Rattle.argus_picture.specs.Listing.{Enters, IsNextOfOpening, IsOfOpening, Takes, start};
-ghost use Rattle.argus_picture.specs.declared.limits.TheConstants.{MAX_ENTRIES};
-ghost use Rattle.argus_picture.specs.declared.line_error.LineError.TheVariants as line_error;
-ghost use Rattle.argus_reading.specs.Line.{IsReadable};
+ghost use Rattle.argus_picture.specs.Listing.{Enters, IsNextOfOpening, IsNumbered, IsOfOpening, Takes};
 
 use crate::call_error::CallError;
 use crate::limits::{MAX_ENTRIES, MAX_STRIPS};
@@ -25,13 +20,22 @@ use argus_memory::OutOfMemory;
 use argus_reading::{ReadEntryError, folded_numbers, object_line, read_entry};
 use argus_texts::front::{Stop, word};
 use argus_texts::write_shape;
+use std::str::from_utf8;
 
 impl<'a> Run<'a> {
-    /// Takes one more line.
-    pub(crate) fn take(&mut self, line: &'a str) -> Result<(), LineError>
+    /// Takes one more line, without its line feed.
+    pub(crate) fn take(&mut self, line: &'a [u8]) -> Result<(), LineError>
         ensures line { OnOk result (Takes (place_of self.old) (place_of self.new) line.now) }
         ensures fault { IfErr result (λ e. SaysOfLine e (place_of self.old) line.now) }
     {
+        let line = match from_utf8(line) {
+            Ok(line) => line,
+            Err(error) => {
+                return Err(LineError::Fault(ListingFaultKind::NoText {
+                    at: error.valid_up_to(),
+                }));
+            }
+        };
         match word(line, "opening ") {
             Ok(rest) => self.take_opening(rest, line),
             Err(Stop::Left(_)) => self.take_entry(line),
@@ -55,35 +59,17 @@ impl<'a> Run<'a> {
 
     // Takes an entry with its number.
     fn take_numbered(&mut self, number: u64, entry: Entry, line: &'a str) -> Result<(), LineError>
-        requires readable { IsReadable (plain_entry entry) }
-        requires line { line.now ≡ entry_spelling number (plain_entry entry) }
+        requires { IsNumbered number line.now }
         ensures line { OnOk result (Enters (place_of self.old) (place_of self.new) line.now) }
         ensures fault { IfErr result (λ e. SaysOfLine e (place_of self.old) line.now) }
     {
         if self.entries >= MAX_ENTRIES {
             return Err(LineError::Fault(ListingFaultKind::TooLong));
         }
-        if !self.is_next(number) {
+        if number < self.first_entry || number - self.first_entry != u64::from(self.entries) {
             return Err(LineError::Fault(ListingFaultKind::NotNext));
         }
-        self.take_next(entry, line)
-    }
-
-    // Whether the next entry has this number.
-    fn is_next(&self, number: u64) -> bool
-        ensures { IsTrue result ↔ (number ≡ self.now.first_entry + self.now.entries) }
-    {
-        number >= self.first_entry && number - self.first_entry == u64::from(self.entries)
-    }
-
-    // Takes the next entry. `take_call` has no contract, so these two numbers are set after it.
-    fn take_next(&mut self, entry: Entry, line: &'a str) -> Result<(), LineError>
-        requires { self.old.entries < MAX_ENTRIES }
-        ensures first { OnOk result (self.new.first_entry ≡ self.old.first_entry) }
-        ensures entries { OnOk result (self.new.entries ≡ self.old.entries + 1) }
-        ensures fault { IfErr result (λ e. (e ≡ line_error.OutOfMemory)
-            ⊎ (e ≡ line_error.Fault kind.Unlawful)) }
-    {
+        // `take_call` has no contract, so these two numbers are set after it.
         let (first_entry, entries) = (self.first_entry, self.entries + 1);
         self.line = line;
         match self.take_call(entry) {
@@ -104,37 +90,15 @@ impl<'a> Run<'a> {
         ensures fault { IfErr result
             (λ e. SaysOfLine e (place_of self.old) (codes "opening " ++ rest.now)) }
     {
-        if self.is_at_start() {
-            return self.take_folded(rest);
+        if self.entries > 0 {
+            return Err(LineError::Fault(ListingFaultKind::NotAnOpening));
         }
-        if self.is_in_opening() {
+        if self.first_entry > 0 {
             return self.take_opened(rest, line);
         }
-        Err(LineError::Fault(ListingFaultKind::NotAnOpening))
-    }
-
-    // Whether no line has come yet.
-    fn is_at_start(&self) -> bool
-        ensures { IsTrue result ↔ (place_of self.now ≡ start) }
-    {
-        self.first_entry == 0 && self.objects.is_empty() && self.entries == 0
-    }
-
-    // Whether the opening has begun, and no entry has come yet.
-    fn is_in_opening(&self) -> bool
-        ensures { IsTrue result ↔ ((self.now.entries ≡ 0) × (0 < self.now.first_entry)) }
-    {
-        self.entries == 0 && self.first_entry > 0
-    }
-
-    // Takes the first line of the opening.
-    fn take_folded(&mut self, rest: &str) -> Result<(), LineError>
-        requires { place_of self.old ≡ start }
-        ensures line { OnOk result (IsNextOfOpening (place_of self.old) (place_of self.new)
-            (codes "opening " ++ rest.now)) }
-        ensures fault { IfErr result
-            (λ e. SaysOfLine e (place_of self.old) (codes "opening " ++ rest.now)) }
-    {
+        if self.objects.len() > 0 {
+            return Err(LineError::Fault(ListingFaultKind::NotAnOpening));
+        }
         match folded_numbers(rest) {
             Ok((entries, actions)) => {
                 self.first_entry = entries;
@@ -176,8 +140,13 @@ impl<'a> Run<'a> {
             × (object < MAX_OBJECTS)
             × (may_fit shape.now (plain_option content.now) ≡ true)) }
     {
-        let is_next = object == self.objects.len() as u64 && object < u64::from(MAX_OBJECTS);
-        is_next && may_fit(shape, content)
+        if object != self.objects.len() as u64 || object >= u64::from(MAX_OBJECTS) {
+            return false;
+        }
+        match content {
+            Some(content) => fits(shape, MAX_OBJECTS, content),
+            None => true,
+        }
     }
 
     /// Adds an object.
@@ -206,15 +175,5 @@ impl<'a> Run<'a> {
             line,
         })?;
         Ok(())
-    }
-}
-
-// Whether there is no content, or it fits as if all `MAX_OBJECTS` objects were declared.
-fn may_fit(shape: &Shape, content: &Option<Content>) -> bool
-    ensures { result ≡ may_fit shape.now (plain_option content.now) }
-{
-    match content {
-        Some(content) => fits(shape, MAX_OBJECTS, content),
-        None => true,
     }
 }

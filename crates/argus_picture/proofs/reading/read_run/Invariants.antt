@@ -1,12 +1,11 @@
 -- The lines before this one are a listing's.
 use Rattle.std.proofs.Common.{length, ◌+◌, ◌≤◌}
-use Rattle.argus_picture.specs.RunPlace.{place_of}
-use Rattle.argus_picture.proofs.ReadLines.{ReadTo}
+use Rattle.argus_picture.specs.{Faults.IsAt, Listing.parts, RunPlace.place_of}
 use Rattle.argus_picture.proofs.reading.read_run.Given as goal
 
 abbrev pub invariant-loop-text : goal.invariant-loop-text
 invariant-loop-text l = record {
-  read : ReadTo (place_of l.run) l.line l.rest l.listing;
+  read : IsAt l.line (place_of l.run) (parts l.rest) l.listing;
   within : l.line + length l.rest ≤ 1 + length l.listing;
 }
 
