@@ -52,8 +52,11 @@ module _ (at : Place) (rest : List ℕ) where
         → IsOfOpening (codes "opening " ++ rest) × IsNoOpening at (codes "opening " ++ rest)
     no_adding refused = no_next (λ z f. omega arith) (λ next a f.
         let same = object_told o at.objects (shape, content) (a.shape, a.content) rest form f in
-        refused (same.0, omega (arith, same.0, a.room),
-        subst (λ (x : PlainShape × Option PlainContent). may_fit x.0 x.1 ≡ true) (sym same.1) a.fitting))
+        refused (
+          same.0,
+          omega (arith, same.0, a.room),
+          subst (λ (x : PlainShape × Option PlainContent). may_fit x.0 x.1 ≡ true) (sym same.1) a.fitting,
+        ))
 
     -- the text is that of the opening's next object
     pub adds : (next : Place) → at.entries ≡ 0

@@ -20,7 +20,7 @@ pub first_part : (text : List ℕ) (n : ℕ) → position is_feed text ≡ Some 
 first_part text n e =
     let found = position-Some is_feed text n 0 e in
     let is : position_or_len is_feed text ≡ n =
-        position_or_len_is is_feed text n 0 (omega (arith, found.0)) found.2 (λ l. found.1) in
+    position_or_len_is is_feed text n 0 (omega (arith, found.0)) found.2 (λ l. found.1) in
     (found.0, rw is at (slice_split_first is_feed text 0 (omega (arith, is, found.0))))
 
 -- a text without a line feed is one part

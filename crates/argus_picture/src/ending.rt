@@ -150,7 +150,13 @@ impl<'a> Run<'a> {
 
     // Dooms the live actions that the same action began.
     fn doom_siblings(&mut self, place: usize, doomed: &mut Places) -> Result<(), OutOfMemory> {
-        let Some(Action { creator: Some(creator), .. }) = self.action(Some(place)) else {
+        let Some(
+            Action {
+                creator: Some(creator),
+                ..
+            },
+        ) = self.action(Some(place))
+        else {
             return Ok(());
         };
         for sibling in self.live.begun.places(self.heap, creator)? {

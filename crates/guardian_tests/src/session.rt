@@ -207,7 +207,12 @@ impl<N: Sharing + Send + Sync, R: Host> Session<N, R> {
 
     // With all receipts, or those of these numbers.
     fn settle(&mut self, setting: Setting, words: &str, out: &mut String<Room>) -> Result<()> {
-        copy_named(setting.texts, self.receipts.as_slice(), words, &mut self.named)?;
+        copy_named(
+            setting.texts,
+            self.receipts.as_slice(),
+            words,
+            &mut self.named,
+        )?;
         let shared = self.shared.take().ok_or(RowFault::NotSpelled)?;
         let seats = replace(&mut self.seats, Vec::new(setting.texts.room()));
         setting.limit();

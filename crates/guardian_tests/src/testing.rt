@@ -86,12 +86,7 @@ fn run_block<R: Host>(
 }
 
 // All rows of both texts; or those of a sharing with one seat: their calls, and a settlement.
-fn rows_of(
-    texts: Heap,
-    before: &str,
-    lines: &str,
-    by_seat: Option<&str>,
-) -> Result<String<Room>> {
+fn rows_of(texts: Heap, before: &str, lines: &str, by_seat: Option<&str>) -> Result<String<Room>> {
     let Some(word) = by_seat else {
         return Ok(format!(in texts.room(); "{before}\n{lines}")?);
     };

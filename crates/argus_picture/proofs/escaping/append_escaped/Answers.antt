@@ -13,6 +13,6 @@ loop-character-preserved c =
 pub returns : goal.returns
 returns c =
     let all = YieldsList-end (YieldsList-from_chars c.args.text.now c.utf8.text cc) c.loop-character.yielded _
-        c.loop-character.yielded_by _ _ c.in-None.is c.next.ensures.steps in
+    c.loop-character.yielded_by _ _ c.in-None.is c.next.ensures.steps in
     c.loop-character.invariant
     ∙ ap (λ x. string_bytes c.args.out.now ++ flat_map escape x) (sym (map-id c.loop-character.yielded) ∙ all.0)
