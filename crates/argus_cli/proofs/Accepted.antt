@@ -3,7 +3,7 @@ use Rattle.std.proofs.Common.{Bool, List, None, Option, Some, [], ap, arith, fal
 use Rattle.std.proofs.{Common.{sym, true, zero, ℕ, ◌<◌, ◌∙◌, ◌∷◌, ◌≡◌}, lemmas.List.{get_or-map, length-map}}
 use Rattle.std.proofs.{lemmas.List.Elements.All-get_or, lemmas.Slice.Eq.bytes_eq-Decides}
 use Rattle.std.specs.{Borrow.Bor, List.{All, slice_index_or}, Str.bytes_eq}
-use Rattle.std.specs.Prelude.{Ok, Result, codes, is_some, map, option_map, pos, slice_get, unwrap_or, ◌^◌, ◌≤◌}
+use Rattle.std.specs.Prelude.{Ok, Result, codes, map, option_map, pos, slice_get, unwrap_or, ◌^◌, ◌≤◌}
 use Rattle.std.specs.Str.Parse.{ParsesBool, ParsesUnsigned, digits_value, without_leading_plus}
 use Rattle.clap.specs.{Built.SameRules, Facts.{Entry, EntryPasses, HasReading, PassesArg, ValuesPass, parser_of_value}}
 use Rattle.clap.specs.Words.{Accepts, App, IsParsedFrom, Rule, Text, args_of, found_of, groups_of, matched_of, one_text}
@@ -32,9 +32,7 @@ record IsRead (c : Command) (id t : Text) : Type 0 where
   pub reads : HasReading c id how
 
 some_is_not_none : (t : Text) → Some t ≡ None → ⊥
-some_is_not_none t is =
-    let bad : true ≡ false = ap (λ (o : Option Text). is_some o) is in
-    cc
+some_is_not_none t is = cc
 
 -- an entry that is an argument's, and its first value
 read_of : (c : Command) (f : Found) (id t : Text) (x : MatchedArg) (e : Entry) → groups_of c ≡ [] → (id ≡ [] → ⊥)
@@ -65,15 +63,11 @@ entry_read : (c : Command) (f : Found) (id t : Text) → ValuesPass c f → grou
     → one_text f id ≡ Some t → IsRead c id t
 entry_read c f id t values no_groups named is = go (matched_of f id) refl (sym is)
   where
-    at : (x : MatchedArg) → matched_of f id ≡ Some x → one_text f id ≡ option_map (λ s. read_as x.reading s.now)
-        (slice_get x.vals.items 0)
-    at x found = rw found refl
-
     step : (x : MatchedArg) → matched_of f id ≡ Some x → Some t ≡ one_text f id
         → ((e : Entry) × (e.1 ≡ x) × (bytes_eq e.0.now id ≡ true) × EntryPasses c e) → IsRead c id t
     step x found is got =
-        read_of c f id t x got.0 no_groups named got.1 ((bytes_eq-Decides got.0.0.now id).0 got.2) got.3 (sym (is
-        ∙ at x found))
+        let first : one_text f id ≡ option_map (λ s. read_as x.reading s.now) (slice_get x.vals.items 0) = rw found refl in
+        read_of c f id t x got.0 no_groups named got.1 ((bytes_eq-Decides got.0.0.now id).0 got.2) got.3 (sym (is ∙ first))
 
     go : (o : Option MatchedArg) → matched_of f id ≡ o → Some t ≡ one_text f id → IsRead c id t
     go None found is =
@@ -102,25 +96,18 @@ IsAlone k = (j : ℕ) → j < 4 → bytes_eq (id_at j) (id_at k) ≡ true → j 
 
 workers_alone : IsAlone 0
 workers_alone zero lt same = refl
-workers_alone (suc zero) lt same = cc
-workers_alone (suc (suc zero)) lt same = cc
-workers_alone (suc (suc (suc zero))) lt same = cc
-workers_alone (suc (suc (suc (suc j)))) lt same = absurd (omega arith)
+workers_alone (suc (suc (suc (suc j)))) lt same = cc
+workers_alone j lt same = cc
 
 patience_alone : IsAlone 1
-patience_alone zero lt same = cc
 patience_alone (suc zero) lt same = refl
-patience_alone (suc (suc zero)) lt same = cc
-patience_alone (suc (suc (suc zero))) lt same = cc
-patience_alone (suc (suc (suc (suc j)))) lt same = absurd (omega arith)
+patience_alone (suc (suc (suc (suc j)))) lt same = cc
+patience_alone j lt same = cc
 
 module _ (c : Command) (p : IsProgram c) (m : ArgMatches) (parsed : IsParsedFrom c m) where
   id_is : (k : ℕ) (d : Arg) → k < 4 → (slice_index_or (args_of c) k d).id.now ≡ id_at k
-  id_is zero d lt = ap (λ (r : Rule). r.id) (rule_at c p m parsed 0 d lt)
-  id_is (suc zero) d lt = ap (λ (r : Rule). r.id) (rule_at c p m parsed 1 d lt)
-  id_is (suc (suc zero)) d lt = ap (λ (r : Rule). r.id) (rule_at c p m parsed 2 d lt)
-  id_is (suc (suc (suc zero))) d lt = ap (λ (r : Rule). r.id) (rule_at c p m parsed 3 d lt)
-  id_is (suc (suc (suc (suc k)))) d lt = absurd (omega arith)
+  id_is k d lt = ap (λ (r : Rule). r.id) (rule_at c p m parsed k d lt)
+      ∙ sym (get_or-map (λ (r : Rule). r.id) (program p.listings).top.rules k (rule_of d) [] lt)
 
   -- an argument of the built command with an option's id has its rules
   same_rules : (k j : ℕ) (d x : Arg) → k < 4 → IsAlone k → (id_at k ≡ codes "help" → ⊥)
@@ -216,9 +203,5 @@ module _ (E : Type 0) where
       → given ≡ unwrap_or r false → given ≡ is_given o
   flag_read None r given none some is = is ∙ ap (λ (q : Option Bool). unwrap_or q false) (none refl)
   flag_read (Some t) None given none some is = is ∙ sym (not_equal t (codes "true") (some t refl).1.0)
-  flag_read (Some t) (Some true) given none some is =
-      let same : t ≡ codes "true" = some t refl in
-      is ∙ sym (ap (λ (u : Text). bytes_eq u (codes "true")) same)
-  flag_read (Some t) (Some false) given none some is =
-      let same : t ≡ codes "false" = some t refl in
-      is ∙ sym (ap (λ (u : Text). bytes_eq u (codes "true")) same)
+  flag_read (Some t) (Some true) given none some is = is ∙ sym (ap (λ u. bytes_eq u (codes "true")) (some t refl))
+  flag_read (Some t) (Some false) given none some is = is ∙ sym (ap (λ u. bytes_eq u (codes "true")) (some t refl))

@@ -5,18 +5,12 @@ use Rattle.clap.specs.Words.{Text, is_simple, is_simple_and_free}
 use Rattle.clap.proofs.OnLiterals.{clap_on_literals}
 use Rattle.argus_cli.specs.{CommandLine.program, ReplayCommandLine.replay_program}
 
-pub program_is_simple : (listings : Bor (List (Bor Text))) → is_simple (program listings) ≡ true
+pub program_is : (listings : Bor (List (Bor Text))) → (is_simple (program listings) ≡ true)
+    × (is_simple_and_free (program listings) ≡ true)
 unfolding clap_on_literals
-program_is_simple listings = refl
+program_is listings = (refl, refl)
 
-pub program_is_free : (listings : Bor (List (Bor Text))) → is_simple_and_free (program listings) ≡ true
+pub replay_program_is : (listings : Bor (List (Bor Text))) → (is_simple (replay_program listings) ≡ true)
+    × (is_simple_and_free (replay_program listings) ≡ true)
 unfolding clap_on_literals
-program_is_free listings = refl
-
-pub replay_is_simple : (listings : Bor (List (Bor Text))) → is_simple (replay_program listings) ≡ true
-unfolding clap_on_literals
-replay_is_simple listings = refl
-
-pub replay_is_free : (listings : Bor (List (Bor Text))) → is_simple_and_free (replay_program listings) ≡ true
-unfolding clap_on_literals
-replay_is_free listings = refl
+replay_program_is listings = (refl, refl)

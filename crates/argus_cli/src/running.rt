@@ -1,10 +1,12 @@
 //! `run`: from the bytes of a script to the listing of the guardian on which it was run.
 
-ghost use Rattle.std.specs.Prelude.{IfErr, OnOk, false, ◌+◌, ◌≡◌};
+ghost use Rattle.std.specs.Prelude.{IfErr, IfOk, OnOk, false, ◌+◌, ◌<◌, ◌≡◌};
 ghost use Rattle.argus_commands.specs.language_declared.limits.TheConstants.{MAX_SCRIPT_BYTES};
 ghost use Rattle.argus_commands.specs.FailStop.{has_failed, inner_of};
-ghost use Rattle.argus_cli.specs.{Ran.{Ran, RunFailed, checkpointed}, Streams.streams};
-ghost use Rattle.argus_cli.specs.{Ranges.KeepsRanges, Status.IsListingFault};
+ghost use Rattle.argus_cli.specs.{Ran.{Ran, RunFailed, checkpointed, new_journal}, Streams.streams};
+ghost use Rattle.argus_cli.specs.{ByWorkers.IsLeftByWorkers, Ranges.KeepsRanges};
+ghost use Rattle.argus_cli.specs.Status.{IsListingFault};
+ghost use Rattle.argus_commands.specs.{Played.IsPlay, Script.plain_script};
 ghost use Rattle.argus_guardian.specs.Listing.{Writes, listing_of};
 
 use crate::cli_fault::CliFault;
@@ -12,7 +14,9 @@ use crate::listing::list;
 use crate::run_options::Options;
 use crate::running_by_workers::run_by_workers;
 use argus_commands::limits::MAX_SCRIPT_BYTES;
-use argus_commands::{FailStop, InputError, ParseError, parse, read_up_to, run_without_output};
+use argus_commands::{
+    FailStop, InputError, ParseError, Script, parse, read_up_to, run_without_output,
+};
 use argus_guardian::{CheckpointError, Guardian};
 use argus_values::{Heap, Name, OutOfMemory};
 use std::io::{Read, Write};
@@ -75,13 +79,29 @@ pub fn run<T: Threads + Wait + Copy + Drop + Send + Sync, R: Read + Drop, W: Wri
         Err(ParseError::Fault(fault)) => return Err(CliFault::Script(fault)),
         Err(ParseError::Memory) => return Err(CliFault::Memory),
     };
+    let mut guardian = run_on_new(rt, heap, &script, options)?;
+    fold_and_list(heap, &mut guardian, script.names(), options, writer)
+}
+
+// Runs the script on a new guardian, by as many workers as the options say.
+fn run_on_new<T: Threads + Wait + Copy + Drop + Send + Sync>(
+    rt: &T,
+    heap: Heap,
+    script: &Script,
+    options: Options,
+) -> Result<Guardian, OutOfMemory>
+    requires { KeepsRanges options }
+    ensures alone { IfOk result (λ left. options.workers ≡ 1
+        → IsPlay new_journal (plain_script script.now) left) }
+    ensures together { IfOk result (λ left. 1 < options.workers
+        → IsLeftByWorkers (plain_script script.now) left) }
+{
     if options.workers > 1 {
-        let mut guardian = run_by_workers(rt, heap, &script, options.workers, options.patience)?;
-        return fold_and_list(heap, &mut guardian, script.names(), options, writer);
+        return run_by_workers(rt, heap, script, options.workers, options.patience);
     }
     let mut guardian = Guardian::new(heap);
-    run_without_output(heap, &mut guardian, &script)?;
-    fold_and_list(heap, &mut guardian, script.names(), options, writer)
+    run_without_output(heap, &mut guardian, script)?;
+    Ok(guardian)
 }
 
 // Lists the guardian, after a checkpoint if one is asked for.
@@ -111,9 +131,7 @@ fn fold_if(asked: bool, guardian: &mut Guardian) -> Result<(), OutOfMemory>
         return Ok(());
     }
     match guardian.checkpoint() {
-        Ok(()) => Ok(()),
-        Err(CheckpointError::Busy) => Ok(()),
-        Err(CheckpointError::Full) => Ok(()),
         Err(CheckpointError::Memory) => Err(OutOfMemory),
+        Ok(()) | Err(CheckpointError::Busy | CheckpointError::Full) => Ok(()),
     }
 }

@@ -3,27 +3,24 @@ use Rattle.std.proofs.Common.{◌∷◌, ◌≡◌, ◌⊎◌}
 use Rattle.clap.specs.Words.{HasKind, Text, fault_of, first_of, found_of, is_simple, is_simple_and_free, kind_of}
 use Rattle.clap.specs.Words.{matches_of, one_of, one_text, rows_of}
 use Rattle.clap.specs.declared.error.kind.ErrorKind.TheVariants as kind
-use Rattle.argus_cli.specs.CommandLine.{IsRefused, faults_of_words, is_given, listing_named, listing_or_bases}
+use Rattle.argus_cli.specs.CommandLine.{IsRefused, is_given, listing_named, listing_or_bases}
 use Rattle.argus_cli.specs.CommandLine.{number_or, rows_of_words}
 use Rattle.argus_cli.specs.declared.limits.TheConstants.{MAX_PATIENCE, MAX_WORKERS}
-use Rattle.argus_cli.proofs.Program.{program_is_free, program_is_simple}
+use Rattle.argus_cli.proofs.Program.{program_is}
 use Rattle.argus_cli.proofs.Accepted.{IsWithin, flag_read, listing_or, number_read, patience_accepted, workers_accepted}
 use Rattle.clap.proofs.WalkLemmas.{first_value-rows, one_text-rows}
 use Rattle.std.specs.Str.Parse.{ExplainsUnsignedError, HasUnsignedDigitsIfOk, ParsesUnsigned}
 use Rattle.argus_cli.proofs.command_line.asked.Goals as goal
 
--- src/command_line.rt:59:19
 pub returns-in_err-matches-clause-refused : goal.returns-in_err-matches-clause-refused
 returns-in_err-matches-clause-refused c =
     let p = c.in_ok-command.ensures in
     let words_are : map (λ word. word.now) c.as_slice.result.now ≡ codes "argus" ∷ map string_bytes
     c.args.words.now = search rules in
-    let failed = c.in_err-matches.ensures.kinds (ap is_simple_and_free p.app ∙ program_is_free p.listings) in
-    let refused : HasKind (faults_of_words p.listings (map string_bytes c.args.words.now))
-    c.in_err-matches.field-0.0 =
-    subst (λ kinds. HasKind kinds c.in_err-matches.field-0.0) (ap₂ fault_of p.app words_are) failed in
+    let failed = c.in_err-matches.ensures.kinds (ap is_simple_and_free p.app ∙ (program_is p.listings).1) in
     let why : (kind_of c.in_err-matches.field-0.0 ≡ kind.OutOfMemory) ⊎ IsRefused
-    (map string_bytes c.args.words.now) (kind_of c.in_err-matches.field-0.0) = elim refused [
+    (map string_bytes c.args.words.now) (kind_of c.in_err-matches.field-0.0) = elim (subst (λ kinds. HasKind kinds
+    c.in_err-matches.field-0.0) (ap₂ fault_of p.app words_are) failed) [
       | inl memory ↦ inl memory
       | inr among ↦ inr (record { listings = p.listings; named = p.named; among = among })
     ] in
@@ -57,7 +54,7 @@ returns-clause-asked c =
     let words = map string_bytes c.args.words.now in
     let words_are : map (λ word. word.now) c.as_slice.result.now ≡ codes "argus" ∷ words = search rules in
     let rows : rows_of (found_of m) ≡ rows_of_words p.listings words =
-    (c.in_ok-matches.ensures.matches (ap is_simple p.app ∙ program_is_simple p.listings)).0
+    (c.in_ok-matches.ensures.matches (ap is_simple p.app ∙ (program_is p.listings).0)).0
     ∙ ap₂ matches_of p.app words_are in
     let text : (id : Text) → one_text (found_of m) id ≡ one_of id (rows_of_words p.listings words) =
     λ id. one_text-rows (found_of m) id ∙ ap (one_of id) rows in
@@ -67,7 +64,7 @@ returns-clause-asked c =
       listings = p.listings;
       named = p.named;
       fine = sym (ap₂ fault_of p.app words_are) ∙ c.in_ok-matches.ensures.kinds (ap is_simple_and_free p.app
-          ∙ program_is_free p.listings);
+          ∙ (program_is p.listings).1);
       workers = (workers c).is ∙ ap (number_or 1) (text (codes "workers"));
       patience = (patience c).is ∙ ap (number_or 0) (text (codes "patience"));
       listing = c.listing_named.ensures ∙ ap (λ s. listing_named s.now) c.unwrap_or-3.ensures
