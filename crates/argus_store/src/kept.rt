@@ -26,24 +26,13 @@ use std::marker::Model;
 /// let begun = bank.call(Call::BeginTop)?;         // Reply::Begun(ActionId(0))
 /// bank.commit(ActionId(0))?;                      // Ok: it is in the database
 /// ```
+#[derive(Drop)]
 pub struct Kept<S: Alter> {
     heap: Heap,
     guardian: Guardian,
     store: Store<S>,
     name: String<Room>,
     end: End,
-}
-
-impl<S: Alter + Drop> Drop for Kept<S> {
-    fn drop(self) {
-        let Kept {
-            heap: _,
-            guardian: _,
-            store: _,
-            name: _,
-            end: _,
-        } = self;
-    }
 }
 
 impl<S: Alter> Model for Kept<S> {
