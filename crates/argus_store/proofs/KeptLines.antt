@@ -1,20 +1,22 @@
 -- The lines of the entries that a log hasn't got, and its listing with them.
-use Rattle.std.proofs.Common.{◌≡◌, ◌≤◌, ◌<◌, ℕ, ◌+◌, ◌-◌, ◌++◌, List, [], ◌∷◌, suc, refl, sym, ap, arith, ◌∙◌}
-use Rattle.std.proofs.Common.{append_assoc, drop, drop-cons, length, reverse, cond, false, inl, inr, nat_lt, None, Some}
-use Rattle.std.proofs.Common.{Ok, Err, OnErr, OnOk, subst}
+use Rattle.std.proofs.Common.{◌≡◌, ◌≤◌, ◌<◌, ◌⊎◌, ℕ, ◌+◌, ◌-◌, ◌++◌, List, [], ◌∷◌, suc, refl, sym, ap, arith, ◌∙◌}
+use Rattle.std.proofs.Common.{append_assoc, append-nil, drop, drop-cons, length, reverse, cond, true, false, inl, inr}
+use Rattle.std.proofs.Common.{nat_lt, Option, None, Some, Ok, Err, IsErr, is_err, OnErr, OnOk}
 use Rattle.std.proofs.lemmas.Option.{slice_get_cases}
-use Rattle.std.proofs.lemmas.List.{length-reverse, reverse-append}
+use Rattle.std.proofs.lemmas.List.{drop-append-le, length-append, length-drop, length-reverse, reverse-append}
 use Rattle.std.proofs.Math.Seq.{drop-append_seam}
 use Rattle.std.specs.Prelude.{slice_get}
 use Rattle.std.specs.declared.result.Result.{Result}
-use Rattle.sqlite.specs.{Held.{Held, state}, Store.Ghosts}
-use Rattle.argus_journal.specs.{Call.PlainCall, Entry.PlainEntry, EntrySpelling.entry_line, Journal.entry_at}
-use Rattle.argus_journal.specs.{Folding.next_entry_number, JournalView.{after, entry_of}}
+use Rattle.sqlite.specs.{Held.{Held, state}, Store.Ghosts, declared.error.Error.Error}
+use Rattle.argus_journal.specs.{Call.PlainCall, Entry.PlainEntry, Folding.next_entry_number, Journal.entry_at}
+use Rattle.argus_journal.specs.EntrySpelling.{entry_line, entry_spelling}
+use Rattle.argus_journal.specs.JournalView.{JournalView, after, entry_of, next_entry, with_entry}
 use Rattle.argus_journal.specs.Opening.{Opening}
 use Rattle.argus_guardian.specs.{JournalText.journal_text, Listing.{each_from, entries_text, opening_text}}
-use Rattle.argus_store.specs.{Chain.{ended, listing_of}, Journal.Journal, Store.{HasLog, Leaves, LeavesEither}}
-use Rattle.argus_store.specs.{End.{end_after, with_lines}, declared.end.End.End}
-use Rattle.argus_store.specs.Kept.{AreSince, HasAll, IsAcknowledged, IsKept, KeptState, LeavesFront, line_of}
+use Rattle.argus_store.specs.{Chain.{ended, listing_of}, Journal.Journal, Summing.entries_in}
+use Rattle.argus_store.specs.{End.{end_after, with_lines}, declared.{end.End.End, keep_error.KeepError.KeepError}}
+use Rattle.argus_store.specs.Kept.{AreFrom, HasAll, IsAcknowledged, IsAppended, IsKept, KeptState, LeavesFront}
+use Rattle.argus_store.specs.{Kept.{line_of, lines_from}, Store.{Changes, HasLog, Leaves, LeavesEither}}
 use Rattle.argus_store.proofs.Runs.{chained_then, ends_then, listed_then}
 
 each_from_append : {A : Type 0} (f : ℕ → A → List ℕ) (n : ℕ) (xs ys : List A)
@@ -68,7 +70,7 @@ module _ {S : Type 0} (g : Ghosts S) (old : KeptState S) (j : Journal) (kept : I
   starts : old.journal.opening.first_entry ≤ old.end.next
   starts = omega (arith, kept.next)
 
-  module _ (lines : List ℕ) (since : AreSince old lines) where
+  module _ (lines : List ℕ) (since : AreFrom old.journal old.end.next lines) where
     listed : listing_of (with_lines j old.name old.end lines) ≡ journal_text old.journal
     listed =
         let s = old.journal.opening in
@@ -100,35 +102,6 @@ module _ {S : Type 0} (g : Ghosts S) (old : KeptState S) (j : Journal) (kept : I
       whole = listed;
     }
 
--- the same of what is seen of the guardian and its log now
-module _ {S : Type 0} (g : Ghosts S) (old seen : KeptState S) (j : Journal) (is : seen ≡ old) (was : IsKept g old j)
-    (lines : List ℕ) (since : old.journal.opening.first_entry ≤ old.end.next → AreSince old lines) (store : Held S) where
-  are : AreSince old lines
-  are = since (starts g old j was)
-
-  pub front_left : LeavesEither (state g store) j (with_lines j seen.name seen.end lines) → (end : End)
-      → LeavesFront g old (record seen { store = store; end = end }) j
-  front_left leaves end db left =
-      elim ((subst (λ k. LeavesEither (state g store) j (with_lines j k.name k.end lines)) is leaves) db left) [
-        | inl before ↦ inl before
-        | inr after ↦ inr (
-          lines,
-          listed g old j was lines are
-              ∙ ap (λ (k : KeptState S). journal_text k.journal) (sym is),
-          after,
-        )
-      ]
-
-  pub acknowledged : (end : End) → end ≡ end_after seen.name seen.end lines
-      → HasLog (state g store) (with_lines j seen.name seen.end lines)
-      → Leaves (state g store) (with_lines j seen.name seen.end lines)
-      → IsAcknowledged g old.name old.end (record seen { store = store; end = end }) j
-  acknowledged end at log left = rw (at, is) (record {
-    lines = lines;
-    has = has_all g old j was lines are store (rw is at log);
-    leaves = rw is at left;
-  })
-
 -- one more call
 pub longer : {S : Type 0} (g : Ghosts S) (k : KeptState S) (j : Journal) (call : PlainCall) → IsKept g k j
     → IsKept g (record k { journal = after k.journal call }) j
@@ -142,6 +115,90 @@ longer g k j call kept = record {
   next = kept.next;
   listed = kept.listed;
 }
+
+-- what is lacking of a journal with one more entry
+with_next : (journal : JournalView) (e : PlainEntry) (at : ℕ) (before : List ℕ) → journal.opening.first_entry ≤ at
+    → at ≤ next_entry journal → before ≡ lines_from journal at
+    → ended (before ++ entry_spelling (next_entry journal) e) ≡ lines_from (with_entry journal e) at
+with_next journal e at before from below is =
+    let first = journal.opening.first_entry in let all = reverse journal.entries in let n = next_entry journal in
+    let high : at - first ≤ length all = omega (arith, from, below, length-reverse journal.entries) in
+    let place : at + length (drop (at - first) all) ≡ n =
+    omega (arith, from, high, length-drop (at - first) all, length-reverse journal.entries) in
+    append_assoc before (entry_spelling n e) (10 ∷ []) ∙ ap (λ t. t ++ entry_line n e) is
+    ∙ sym (ap (λ es. each_from entry_line at (drop (at - first) es)) (reverse-append (e ∷ []) journal.entries)
+    ∙ ap (each_from entry_line at) (drop-append-le (at - first) all (e ∷ []) high)
+    ∙ each_from_append entry_line at (drop (at - first) all) (e ∷ [])
+    ∙ ap (λ m. each_from entry_line at (drop (at - first) all) ++ (entry_line m e ++ [])) place
+    ∙ ap (λ t. each_from entry_line at (drop (at - first) all) ++ t) (append-nil (entry_line n e)))
+
+-- the guardian's log with these lines behind it, of the entries that it lacks and of a call's that comes next
+module _ {S : Type 0} (g : Ghosts S) (old : KeptState S) (j : Journal) (was : IsKept g old j) (call : PlainCall)
+    (before lines : List ℕ) (has : before ≡ lines_from old.journal old.end.next)
+    (is : lines ≡ before ++ entry_spelling (next_entry old.journal) (entry_of old.journal call))
+    (count : old.end.next + entries_in lines ≡ next_entry old.journal + 1) (store : Held S) where
+  abbrev pub next : KeptState S
+  next = record old { journal = after old.journal call }
+
+  are : AreFrom next.journal next.end.next lines
+  are =
+      let below : old.end.next ≤ next_entry old.journal =
+      omega (arith, was.next, ap length was.all, length-append was.since was.has) in record {
+        are = ap ended is ∙ with_next old.journal (entry_of old.journal call) old.end.next before
+            (starts g old j was) below has;
+        count = omega (arith, count);
+      }
+
+  front_left : LeavesEither (state g store) j (with_lines j old.name old.end lines)
+      → LeavesFront g old store next.journal j
+  front_left leaves db left = elim (leaves db left) [
+    | inl before ↦ inl before
+    | inr after ↦ inr (lines, listed g next j (longer g old j call was) lines are, after)
+  ]
+
+  acknowledged : (end : End) → end ≡ end_after old.name old.end lines
+      → HasLog (state g store) (with_lines j old.name old.end lines)
+      → Leaves (state g store) (with_lines j old.name old.end lines)
+      → IsAcknowledged g old.name old.end
+      (record { journal = next.journal; store = store; name = old.name; end = end }) j
+  acknowledged end at log left = rw at (record {
+    lines = lines;
+    has = has_all g next j (longer g old j call was) lines are store log;
+    leaves = left;
+  })
+
+  module _ {T : Type 0} (result : Result (Option End) Error)
+      (changes : Changes (state g store) result T j (with_lines j old.name old.end lines)) where
+    pub made : (end : End) → result ≡ Ok (Some end) → end ≡ end_after old.name old.end lines
+        → IsAppended g old store next.journal (Ok end) j
+    made end is at = record {
+      acknowledged = acknowledged end at ((rw is at changes.made) refl).1 ((rw is at changes.durable) refl);
+      failed = λ _. tt;
+      crash = front_left changes.crash;
+    }
+
+    pub unmade : (q : Result End KeepError) → is_err q ≡ true → (result ≡ Ok None) ⊎ IsErr result
+        → IsAppended g old store next.journal q j
+    unmade (Ok end) fails none = absurd (let h = fails in cc)
+    unmade (Err why) fails none = record {
+      acknowledged = tt;
+      failed = λ is_open. changes.kept is_open none;
+      crash = front_left changes.crash;
+    }
+
+-- the guardian is as before, and so is its log
+pub still : {S : Type 0} (g : Ghosts S) (old k : KeptState S) (store : Held S) (j : Journal) → IsKept g old j
+    → HasLog (state g store) j → k ≡ record old { store = store } → IsKept g k j
+still g old k store j was log is = rw is (record {
+  log = log;
+  chained = was.chained;
+  ends = was.ends;
+  has = was.has;
+  since = was.since;
+  all = was.all;
+  next = was.next;
+  listed = was.listed;
+})
 
 pub by_result : {T E : Type 0} {P Q R : Type 0} (r : Result T E) → OnOk r P → OnErr r Q → (P → R) → (Q → R) → R
 by_result (Ok _) p q f h = f p

@@ -4,7 +4,7 @@ ghost use Rattle.std.specs.Prelude.{◌≡◌, ◌≤◌, ◌-◌, ◌++◌, IfO
 ghost use Rattle.argus_journal.specs.Journal.{entries_of, entry_at, opening_of};
 ghost use Rattle.argus_journal.specs.EntrySpelling.{entry_line};
 ghost use Rattle.argus_guardian.specs.Listing.{each_from};
-ghost use Rattle.argus_store.specs.Kept.{line_of};
+ghost use Rattle.argus_store.specs.Kept.{line_of, lines_from};
 
 use argus_journal::{Journal, write_entry};
 use argus_values::{Heap, OutOfMemory, Room};
@@ -15,9 +15,8 @@ pub(crate) fn entry_lines(
     journal: &Journal,
     from: u64,
 ) -> Result<String<Room>, OutOfMemory>
-    ensures { let first = (opening_of journal.now).first_entry in first ≤ from
-        → IfOk result (λ text. string_bytes text ≡ each_from entry_line from
-        (drop (from - first) (reverse (entries_of journal.now)))) }
+    ensures { (opening_of journal.now).first_entry ≤ from → IfOk result (λ text. string_bytes text
+        ≡ lines_from (record { opening = opening_of journal.now; entries = entries_of journal.now }) from) }
 {
     let mut text = String::new(heap.room());
     for at in from..journal.len() {

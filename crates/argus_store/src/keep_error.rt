@@ -7,7 +7,8 @@ use sqlite::Error;
 #[derive(Clone, Copy, Debug, PartialEq, Eq)]
 pub enum KeepError {
     OutOfMemory,
-    /// The log has another name, or it ends elsewhere: another store has written it.
+    /// The log isn't the guardian's: it has another name, or ends elsewhere, since another store has
+    /// written it.
     OtherLog,
     /// The database refused.
     Database(Error),

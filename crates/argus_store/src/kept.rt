@@ -1,14 +1,15 @@
 //! `Kept`: a guardian whose journal a log keeps.
 
-ghost use Rattle.std.specs.Prelude.{◌≡◌, ◌≤◌, IfOk, IfSome, IsTrue, OnErr, OnOk, string_bytes};
+ghost use Rattle.std.specs.Prelude.{◌≡◌, IfOk, IfSome, IsTrue, OnErr, OnOk, string_bytes};
 ghost use Rattle.sqlite.specs.{State.HasCleanDisk, Held.state};
 ghost use Rattle.argus_journal.specs.{Call.{commit, plain_call}, Reply.plain_reply};
 ghost use Rattle.argus_journal.specs.JournalView.{after, reply_to};
 ghost use Rattle.argus_guardian.specs.JournalText.{journal_text};
 ghost use Rattle.argus_store.specs.{Chain.{IsChained, listing_of}, End.EndsAt, Journal.Journal, Store.HasLog};
-ghost use Rattle.argus_store.specs.Kept.{AreSince, HasAll, IsAcknowledged, IsKept, LeavesFront};
+ghost use Rattle.argus_store.specs.Kept.{HasAll, IsAcknowledged, IsKept, LeavesFront};
 
-use crate::end::{End, entries_in};
+use crate::appending::append_ready;
+use crate::end::End;
 use crate::entry_lines::entry_lines;
 use crate::keep_error::KeepError;
 use crate::store::Store;
@@ -18,6 +19,7 @@ use argus_journal::{Call, Reply};
 use argus_values::{Heap, OutOfMemory, Room};
 use sqlite::Alter;
 use std::marker::Model;
+use std::mem::replace;
 
 /// A guardian, and the log that has its journal: all of it when a commit has returned `Ok`.
 ///
@@ -109,13 +111,15 @@ impl<S: Alter> Kept<S> {
 
     /// Commits an action, as [`Guardian::commit`] does, and returns when the log has that and all
     /// entries before it: then each crash leaves them there. A crash meanwhile leaves the log from
-    /// before, or all of them. At an error the log is as before, if it is still open, and what has
-    /// committed here gets there with the next commit.
+    /// before, or all of them. At an error the commit isn't made, and the log is as before, if it is
+    /// still open; if it isn't, the next opening tells whether the log has the commit.
     pub fn commit(&mut self, action: ActionId) -> Result<Reply, KeepError>
         ensures reply { IfOk result (λ reply. plain_reply reply
             ≡ reply_to self.old.journal (commit action.0)) }
         ensures made { OnOk result (self.new.journal
             ≡ after self.old.journal (commit action.0)) }
+        ensures unmade { OnErr result (self.new ≡ record self.old { store = self.new.store }) }
+        ensures name { self.new.name ≡ self.old.name }
         ensures acknowledged { (j : Journal) → IsKept S.Store self.old j
             → HasCleanDisk (state S.Store self.new.store)
             → OnOk result (IsAcknowledged S.Store self.old.name self.old.end self.new j) }
@@ -124,11 +128,31 @@ impl<S: Alter> Kept<S> {
             → IsTrue (state S.Store self.new.store).is_open
             → OnErr result (IsKept S.Store self.new j) }
         ensures crash { (j : Journal) → IsKept S.Store self.old j
-            → HasCleanDisk (state S.Store self.new.store) → LeavesFront S.Store self.old self.new j }
+            → HasCleanDisk (state S.Store self.new.store)
+            → LeavesFront S.Store self.old self.new.store
+            (after self.old.journal (commit action.0)) j }
     {
-        let reply = self.call(Call::Commit(action))?;
-        self.append_rest()?;
-        Ok(reply)
+        let lines = entry_lines(self.heap, self.guardian.journal().journal(), self.end.next)?;
+        let guardian = replace(&mut self.guardian, Guardian::new(self.heap));
+        let ready = match guardian.ready_commit(action) {
+            Ok(ready) => ready,
+            Err(guardian) => {
+                self.guardian = guardian;
+                return Err(KeepError::OutOfMemory);
+            }
+        };
+        match append_ready(&mut self.store, self.name.as_str(), self.end, &ready, lines) {
+            Ok(end) => {
+                self.end = end;
+                let (guardian, reply) = ready.make();
+                self.guardian = guardian;
+                Ok(reply)
+            }
+            Err(error) => {
+                self.guardian = ready.cancel();
+                Err(error)
+            }
+        }
     }
 
     /// The guardian, the store, and where its log ends.
@@ -143,49 +167,5 @@ impl<S: Alter> Kept<S> {
             end,
         } = self;
         (guardian, store, end)
-    }
-
-    // Appends the entries that the log hasn't got. There has to be one.
-    fn append_rest(&mut self) -> Result<(), KeepError>
-        ensures same { self.new ≡ record self.old { store = self.new.store; end = self.new.end } }
-        ensures acknowledged { (j : Journal) → IsKept S.Store self.old j
-            → HasCleanDisk (state S.Store self.new.store)
-            → OnOk result (IsAcknowledged S.Store self.old.name self.old.end self.new j) }
-        ensures failed { (j : Journal) → IsKept S.Store self.old j
-            → HasCleanDisk (state S.Store self.new.store)
-            → IsTrue (state S.Store self.new.store).is_open
-            → OnErr result (IsKept S.Store self.new j) }
-        ensures crash { (j : Journal) → IsKept S.Store self.old j
-            → HasCleanDisk (state S.Store self.new.store) → LeavesFront S.Store self.old self.new j }
-    {
-        let lines = self.lines_since()?;
-        match self
-            .store
-            .append(self.name.as_str(), self.end, lines.as_str())?
-        {
-            Some(end) => {
-                self.end = end;
-                Ok(())
-            }
-            None => Err(KeepError::OtherLog),
-        }
-    }
-
-    // The lines of these entries, as a log's row has them.
-    fn lines_since(&self) -> Result<String<Room>, KeepError>
-        ensures { self.now.journal.opening.first_entry ≤ self.now.end.next
-            → IfOk result (λ lines. AreSince self.now (string_bytes lines)) }
-    {
-        let journal = self.guardian.journal().journal();
-        let mut lines = entry_lines(self.heap, journal, self.end.next)?;
-        if lines.pop() != Some('\n') {
-            return Err(KeepError::OtherLog);
-        }
-        let count = entries_in(lines.as_str().as_bytes());
-        if self.end.next.checked_add(count) == Some(journal.len()) {
-            Ok(lines)
-        } else {
-            Err(KeepError::OtherLog)
-        }
     }
 }

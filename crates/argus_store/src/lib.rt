@@ -2,6 +2,7 @@
 //! after any crash, in order, once, and nothing is there in part.
 #![tactic(auto)]
 
+mod appending;
 mod change;
 mod changing;
 mod end;

@@ -55,7 +55,9 @@ fn answer(
             None => tell("undeclared", out),
         },
         "owner" => tell_owner(owner_of(guardian.journal().journal(), action(rest)?), out),
-        "effect" | "replay" | "replay_base" => answer_question(guardian, setting, word, rest, out),
+        "effect" => tell_effect_of(guardian, setting, rest, out),
+        "replay" => tell_replay(guardian, setting, rest, out),
+        "replay_base" => tell_replay_base(guardian, setting, rest, out),
         _ => answer_call(guardian, setting, asked, out),
     }
 }
@@ -66,24 +68,39 @@ fn last(setting: Setting) -> Result<Guardian> {
     Ok(guardian)
 }
 
-// What takes memory.
-fn answer_question(
+fn tell_effect_of(
     guardian: &Guardian,
     setting: Setting,
     word: &str,
-    rest: &str,
     out: &mut String<Room>,
 ) -> Result<()> {
-    let journal = guardian.journal().journal();
+    let a = action(word)?;
     setting.limit();
-    let content = match word {
-        "effect" => return tell_effect(guardian.effect(action(rest)?)?, out),
-        "replay" => {
-            let (a, o) = first_word(rest);
-            replay_for(setting.heap, journal, action(a)?, object(o)?)?
-        }
-        _ => replay_base(setting.heap, journal, object(rest)?)?,
-    };
+    tell_effect(guardian.effect(a)?, out)
+}
+
+fn tell_replay(
+    guardian: &Guardian,
+    setting: Setting,
+    words: &str,
+    out: &mut String<Room>,
+) -> Result<()> {
+    let (one, other) = first_word(words);
+    let (a, o) = (action(one)?, object(other)?);
+    setting.limit();
+    let content = replay_for(setting.heap, guardian.journal().journal(), a, o)?;
+    tell_content(&content, out)
+}
+
+fn tell_replay_base(
+    guardian: &Guardian,
+    setting: Setting,
+    word: &str,
+    out: &mut String<Room>,
+) -> Result<()> {
+    let o = object(word)?;
+    setting.limit();
+    let content = replay_base(setting.heap, guardian.journal().journal(), o)?;
     tell_content(&content, out)
 }
 

@@ -6,7 +6,7 @@ use crate::setting::Setting;
 use crate::telling::tell_reply;
 use crate::word_reading::first_word;
 use argus_guardian::{Answered, Receipt, Seat, Shared, Sharing};
-use argus_values::{Heap, Room};
+use argus_values::Room;
 use std::sync::Wait;
 
 /// Tells the reply, and keeps the receipt.
@@ -28,22 +28,47 @@ pub(crate) fn make_call<N: Sharing, R: Wait + Drop>(
     seat: &mut Seat<N>,
     text: &str,
 ) -> Result<Receipt> {
-    let bare = text.strip_prefix("answer ");
-    let (patience, asked) = patience_of(bare.unwrap_or(text));
+    match text.strip_prefix("answer ") {
+        Some(bare) => answer_call(rt, setting, shared, seat, bare),
+        None => receive(rt, setting, shared, seat, text),
+    }
+}
+
+fn receive<N: Sharing, R: Wait + Drop>(
+    rt: &R,
+    setting: Setting,
+    shared: &Shared<N, R>,
+    seat: &mut Seat<N>,
+    text: &str,
+) -> Result<Receipt> {
+    let (patience, asked) = patience_of(text);
     let call = call_of(setting.heap, asked)?;
     setting.limit();
-    if bare.is_none() {
-        let received = match patience {
-            None => shared.call(rt, seat, call),
-            Some(patience) => shared.call_waiting(rt, seat, call, patience),
-        };
-        return Ok(received?);
-    }
+    let received = match patience {
+        None => shared.call(rt, seat, call),
+        Some(patience) => shared.call_waiting(rt, seat, call, patience),
+    };
+    Ok(received?)
+}
+
+// The receipt is made of the answer and another copy of the call.
+fn answer_call<N: Sharing, R: Wait + Drop>(
+    rt: &R,
+    setting: Setting,
+    shared: &Shared<N, R>,
+    seat: &mut Seat<N>,
+    text: &str,
+) -> Result<Receipt> {
+    let (patience, asked) = patience_of(text);
+    let call = call_of(setting.heap, asked)?;
+    setting.limit();
     let answered = match patience {
         None => shared.answer(rt, seat, call),
         Some(patience) => shared.answer_waiting(rt, seat, call, patience),
     };
-    receipt_for(setting.texts, asked, answered?)
+    let Answered { at, reply } = answered?;
+    let call = call_of(setting.texts, asked)?;
+    Ok(Receipt { at, call, reply })
 }
 
 // For how many wake-ups the call behind `wait` waits; `None` for one that doesn't wait.
@@ -55,11 +80,4 @@ fn patience_of<'a>(text: &'a str) -> (Option<u32>, &'a str) {
         }
         None => (None, text),
     }
-}
-
-// The receipt of an answer, with another copy of the call.
-fn receipt_for(texts: Heap, asked: &str, answered: Answered) -> Result<Receipt> {
-    let Answered { at, reply } = answered;
-    let call = call_of(texts, asked)?;
-    Ok(Receipt { at, call, reply })
 }

@@ -15,13 +15,16 @@ use std::alloc::Global;
 use std::fs;
 use std::test::Fail;
 
+// Left behind for hosts/python/tests/test_log_replayed.py.
 const FILE: &str = "argus_store_test.db";
 
-const NAME: &str = "0123";
+const WAL: &str = "argus_store_test.db-wal";
 
-const BEGIN: &str = "0 begin_top -> a0";
+pub(crate) const NAME: &str = "0123456789abcdef0123456789abcdef";
 
-const REST: &str = "1 commit a0 -> done\n2 begin_top -> a1";
+pub(crate) const BEGIN: &str = "0 begin_top -> a0";
+
+pub(crate) const REST: &str = "1 commit a0 -> done\n2 begin_top -> a1";
 
 const COMMIT: &str = "3 begin_top -> a2\n4 commit a1 -> done";
 
@@ -54,7 +57,7 @@ fn fill<S: Alter>(store: &mut Store<S>) -> Result<bool, Error> {
     let is_last = store.append(NAME, end, REST)? == end.after(NAME, REST);
     let is_refused = store.append(NAME, end, REST)?.is_none();
     let is_done = is_last && is_refused && ends_at(store, end.after(NAME, REST))?;
-    Ok(end.sum == 0xf401_020e && is_done)
+    Ok(end.sum == 0xb83b_e92a && is_done)
 }
 
 // Whether the log ends there, under its name, and no other log does.
@@ -78,7 +81,11 @@ fn text_of<S: Alter>(
     Ok(listing_text(alloc, &head, opening.as_slice(), batches.as_slice()))
 }
 
-fn lists<S: Alter>(alloc: Global, store: &mut Store<S>, wanted: &[u8]) -> Result<bool, Error> {
+pub(crate) fn lists<S: Alter>(
+    alloc: Global,
+    store: &mut Store<S>,
+    wanted: &[u8],
+) -> Result<bool, Error> {
     match text_of(alloc, store)? {
         Ok(text) => Ok(text.as_slice() == wanted),
         Err(_) => Ok(false),
@@ -169,7 +176,7 @@ fn has_opening(rows: &[Row]) -> Result<bool, Error> {
 // The store, if it has all batches, and an opening takes the place of all rows.
 fn folded<S: Alter + Drop>(alloc: Global, mut store: Store<S>) -> Result<Option<Store<S>>, Error> {
     let wanted =
-        b"opening entries 5 actions 3\nopening o0 atomic_array[int] 0[]\n5 commit a2 -> done\n";
+        b"opening entries 5 actions 3\nopening o0 atomic_array[int] 0[]\n5 begin_top -> a3\n";
     let is_whole = has_all(store.batches()?.as_slice())?;
     Ok(if is_whole && is_folded(&mut store)? && lists(alloc, &mut store, wanted)? {
         Some(store)
@@ -190,7 +197,7 @@ fn is_folded<S: Alter>(store: &mut Store<S>) -> Result<bool, Error> {
         return Ok(false);
     };
     let is_alone = store.batches()?.is_empty() && ends_at(store, Some(after))?;
-    let last = store.append(NAME, after, "5 commit a2 -> done")?;
+    let last = store.append(NAME, after, "5 begin_top -> a3")?;
     Ok(is_refused && is_alone && after.next == 5 && last.is_some())
 }
 
@@ -221,10 +228,9 @@ fn over_a_file(rt: HostRuntime) -> Result<(), Fail> {
     appends_are_listed();
     kept_is_resumed();
     let heap = Heap::new(rt.alloc())?;
-    let _ = fs::remove_file(&rt, FILE);
+    let _ = (fs::remove_file(&rt, FILE), fs::remove_file(&rt, WAL));
     assert!(rt; begin(&rt, heap)?);
     assert!(rt; put_in(&rt)?);
     assert!(rt; fold(&rt)?);
-    fs::remove_file(&rt, FILE)?;
     Ok(())
 }

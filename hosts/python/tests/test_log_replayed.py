@@ -1,7 +1,7 @@
 """Logs that the proved program reads from their databases: `replay --database`. REPLAY names it, or .ci/run left it.
 
 Where they are built, so are logs that C's host wrote and Rust's: hosts/run leaves the programs, or ARGUS_C_LOG and
-ARGUS_RUST_ORDERS name them.
+ARGUS_RUST_ORDERS name them. And SQLite and Python's host read a log that argus_store wrote.
 """
 
 from __future__ import annotations
@@ -18,11 +18,13 @@ sys.path.insert(0, str(Path(__file__).resolve().parent))
 
 from log_bank import LogCase, carry_out, open_bank  # noqa: E402
 
+from argus_guardian.log import Log  # noqa: E402
 from argus_guardian.log_rows import summed  # noqa: E402
 
 TOP = Path(__file__).resolve().parents[3]
 REPLAY = os.environ.get("REPLAY", str(TOP / "crates/replay/out/replay"))
 C_LOG = os.environ.get("ARGUS_C_LOG", str(TOP / "build/hosts/c/log_tests"))
+STORE_TESTS = TOP / "crates/store_tests/out/store_tests_tests"
 RUST_ORDERS = os.environ.get("ARGUS_RUST_ORDERS", str(TOP / "build/hosts/rust/release/examples/orders"))
 
 
@@ -88,6 +90,24 @@ class ReplayedTest(LogCase):
     @unittest.skipUnless(os.access(RUST_ORDERS, os.X_OK), "no log of Rust's host")
     def test_a_log_of_rust(self) -> None:
         self.written_by(RUST_ORDERS, self.path, given="3 1 70\n3 2 30\n5 1 900\n")
+
+    @unittest.skipUnless(os.access(STORE_TESTS, os.X_OK), "no log of argus_store")
+    def test_a_log_of_rattle(self) -> None:
+        """SQLite finds it sound, and Python's host goes on with it."""
+        folder = Path(self.path).parent
+        subprocess.run([STORE_TESTS, "tests::over_a_file"], cwd=folder, capture_output=True, check=True, timeout=60)
+        self.path = str(folder / "argus_store_test.db")
+        self.assertEqual(self.rows("PRAGMA integrity_check"), [("ok",)])
+        opening = b"opening entries 5 actions 3\nopening o0 atomic_array[int] 0[]\n"
+        self.assertEqual(self.text(), opening + b"5 begin_top -> a3\n")
+        self.lists(self.text())
+        self.rows("PRAGMA application_id = 0x41524755")
+        self.rows("PRAGMA user_version = 1")
+        with Log.open(self.path) as log, log.topaction() as top:
+            top.addh(0, 7)
+        wanted = b"6 abort a3 -> done\n7 begin_top -> a4\n8 alter a4 o0 addh 7 -> done\n9 commit a4 -> done\n"
+        self.assertEqual(self.text(), opening + b"5 begin_top -> a3\n" + wanted)
+        self.lists(self.text())
 
     def test_it_reads_the_wal_and_writes_nothing(self) -> None:
         with open_bank(self.path) as log:

@@ -23,7 +23,7 @@
 //! ```
 //!
 //! What an action does with objects is in the trait [`Access`]. [`Shared`] is a guardian that
-//! threads share, by std's `Mutex` and `Condvar`.
+//! threads share, by a mutex around each call.
 //!
 //! The archive is proved: each reply follows from the journal before the call (the repository's
 //! README says it in full). This crate isn't proved: it calls the archive, reads its texts, and

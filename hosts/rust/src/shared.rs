@@ -3,8 +3,14 @@
 pub(crate) mod action;
 pub(crate) mod circles;
 mod folding;
+#[cfg(feature = "logged")]
+pub(crate) mod group;
+pub(crate) mod looking;
 pub(crate) mod retry;
 mod state;
+#[cfg(feature = "logged")]
+pub(crate) mod taking;
+mod turns;
 mod waits;
 
 use crate::access::explained;
@@ -17,13 +23,15 @@ use crate::reply::{Answer, Reply};
 use crate::request::Request;
 use crate::shared::action::SharedAction;
 use crate::shared::circles::Deadlock;
+use crate::shared::looking::LOOKS;
 use crate::shared::state::{Borrower, DroppedAction, SharedState};
+use crate::shared::turns::{Taken, Turns};
 use crate::shared::waits::{AccessAgain, Attempt, CONFLICT, Lineage, WaitGoal, WaitingAccess};
-use std::sync::{Mutex, MutexGuard, PoisonError};
 use std::time::{Duration, Instant};
 
-/// A guardian that threads share: std's `Mutex` around each call, and for each thread that waits for
-/// a lock on an object a `Condvar`, which wakes it when the lock is free.
+/// A guardian that threads share: a mutex around each call. A thread that waits for it, or for a lock on
+/// an object, looks for a fraction of a millisecond whether it is free, if processors are left for that,
+/// and then sleeps until it is woken.
 ///
 /// The reply to one call is proved, as for a [`Guardian`]. **This type isn't**: not that a wait
 /// ends, which thread is woken first, or what a call finds after a wait.
@@ -66,7 +74,7 @@ use std::time::{Duration, Instant};
 /// ```
 #[derive(Debug)]
 pub struct Shared {
-    state: Mutex<SharedState>,
+    state: Turns<SharedState>,
     borrower: Borrower,
     patience: Duration,
 }
@@ -99,33 +107,37 @@ impl Shared {
     #[must_use]
     pub fn new(guardian: Guardian, patience: Duration) -> Shared {
         Shared {
-            state: Mutex::new(SharedState::new(guardian)),
+            state: Turns::new(SharedState::new(guardian)),
             borrower: Borrower::default(),
             patience,
         }
     }
 
-    // A thread that panics leaves the guardian between two calls, so a poisoned lock is as good as any.
     #[track_caller]
-    pub(crate) fn lock(&self) -> MutexGuard<'_, SharedState> {
+    pub(crate) fn lock(&self) -> Taken<'_, SharedState> {
+        self.refuse_borrower();
+        self.state.take()
+    }
+
+    #[track_caller]
+    fn refuse_borrower(&self) {
         assert!(
             !self.borrower.is_here(),
             "this thread is inside `Shared::with` of the same guardian, and would wait for itself"
         );
-        self.state.lock().unwrap_or_else(PoisonError::into_inner)
     }
 
     // Waits for that. Each time that it is woken, and when the patience is over, it makes an attempt, and waits on if that
     // fails. Also returns the circle for which it waits no longer.
     pub(crate) fn wait_while<'s>(
         &'s self,
-        mut state: MutexGuard<'s, SharedState>,
+        mut state: Taken<'s, SharedState>,
         goal: WaitGoal,
         patience: Duration,
         attempt: &mut impl Attempt,
-    ) -> (MutexGuard<'s, SharedState>, Option<Deadlock>) {
+    ) -> (Taken<'s, SharedState>, Option<Deadlock>) {
         let start = Instant::now();
-        let (number, condition) = state.join(goal);
+        let (number, sleeper) = state.join(goal);
         state.break_circles(number);
         while !state.is_refused(number) {
             if !attempt.is_ready() {
@@ -137,10 +149,11 @@ impl Shared {
                 }
             }
             let left = patience.saturating_sub(start.elapsed());
-            let sleeps = |state: &mut SharedState| !state.is_woken(number);
-            let result = condition.wait_timeout_while(state, left, sleeps);
-            state = result.unwrap_or_else(PoisonError::into_inner).0;
-            state.look(number);
+            drop(state);
+            sleeper.look(LOOKS.min(left));
+            sleeper.sleep_for(left);
+            state = self.lock();
+            sleeper.forget();
             if !attempt.fails(&mut state) || start.elapsed() >= patience {
                 break;
             }
@@ -177,11 +190,15 @@ impl Shared {
         call: &Call,
         topaction: Option<ActionId>,
         is_outermost: bool,
+        waits: bool,
         what: impl FnOnce(&Guardian) -> T,
     ) -> Result<T, Error> {
         let mut state = self.lock();
         state.end(call, topaction)?;
         let said = what(&state.guardian);
+        if waits {
+            state.hand_on();
+        }
         if is_outermost {
             self.fold_ended(call, state);
         }
@@ -243,7 +260,7 @@ impl Shared {
         call: &Call,
         patience: Duration,
         lineage_of: impl FnOnce(ActionId) -> Lineage,
-    ) -> Result<(MutexGuard<'_, SharedState>, Reply, Option<Deadlock>), Error> {
+    ) -> Result<(Taken<'_, SharedState>, Reply, Option<Deadlock>), Error> {
         let mut request = Request::read(call)?;
         let mut state = self.lock();
         let reply = state.make(&mut request);
@@ -280,7 +297,8 @@ impl Shared {
     }
 
     pub(crate) fn begin_topaction(&self) -> Result<ActionId, Error> {
-        let mut state = self.lock();
+        self.refuse_borrower();
+        let mut state = self.state.take_last();
         if state.folding > 0 {
             let mut still = |state: &mut SharedState| state.folding > 0;
             (state, _) = self.wait_while(state, WaitGoal::NoFolding, Duration::MAX, &mut still);
@@ -395,15 +413,14 @@ impl Shared {
     /// ```
     #[must_use]
     pub fn into_inner(self) -> Guardian {
-        let state = self.state.into_inner();
-        state.unwrap_or_else(PoisonError::into_inner).guardian
+        self.state.into_inner().guardian
     }
 }
 
 // The guardian, while it is lent to `with`.
 struct Loan<'s> {
     shared: &'s Shared,
-    state: MutexGuard<'s, SharedState>,
+    state: Taken<'s, SharedState>,
 }
 
 impl Drop for Loan<'_> {

@@ -2,24 +2,21 @@
 
 use crate::log::{BatchLog, Failure, JournalLines, LoggedError, Result};
 use crate::shared::action::Shares;
+use crate::shared::group::{Group, locked};
 use crate::shared::retry::{commit_after, retried};
-use crate::{ActionId, AsObject, CheckpointError, Content, Error, Guardian, Listing, MayConflict};
+use crate::shared::taking::Taking;
+use crate::{ActionId, AsObject, Content, Error, Guardian, Listing, MayConflict};
 use crate::{ObjId, Object, Shared, SharedAction};
-use std::collections::{HashMap, VecDeque};
-use std::panic::{AssertUnwindSafe, catch_unwind, resume_unwind};
+use std::collections::HashMap;
 use std::path::PathBuf;
-use std::sync::{Condvar, Mutex, MutexGuard, OnceLock, PoisonError};
-use std::thread::{self, ThreadId};
+use std::sync::Mutex;
+use std::sync::atomic::{AtomicU64, Ordering};
 use std::time::{Duration, Instant};
-use std::{fmt, io, iter, mem};
+use std::{fmt, io, iter};
 
 // How long a checkpoint that a log makes by itself holds back topactions; and after how many entries it tries again.
 const PATIENCE: Duration = Duration::from_millis(100);
 const AGAIN: u64 = 10_000;
-// How long a write waits for other commits, less than a disk takes to sync; and its most bytes, but for a longer line.
-const GATHER: Duration = Duration::from_micros(200);
-const PIECE: usize = 256 * 1024;
-
 /// A guardian that threads share, and whose journal's entries go to a log.
 ///
 /// A topaction or a nested one is *acknowledged* when its [`commit`](LoggedAction::commit) has returned `Ok`: it and
@@ -34,13 +31,13 @@ const PIECE: usize = 256 * 1024;
 pub struct Logged {
     shared: Shared,
     log: Mutex<Box<dyn BatchLog>>,
-    queue: Mutex<Queue>,
-    has_changed: Condvar,
-    have_come: Condvar,
-    broken: OnceLock<Failure>,
-    // The objects by their names, if the log keeps any; and after how many entries it makes a checkpoint by itself.
+    taking: Mutex<Taking>,
+    group: Group,
+    // The objects by their names, if the log keeps any; after how many entries it makes a checkpoint by itself, and the
+    // entry before which it needn't look whether it should.
     pub(crate) names: Option<Mutex<HashMap<String, Object>>>,
     pub(crate) fold_after: Option<u64>,
+    due_at: AtomicU64,
     pub(crate) found: LogFound,
 }
 
@@ -60,20 +57,13 @@ impl Logged {
     /// has restored: check first that its next entry is the log's. Aborts what is live, and returns when the log has that;
     /// [`counts`](Self::counts) then has the entries that it took. Accesses wait for locks at most for this patience.
     pub fn over(guardian: Guardian, log: Box<dyn BatchLog>, patience: Duration) -> Result<Logged> {
-        let queue = Queue {
-            safe: guardian.entries(),
-            taken: guardian.entries(),
-            room: vec![0; PIECE],
-            ..Queue::default()
-        };
         let logged = Logged {
             log: Mutex::new(log),
-            queue: Mutex::new(queue),
-            has_changed: Condvar::new(),
-            have_come: Condvar::new(),
-            broken: OnceLock::new(),
+            taking: Mutex::new(Taking::after(guardian.entries())),
+            group: Group::after(guardian.entries()),
             names: None,
             fold_after: None,
+            due_at: AtomicU64::new(0),
             found: LogFound::default(),
             shared: Shared::new(guardian, patience).fold_after(None),
         };
@@ -128,8 +118,7 @@ impl Logged {
         }
         let object = self.acknowledged(|guardian| {
             let object = guardian.object(guardian.declare(shape)?)?.called(name);
-            let entry = (guardian.entries(), object.clone());
-            locked(&self.queue).named.push(entry);
+            locked(&self.taking).name(guardian, object.clone());
             Ok(object)
         })?;
         names.insert(name.to_owned(), object.clone());
@@ -177,7 +166,7 @@ impl Logged {
 
     // What the guardian returns, when all of it is in the log.
     fn acknowledged<T>(&self, what: impl FnOnce(&Guardian) -> Result<T, Error>) -> Result<T> {
-        let asked = |it: &Guardian| Ok::<_, Error>((what(it)?, it.entries()));
+        let asked = |it: &Guardian| Ok::<_, Error>((what(it)?, self.committed(it)));
         let (answer, entries) = self.shared()?.lend(asked)?;
         self.wait(entries, 0).map(|()| answer)
     }
@@ -191,7 +180,7 @@ impl Logged {
     /// holds back each [`topaction`](Self::topaction), at most for this patience. At an error the log goes on as it was, but
     /// after `OutOfMemory` it may start again later. A log in a database does so by itself (`LogOptions::checkpoint_after`).
     pub fn checkpoint_waiting(&self, patience: Duration) -> Result<()> {
-        let fold = |guardian: &Guardian| locked(&self.queue).fold(guardian);
+        let fold = |it: &Guardian| locked(&self.taking).fold(it, |piece| self.group.put(piece));
         let openings = self.shared()?.fold_waiting(patience, fold)?;
         self.wait(0, openings)
     }
@@ -201,11 +190,16 @@ impl Logged {
         let Some(after) = self.fold_after else { return };
         let asked = |it: &Guardian| (it.entries(), it.first_entry(), it.actions());
         let (entries, begins, actions) = self.shared.lend(asked);
-        let is_due = entries >= begins + after || actions >= Guardian::MAX_ACTIONS / 2;
-        let mut queue = locked(&self.queue);
-        if is_due && entries >= queue.again_at {
-            queue.again_at = entries + AGAIN.min(after);
-            drop(queue);
+        // An entry begins one action at most.
+        let left = (Guardian::MAX_ACTIONS / 2).saturating_sub(actions);
+        let due = (begins.saturating_add(after)).min(entries + u64::from(left));
+        let again = if entries < due {
+            due
+        } else {
+            entries + AGAIN.min(after)
+        };
+        let is_mine = self.due_at.swap(again, Ordering::Relaxed) <= entries;
+        if entries >= due && is_mine {
             let _ = self.checkpoint_waiting(PATIENCE);
         }
     }
@@ -217,19 +211,18 @@ impl Logged {
 
     /// What the log has done since it was opened.
     pub fn counts(&self) -> LogCounts {
-        locked(&self.queue).counts
+        self.group.counts()
     }
 
     /// Why the log is broken, if it is.
     pub fn broken(&self) -> Option<Failure> {
-        self.broken.get().cloned()
+        self.group.broken()
     }
 }
 
 impl Shares for Logged {
     type Error = LoggedError;
-    const COUNT: fn(&Guardian) -> u64 = Guardian::entries;
-
+    const WAITS: bool = true;
     fn kept(&self) -> &Shared {
         &self.shared
     }
@@ -239,9 +232,15 @@ impl Shares for Logged {
         broken.map_or(Ok(&self.shared), Err)
     }
 
+    // What isn't taken here, for want of memory, is when it is written.
+    fn committed(&self, guardian: &Guardian) -> u64 {
+        let _ = self.take_all(guardian);
+        guardian.entries()
+    }
+
     fn acknowledge(&self, entries: u64, is_outermost: bool) -> Result<()> {
         self.wait(entries, 0)?;
-        if is_outermost {
+        if is_outermost && entries >= self.due_at.load(Ordering::Relaxed) {
             self.checkpoint_if_due();
         }
         Ok(())
@@ -299,136 +298,27 @@ impl BatchLog for io::Sink {
     }
 }
 
-// A thread that panics is one that was writing, and then the log has failed.
-fn locked<T: ?Sized>(mutex: &Mutex<T>) -> MutexGuard<'_, T> {
-    mutex.lock().unwrap_or_else(PoisonError::into_inner)
-}
-
-// How far the log has come, who waits, and what has been taken out of the journal. Pieces are taken while the
-// guardian's mutex is held, so they are in the order of the entries.
-#[derive(Default)]
-struct Queue {
-    // The entries before these numbers are in the log, and were taken; how many openings were, and whether one is owed.
-    safe: u64,
-    taken: u64,
-    openings: u64,
-    owes_opening: bool,
-    pieces: VecDeque<JournalLines>,
-    // Objects with names, each with the number of entries that there have to be before it counts.
-    named: Vec<(u64, Object)>,
-    room: Vec<u8>,
-    // The thread that writes; how many others wait since the last write ended, and how many waited then.
-    writer: Option<ThreadId>,
-    waiting: usize,
-    expected: usize,
-    // The entry before which the log tries no other checkpoint by itself.
-    again_at: u64,
-    counts: LogCounts,
-}
-
 impl Logged {
-    // Returns when the log has all entries before this one, and so many openings. A thread that finds no other one
-    // writing takes all lines that the log hasn't got, and writes them for all; calls go on meanwhile.
+    // Returns when the log has all entries before this one, and so many openings.
     fn wait(&self, entry: u64, openings: u64) -> Result<()> {
-        let this = Some(thread::current().id());
-        let mut queue = locked(&self.queue);
-        while queue.safe < entry || queue.counts.checkpoints < openings {
-            if let Some(failure) = self.broken() {
-                queue.counts.in_doubt += 1;
-                return Err(LoggedError::InDoubt(failure));
-            }
-            assert_ne!(queue.writer, this, "a log waits for its own guardian");
-            if queue.writer.is_none() {
-                queue.writer = this;
-                queue = self.write(queue);
-                continue;
-            }
-            queue.waiting += 1;
-            if queue.waiting == queue.expected {
-                self.have_come.notify_one();
-            }
-            let waited = self.has_changed.wait(queue);
-            queue = waited.unwrap_or_else(PoisonError::into_inner);
-        }
-        Ok(())
+        self.group.wait((entry, openings), || self.write_batch())
     }
 
-    // Writes the next piece, and wakes those who wait, after a panic too. First it waits a little until as many wait as
-    // at the last write: their commits share this one. Where syncs take no time, hardly any would come otherwise.
-    fn write<'q>(&'q self, queue: MutexGuard<'q, Queue>) -> MutexGuard<'q, Queue> {
-        let (come, are_missing) = (&self.have_come, |it: &mut Queue| it.waiting < it.expected);
-        drop(come.wait_timeout_while(queue, GATHER, are_missing));
-        let written = catch_unwind(AssertUnwindSafe(|| self.write_piece()));
-        let panicked = |_: &_| Err(io::Error::other("the thread that wrote panicked").into());
-        if let Err(failure) = written.as_ref().map_or_else(panicked, Clone::clone) {
-            self.broken.get_or_init(|| failure);
+    fn write_batch(&self) -> Result<(), Failure> {
+        let mut batch = self.group.next_batch();
+        if batch.is_none() {
+            let taken = self.shared.lend(|guardian| self.take_all(guardian));
+            taken.map_err(io::Error::other)?;
+            batch = self.group.next_batch();
         }
-        let mut queue = locked(&self.queue);
-        queue.writer = None;
-        queue.expected = mem::take(&mut queue.waiting);
-        self.has_changed.notify_all();
-        written.map_or_else(|panic| resume_unwind(panic), |_| queue)
-    }
-
-    fn write_piece(&self) -> Result<(), Failure> {
-        let next = |guardian: &Guardian| {
-            let mut queue = locked(&self.queue);
-            if queue.pieces.is_empty() {
-                queue.take(guardian)?;
-            }
-            queue.pieces.pop_front().ok_or(Error::OtherAnswer)
-        };
-        let lines = self.shared.lend(next).map_err(io::Error::other)?;
+        let lines = batch.ok_or_else(|| io::Error::other(Error::OtherAnswer))?;
         let started = Instant::now();
         locked(&self.log).append(&lines)?;
-        let (mut queue, openings) = (locked(&self.queue), u64::from(lines.is_opening()));
-        queue.safe = lines.next;
-        queue.counts.batches += 1 - openings;
-        queue.counts.checkpoints += openings;
-        queue.counts.entries += lines.next - lines.first;
-        queue.counts.bytes += lines.text.len() as u64;
-        queue.counts.time += started.elapsed();
-        Ok(())
-    }
-}
-
-impl Queue {
-    // Takes the opening that is owed, or else as many lines as fit into a piece, and at least one: there are some.
-    fn take(&mut self, guardian: &Guardian) -> Result<(), Error> {
-        let text = if self.owes_opening {
-            let mut text = guardian.list(Listing::Journal)?;
-            let lines = text.split_inclusive('\n');
-            let opening = lines.take_while(|it| it.starts_with("opening "));
-            text.truncate(opening.map(str::len).sum());
-            text
-        } else {
-            let lines = guardian.lines(self.taken, &mut self.room)?;
-            match lines.count {
-                0 => guardian.entry(self.taken)? + "\n",
-                _ => String::from_utf8_lossy(&self.room[..lines.size]).into_owned(),
-            }
-        };
-        let mut lines = JournalLines::new(self.taken, text).ok_or(Error::OtherAnswer)?;
-        self.openings += u64::from(mem::take(&mut self.owes_opening));
-        self.taken = lines.next;
-        let named = self.named.partition_point(|it| it.0 <= self.taken);
-        lines.named.extend(self.named.drain(..named).map(|it| it.1));
-        self.pieces.push_back(lines);
+        self.group.has_written(&lines, started.elapsed());
         Ok(())
     }
 
-    // Folds the journal when all of it has been taken, and takes the opening; a journal without entries has none. How
-    // many openings the log has then. If there is no memory for the opening, it is taken before the next lines.
-    fn fold(&mut self, guardian: &Guardian) -> Result<u64, CheckpointError> {
-        let out_of_memory = |_: Error| CheckpointError::OutOfMemory;
-        while self.owes_opening || self.taken < guardian.entries() {
-            self.take(guardian).map_err(out_of_memory)?;
-        }
-        Shared::fold(guardian)?;
-        self.owes_opening = self.taken > 0;
-        if self.owes_opening {
-            self.take(guardian).map_err(out_of_memory)?;
-        }
-        Ok(self.openings)
+    fn take_all(&self, guardian: &Guardian) -> Result<(), Error> {
+        locked(&self.taking).take_all(guardian, |piece| self.group.put(piece))
     }
 }

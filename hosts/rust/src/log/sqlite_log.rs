@@ -34,6 +34,8 @@ const MOVE: &str = "UPDATE log SET epoch=?, next_entry=?, sum=?, is_open=?, vers
 const OBJECT: &str = "INSERT INTO object VALUES (?, ?, ?, nullif(?, 'absent')) ON CONFLICT (number) \
      DO UPDATE SET name = ifnull(excluded.name, name), shape = excluded.shape, \
      base = ifnull(excluded.base, base)";
+const HELD: &str =
+    "UPDATE object SET base = ifnull(nullif(?, 'absent'), base) WHERE number = ? AND shape = ?";
 
 fn random_name(database: &Connection) -> rusqlite::Result<String> {
     database.query_row("SELECT lower(hex(randomblob(16)))", [], |row| row.get(0))
@@ -232,18 +234,23 @@ impl SqliteLog {
         let sum = log_sum(&self.head.name, first, before, text.as_bytes());
         let end = (epoch, lines.next, sum);
         let [database, _] = self.connections.as_ref().expect("it isn't dropped");
-        let transaction = database.unchecked_transaction()?;
-        move_end(&transaction, self.head.end, end, true)?;
-        if is_opening {
-            put_opening(&transaction, text)?;
-        } else {
-            let mut append = transaction.prepare_cached("INSERT INTO batch VALUES (?, ?, ?)")?;
-            append.execute((first, text, sum))?;
-        }
-        for it in &lines.named {
-            transaction.execute(OBJECT, (it.id().number(), it.name(), it.shape(), "absent"))?;
-        }
-        transaction.commit()?;
+        // As rusqlite's `Transaction` does, but SQLite parses these words once.
+        database.prepare_cached("BEGIN")?.execute(())?;
+        let put = || {
+            move_end(database, self.head.end, end, true)?;
+            if is_opening {
+                put_opening(database, text)?;
+            } else {
+                let mut append = database.prepare_cached("INSERT INTO batch VALUES (?, ?, ?)")?;
+                append.execute((first, text, sum))?;
+            }
+            for it in &lines.named {
+                database.execute(OBJECT, (it.id().number(), it.name(), it.shape(), "absent"))?;
+            }
+            database.prepare_cached("COMMIT")?.execute(())?;
+            Ok::<_, LoggedError>(())
+        };
+        put().inspect_err(|_| drop(database.execute_batch("ROLLBACK")))?;
         self.head.end = end;
         Ok(())
     }
@@ -261,12 +268,16 @@ fn put_opening(database: &Connection, text: &str) -> rusqlite::Result<()> {
     database.execute_batch("DELETE FROM batch; DELETE FROM opening")?;
     let mut insert = database.prepare_cached("INSERT INTO opening VALUES (?, ?)")?;
     let mut object = database.prepare_cached(OBJECT)?;
+    let mut held_again = database.prepare_cached(HELD)?;
     for (number, line) in (-1..).zip(text.split('\n')) {
         insert.execute((number + 1, line))?;
         // As in `opening o0 atomic_record[balance:int] {5}`; the first line is of none.
         let words: Vec<&str> = line.splitn(4, ' ').collect();
         if let (0.., [_, _, shape, held]) = (number, &words[..]) {
-            object.execute((number, None::<&str>, shape, held))?;
+            // Most are there, and keep their names, which have an index.
+            if held_again.execute((held, number, shape))? == 0 {
+                object.execute((number, None::<&str>, shape, held))?;
+            }
         }
     }
     Ok(())

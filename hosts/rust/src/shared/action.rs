@@ -40,14 +40,19 @@ pub trait Shares {
     /// Why calls of its actions fail.
     type Error: From<Error>;
 
-    /// How many entries the journal has had, if commits are acknowledged by that.
-    const COUNT: fn(&Guardian) -> u64 = |_| 0;
+    /// Whether a thread waits when it has committed a topaction.
+    const WAITS: bool = false;
 
     /// The guardian, for what is no call of a program.
     fn kept(&self) -> &Shared;
 
     /// The guardian, for a call, unless none is made any more.
     fn shared(&self) -> Result<&Shared, Self::Error>;
+
+    /// A topaction, nested or not, has just committed in this guardian. Returns by which entry that is acknowledged.
+    fn committed(&self, _guardian: &Guardian) -> u64 {
+        0
+    }
 
     /// Acknowledges the commit of a topaction, nested or not: the last one of so many entries.
     fn acknowledge(&self, _entries: u64, _is_outermost: bool) -> Result<(), Self::Error> {
@@ -250,11 +255,10 @@ impl<'s, S: Sharer> SharedAction<'s, S> {
     /// ```
     pub fn commit(self) -> Result<(), S::Error> {
         let (sharer, is_outermost) = (self.sharer, self.is_outermost());
-        let is_sub = self.topaction().is_some();
-        let entries = self.end(Call::Commit)?;
-        if is_sub {
-            return Ok(());
+        if self.topaction().is_some() {
+            return self.end(Call::Commit, |_| ());
         }
+        let entries = self.end(Call::Commit, |guardian| sharer.committed(guardian))?;
         sharer.acknowledge(entries, is_outermost)
     }
 
@@ -273,16 +277,22 @@ impl<'s, S: Sharer> SharedAction<'s, S> {
     /// # Ok::<(), Error>(())
     /// ```
     pub fn abort(self) -> Result<(), S::Error> {
-        self.end(Call::Abort).map(drop)
+        self.end(Call::Abort, |_| ())
     }
 
-    fn end(self, how: impl FnOnce(ActionId) -> Call) -> Result<u64, S::Error> {
+    // Returns what this function says of the guardian afterwards.
+    fn end<T>(
+        self,
+        how: impl FnOnce(ActionId) -> Call,
+        what: impl FnOnce(&Guardian) -> T,
+    ) -> Result<T, S::Error> {
         let (call, topaction) = (how(self.id), self.topaction());
         let shared = self.sharer.shared()?;
-        let entries = shared.end(&call, topaction, self.is_outermost(), S::COUNT)?;
+        let waits = S::WAITS && topaction.is_none();
+        let said = shared.end(&call, topaction, self.is_outermost(), waits, what)?;
         // It is over: there is nothing to abort, and nothing in it to drop.
         mem::forget(self);
-        Ok(entries)
+        Ok(said)
     }
 }
 

@@ -6,8 +6,8 @@ use crate::guardian::Guardian;
 use crate::ids::ActionId;
 use crate::shared::Shared;
 use crate::shared::state::SharedState;
+use crate::shared::turns::Taken;
 use crate::shared::waits::WaitGoal;
-use std::sync::{MutexGuard, PoisonError};
 use std::time::Duration;
 
 // How long a fold that is made by itself holds back topactions at most, where there is no quiet moment.
@@ -149,13 +149,12 @@ impl Shared {
     #[must_use]
     pub fn fold_after(mut self, entries: Option<u64>) -> Shared {
         let state = self.state.get_mut();
-        let state = state.unwrap_or_else(PoisonError::into_inner);
         state.growth = Growth::of(&state.guardian, entries);
         self
     }
 
     // The guard of an outermost action is gone, after this call: folds the journal, if that is due.
-    pub(crate) fn fold_ended(&self, call: &Call, mut state: MutexGuard<'_, SharedState>) {
+    pub(crate) fn fold_ended(&self, call: &Call, mut state: Taken<'_, SharedState>) {
         let number = call.action().map_or(0, ActionId::number);
         if state.fold_if_due(number) {
             drop(state);

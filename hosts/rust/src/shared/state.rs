@@ -9,9 +9,10 @@ use crate::request::Request;
 use crate::shared::Shared;
 use crate::shared::circles::{Deadlock, Stuck, circle_with};
 use crate::shared::folding::Growth;
+use crate::shared::looking::Sleeper;
 use crate::shared::waits::{WaitGoal, Waiter};
 use std::sync::atomic::{AtomicUsize, Ordering};
-use std::sync::{Arc, Condvar, Mutex, MutexGuard, PoisonError};
+use std::sync::{Arc, Mutex, MutexGuard, PoisonError};
 use std::{mem, ptr};
 
 /// What a shared guardian keeps behind its mutex.
@@ -84,9 +85,9 @@ impl SharedState {
         Ok(())
     }
 
-    /// This thread waits for that from now on. Returns its number, and the condition on which it waits.
-    pub(crate) fn join(&mut self, goal: WaitGoal) -> (u64, Arc<Condvar>) {
-        let condition = Arc::new(Condvar::new());
+    /// This thread waits for that from now on. Returns its number, and as what it sleeps.
+    pub(crate) fn join(&mut self, goal: WaitGoal) -> (u64, Arc<Sleeper>) {
+        let sleeper = Sleeper::here();
         if let WaitGoal::Access(access) = &goal {
             self.held_up.extend(access.lineage.all());
             self.held_up.sort_unstable();
@@ -95,27 +96,14 @@ impl SharedState {
         self.waiting.push(Waiter {
             number: self.waited,
             goal,
-            is_woken: false,
             deadlock: None,
-            condition: Arc::clone(&condition),
+            sleeper: Arc::clone(&sleeper),
         });
-        (self.waited, condition)
+        (self.waited, sleeper)
     }
 
     fn waiter(&mut self, number: u64) -> Option<&mut Waiter> {
         self.waiting.iter_mut().find(|it| it.number == number)
-    }
-
-    /// Whether the waiter of this number was woken, and hasn't looked yet.
-    pub(crate) fn is_woken(&mut self, number: u64) -> bool {
-        self.waiter(number).is_none_or(|it| it.is_woken)
-    }
-
-    /// The waiter of this number looks.
-    pub(crate) fn look(&mut self, number: u64) {
-        if let Some(waiter) = self.waiter(number) {
-            waiter.is_woken = false;
-        }
     }
 
     /// Whether the waiter of this number is refused.
@@ -153,8 +141,8 @@ impl SharedState {
     fn wake_each(&mut self, is_meant: impl Fn(&Waiter) -> bool) {
         for place in 0..self.waiting.len() {
             let waiter = &self.waiting[place];
-            if !waiter.is_woken && is_meant(waiter) && self.may_go_on(place) {
-                self.waiting[place].wake();
+            if !waiter.is_woken() && is_meant(waiter) && self.may_go_on(place) {
+                self.waiting[place].sleeper.wake();
             }
         }
     }
@@ -163,7 +151,7 @@ impl SharedState {
     fn may_go_on(&self, place: usize) -> bool {
         match &self.waiting[place].goal {
             WaitGoal::Access(access) if access.may_be_made(&self.guardian) => {
-                let mut woken = self.waiting.iter().filter(|it| it.is_woken);
+                let mut woken = self.waiting.iter().filter(|it| it.is_woken());
                 let left_to = |it: &Waiter| it.access().is_some_and(|it| it.conflicts_with(access));
                 !woken.any(left_to)
             }

@@ -8,8 +8,9 @@ use crate::questions::Status;
 use crate::reply::{Refusal, Reply};
 use crate::request::Request;
 use crate::shared::circles::{Deadlock, Stuck};
+use crate::shared::looking::Sleeper;
 use crate::shared::state::SharedState;
-use std::sync::{Arc, Condvar};
+use std::sync::Arc;
 
 /// The reply to an access whose lock isn't free.
 pub(crate) const CONFLICT: Reply = Reply::Refused(Refusal::Conflict);
@@ -20,24 +21,21 @@ pub(crate) struct Waiter {
     /// No other waiter of the guardian has it.
     pub(crate) number: u64,
     pub(crate) goal: WaitGoal,
-    /// Whether it was woken, and hasn't looked yet.
-    pub(crate) is_woken: bool,
     /// Why it waits no longer than until it looks.
     pub(crate) deadlock: Option<Deadlock>,
-    /// On which it alone waits.
-    pub(crate) condition: Arc<Condvar>,
+    /// It is awake if it was woken, and hasn't looked yet.
+    pub(crate) sleeper: Arc<Sleeper>,
 }
 
 impl Waiter {
-    pub(crate) fn wake(&mut self) {
-        self.is_woken = true;
-        self.condition.notify_one();
+    pub(crate) fn is_woken(&self) -> bool {
+        self.sleeper.is_woken()
     }
 
     /// It is woken, and waits no more.
     pub(crate) fn refuse(&mut self, deadlock: Deadlock) {
         self.deadlock = Some(deadlock);
-        self.wake();
+        self.sleeper.wake();
     }
 
     /// Its access, if it waits for one.
@@ -51,7 +49,7 @@ impl Waiter {
     /// Its access, if it waits for one, was not woken, and isn't refused.
     pub(crate) fn stuck(&self) -> Option<Stuck<'_>> {
         let number = self.number;
-        let waits = |_: &&WaitingAccess| !self.is_woken && self.deadlock.is_none();
+        let waits = |_: &&WaitingAccess| !self.is_woken() && self.deadlock.is_none();
         let access = self.access().filter(waits)?;
         Some(Stuck { number, access })
     }

@@ -259,8 +259,8 @@ fn a_busy_checkpoint_changes_nothing() {
     );
     thread::scope(|scope| {
         let commits = scope.spawn(|| top.commit());
-        assert_eq!(gate.pass(), lines(&["0 begin_top -> a0"]));
-        assert_eq!(gate.pass(), lines(&["1 commit a0 -> done"]));
+        let all = ["0 begin_top -> a0", "1 commit a0 -> done"];
+        assert_eq!(gate.pass(), lines(&all));
         commits.join().expect("no panic").expect("acknowledged");
     });
 }
