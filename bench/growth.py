@@ -1,19 +1,19 @@
 #!/usr/bin/env python3
 # SPDX-License-Identifier: MIT
-"""Prints how the costs of argus, replay and picture grow: a row for each input that makes one of them slow.
+"""Prints how the costs of argus and replay grow: a row for each input that makes one of them slow.
 
     bench/growth.py [--full] [ROW ..]      all rows, or those with these names
     taskset -c 3 bench/growth.py           on one processor
 
 A row is measured at two lengths, the second twice the first. The ratio of both figures is 2 if a cost grows as its
 input does, 4 if it is quadratic, 8 if it is cubic. A figure is the processor time (user's and system's) of the whole
-program, or the most memory that it had at once (or Python's own 17 MB, if that is more). Figures of runs under two
-seconds are medians of three. With --full the lengths are large: the programs' limits, or what takes a minute. What
-is printed is a table in Markdown. Nothing is compared with a limit, since the figures are the machine's.
+program. Figures of runs under two seconds are medians of three. With --full the lengths are large: the programs'
+limits, or what takes a minute. What is printed is a table in Markdown. Nothing is compared with a limit, since the
+figures are the machine's.
 --calls prints instead of what the time of each public call and listing depends.
 
-The programs have to be built: .ci/run leaves them, and so do ./argus --prove and its like. ARGUS, REPLAY and PICTURE
-in the environment name others.
+The programs have to be built: .ci/run leaves them, and so do ./argus --prove and its like. ARGUS and REPLAY in the
+environment name others.
 """
 
 import argparse
@@ -24,7 +24,6 @@ import sys
 import tempfile
 from collections.abc import Callable, Iterator
 from functools import wraps
-from itertools import islice
 from pathlib import Path
 from typing import NamedTuple
 
@@ -44,13 +43,6 @@ class Row(NamedTuple):
     full: tuple[int, int]
     unit: str
     depends: str
-
-
-class Cost(NamedTuple):
-    """Seconds of processor time, and megabytes."""
-
-    seconds: float
-    megabytes: float
 
 
 def program(name: str) -> str:
@@ -104,41 +96,6 @@ def held(count: int) -> Lines:
     yield from (f"alter a0 o{number % 1_000} set_field 0 {number} -> done" for number in range(1_001, count * 8 // 10))
     for action in range(1, count // 10 + 1):
         yield from (f"begin_sub a0 -> a{action}", f"abort a{action} -> done")
-
-
-@journal
-def commits(count: int) -> Lines:
-    """So many topactions, each of which sets an item of one array of 10,000, and commits."""
-    yield "declare atomic_array[int] -> o0"
-    yield "begin_top -> a0"
-    yield f"alter a0 o0 create 1[{','.join(['123'] * 10_000)}] -> done"
-    yield "commit a0 -> done"
-    for action in range(1, count + 1):
-        yield f"begin_top -> a{action}"
-        yield f"alter a{action} o0 store {action % 10_000 + 1} {action} -> done"
-        yield f"commit a{action} -> done"
-
-
-@journal
-def transfers(count: int) -> Lines:
-    """So many entries: topactions that set one of 50 records, and another one in a subaction, which may abort."""
-    return islice(endless_transfers(), count)
-
-
-def endless_transfers() -> Lines:
-    yield from (f"declare atomic_record[n:int] -> o{record}" for record in range(50))
-    yield "begin_top -> a0"
-    yield from (f"alter a0 o{record} create {{0}} -> done" for record in range(50))
-    yield "commit a0 -> done"
-    top = 1
-    while True:
-        yield f"begin_top -> a{top}"
-        yield f"alter a{top} o{top % 50} set_field 0 {top} -> done"
-        yield f"begin_sub a{top} -> a{top + 1}"
-        yield f"alter a{top + 1} o{(top + 1) % 50} set_field 0 -{top} -> done"
-        yield f"{'commit' if top % 3 else 'abort'} a{top + 1} -> done"
-        yield f"commit a{top} -> done"
-        top += 2
 
 
 @journal
@@ -213,24 +170,6 @@ ROWS = (
         "It should grow with the entries.",
     ),
     Row(
-        "commits",
-        "picture",
-        commits,
-        (2_500, 5_000),
-        (10_000, 20_000),
-        "commits, each of one item of an array of 10,000",
-        "It should grow with the entries, and does: of each base only what is shown is kept.",
-    ),
-    Row(
-        "transfers",
-        "picture",
-        transfers,
-        (8_192, 16_384),
-        (32_768, 65_536),
-        "entries of topactions with a subaction, over 50 objects",
-        "It should grow with the entries, and does.",
-    ),
-    Row(
         "readers",
         "replay",
         readers,
@@ -269,27 +208,27 @@ ROWS = (
 )
 
 
-def cost_once(command: list[str], path: Path) -> Cost:
-    """What a run with this file as its input costs. SystemExit: its status isn't 0."""
+def cost_once(command: list[str], path: Path) -> float:
+    """The seconds of a run with this file as its input. SystemExit: its status isn't 0."""
     with path.open("rb") as given:
         process = subprocess.Popen(command, stdin=given, stdout=subprocess.DEVNULL)
         _, status, used = os.wait4(process.pid, 0)
     process.returncode = os.waitstatus_to_exitcode(status)
     if process.returncode != 0:
         sys.exit(f"{' '.join(command)}: status {process.returncode}")
-    return Cost(used.ru_utime + used.ru_stime, used.ru_maxrss * 1_024 / 1_000_000)
+    return used.ru_utime + used.ru_stime
 
 
-def cost(command: list[str], path: Path) -> Cost:
+def cost(command: list[str], path: Path) -> float:
     """The median of three runs, or a single one that takes two seconds."""
     costs = [cost_once(command, path)]
-    while len(costs) < 3 and costs[0].seconds < 2:
+    while len(costs) < 3 and costs[0] < 2:
         costs.append(cost_once(command, path))
-    return Cost(*(statistics.median(figures) for figures in zip(*costs)))
+    return statistics.median(costs)
 
 
-def cost_at(row: Row, length: int) -> Cost:
-    """What the row costs at this length."""
+def cost_at(row: Row, length: int) -> float:
+    """How many seconds the row takes at this length."""
     name, *words = row.command.split()
     with tempfile.TemporaryDirectory() as room:
         path = Path(room, "input")
@@ -320,7 +259,6 @@ CALLS = {
     "listing Journal; resume": "the entries, and the opening's objects; each line as its call",
     "listing Audit": "the entries and the objects",
     "parse; runs of scripts": "the bytes, and the logarithm of the names; the calls",
-    "pictures": "the entries, and what is drawn of their contents",
 }
 
 
@@ -329,20 +267,18 @@ def rounded(figure: float) -> str:
     return f"{figure:,.0f}" if figure >= 10 else f"{figure:.2g}"
 
 
-def table_line(row: Row, lengths: tuple[int, int], figures: tuple[float, float], unit: str) -> str:
+def table_line(row: Row, lengths: tuple[int, int], figures: tuple[float, float]) -> str:
     """A line of the table: what was measured, of what it should depend, and the figures."""
     few, many = (f"{length:,}" for length in lengths)
     first, second = (rounded(figure) for figure in figures)
     measured = f"{row.name}: `{row.command}` of {few} and {many} {row.unit}"
-    return f"| {measured} | {row.depends} | {first} {unit} | {second} {unit} | {figures[1] / figures[0]:.1f} |"
+    return f"| {measured} | {row.depends} | {first} s | {second} s | {figures[1] / figures[0]:.1f} |"
 
 
 def show(row: Row, lengths: tuple[int, int]) -> None:
-    """Measures a row, and prints its time; of a picture its memory, too."""
+    """Measures a row, and prints its time."""
     first, second = (cost_at(row, length) for length in lengths)
-    print(table_line(row, lengths, (first.seconds, second.seconds), "s"), flush=True)
-    if row.command == "picture":
-        print(table_line(row, lengths, (first.megabytes, second.megabytes), "MB"), flush=True)
+    print(table_line(row, lengths, (first, second)), flush=True)
 
 
 def main() -> None:

@@ -34,8 +34,7 @@ count_status() {
     fi
 }
 
-# The rows of the programs, and the launchers, over the programs that are proved, or that ARGUS, REPLAY and PICTURE
-# name.
+# The rows of the programs, and the launchers, over the programs that are proved, or that ARGUS and REPLAY name.
 count_programs() {
     tools/programs/run.py > "$room/programs" 2>&1 || true
     count "$room/programs"

@@ -24,12 +24,10 @@ LAYERS = [
     [
         ("program", "argus", "runs a script and lists", []),
         ("program", "replay", "checks a journal", []),
-        ("program", "picture", "draws a listing", []),
         ("program", "hosts", "programs in C, Rust and Python", []),
     ],
     [
         ("surface", "argus_cli", "what argus and replay do", [("argus_usage", "command lines")]),
-        ("surface", "argus_picture", "a listing, drawn", []),
         ("surface", "argus_embed", "calls by numbers and texts", []),
         ("surface", "argus_c", "a static library for C", []),
     ],

@@ -5,7 +5,7 @@
 # `meanwhile` says, and copies the program that is there. The last line is 'N passed, M failed', and the status tells
 # whether any failed.
 #
-#   [ARGUS=PROGRAM] [REPLAY=PROGRAM] [PICTURE=PROGRAM] tools/launchers.sh
+#   [ARGUS=PROGRAM] [REPLAY=PROGRAM] tools/launchers.sh
 #
 # The programs have to be built: .ci/run leaves them; others may be named.
 set -uo pipefail
@@ -14,7 +14,8 @@ export LC_ALL=C
 top=$(cd "$(dirname "$0")/.." && pwd)
 argus=${ARGUS:-$top/crates/argus/out/argus}
 replay=${REPLAY:-$top/crates/replay/out/replay}
-picture=${PICTURE:-$top/crates/picture/out/picture}
+# Where nothing is named, ./picture has listings confirmed by the ./replay beside it.
+unset REPLAY
 passed=0
 failed=0
 room=$(mktemp -d)
@@ -44,12 +45,15 @@ unread() {
 
 # A folder with the launchers, whose builds are copies of this program or, without one, fail: copy_of FOLDER [PROGRAM]
 copy_of() {
-    mkdir -p "$1/tools" "$1/build/unproved" "$1/hosts/page" "$1"/crates/{argus,replay,picture,argus_usage}/src
+    mkdir -p "$1/tools" "$1/build/unproved" "$1"/hosts/{page,picture,python/argus_guardian} \
+        "$1"/crates/{argus,replay,argus_usage}/src
     cp "$top"/{argus,replay,picture} "$1"
-    cp -r "$top"/tools/{program.sh,page.sh,kept.sh,help} "$1/tools"
+    cp -r "$top"/tools/{program.sh,kept.sh,help} "$1/tools"
     cp -r "$top/hosts/page/parts" "$1/hosts/page"
+    cp "$top"/hosts/picture/*.py "$1/hosts/picture"
+    cp "$top/hosts/python/argus_guardian/page.py" "$1/hosts/python/argus_guardian"
     cp "$top/crates/argus_usage/src/command.rt" "$1/crates/argus_usage/src"
-    printf '%s: argus_usage\n' argus replay picture > "$1/crates.txt"
+    printf '%s: argus_usage\n' argus replay > "$1/crates.txt"
     echo '// one' > "$1/crates/argus/src/main.rt"
     printf '#!/bin/sh\necho made >> made\n[ ! -e meanwhile ] || . ./meanwhile\necho words\ncp "%s" "$2"\n' \
         "${2:-/nothing}" > "$1/tools/unproved.py"
@@ -74,7 +78,7 @@ times_made() {
 
 of_texts() {
     local program word
-    for program in "$argus" "$replay" "$picture"; do
+    for program in "$argus" "$replay"; do
         for word in --help -h --version -V; do
             tried 0 "$("$program" "$word")" "$(said_of "$word" "${program##*/}")" bare/"${program##*/}" "$word"
         done
@@ -117,8 +121,12 @@ of_files() {
     tried 3 '' 'faulty: line 2: NotTheReply: done' kept/replay --list journal faulty
     tried 5 '' 'database: NoFile' kept/replay --database nothing --list journal
     tried 0 '0 begin_top -> a0' 'faulty: line 2: NotTheReply: done' kept/replay faulty --prefix --list=journal
-    tried 0 "$("$picture" --script "$top/docs/first.argus" < journal)" '' \
-        kept/picture --script "$top/docs/first.argus" journal
+    tried 0 "$(cat "$top/docs/first.svg")" '' kept/picture journal
+    tried 3 '' 'faulty: line 2: NotTheReply: done' kept/picture faulty
+    tried 3 '' 'line 2: NotTheReply: done' sh -c 'kept/picture < faulty'
+    tried 5 '' 'nothing: read fault' kept/picture nothing
+    tried 0 "$(cat "$top/docs/first.svg")" '' env "REPLAY=$replay" kept/picture journal
+    tried 1 '' 'picture: no program /nothing, which confirms a listing' env REPLAY=/nothing kept/picture journal
 }
 
 # The lines that the page of a listing has: lines_of_page WORD..
@@ -131,7 +139,7 @@ names_of_page() {
     kept/picture --html "$@" | sed -n '/^<pre id="names"/,/^<.pre>/p' | sed '1d;$d'
 }
 
-# A page is made of what the program draws; its faults, its words and its statuses are those of the program.
+# A page is made of what is drawn, and refuses what isn't.
 of_pages() {
     printf '0 no line\n' > 'no listing'
     mkdir folder_for_rooms
@@ -148,11 +156,10 @@ of_pages() {
     tried 3 '' 'script: o0: OtherShape' kept/picture --html --script "$top/examples/visitors.argus" journal
     tried 5 '' 'script: read fault' kept/picture --html --script nothing journal
     tried 5 '' '/: read fault' kept/picture --html /
-    tried 5 '' 'read fault' sh -c 'kept/picture --html < /'
     tried 5 '' 'write fault' unread kept/picture --html journal
-    tried 2 '' "$("$picture" --list 2>&1)" kept/picture --html --list journal
-    tried 2 '' "$("$picture" --script --html 2>&1)" kept/picture --script --html journal
-    tried 0 "$("$picture" --help)" '' kept/picture --html --help
+    tried 2 '' "$(kept/picture --list 2>&1)" kept/picture --html --list journal
+    tried 2 '' "$(kept/picture --script --html 2>&1)" kept/picture --script --html journal
+    tried 0 "$(kept/picture --help)" '' kept/picture --html --help
     tried 2 '' "$("$argus" --html 2>&1)" kept/argus --html
     tried 0 '' '' find "$TMPDIR" -mindepth 1
 }
@@ -244,7 +251,7 @@ of_interrupts() {
     interrupted INT -PID
 }
 
-for program in "$argus" "$replay" "$picture"; do
+for program in "$argus" "$replay"; do
     if [ ! -x "$program" ]; then
         echo "launchers: no program $program: .ci/run leaves it"
         echo "0 passed, 1 failed"
@@ -256,10 +263,8 @@ copy_of broken
 copy_of bare
 cp "$top/tools/program.sh" bare/tools
 of_texts
-for program in replay picture; do
-    mkdir -p "kept/crates/$program/out"
-    cp "${!program}" "kept/crates/$program/out/$program"
-done
+mkdir -p kept/crates/replay/out
+cp "$replay" kept/crates/replay/out/replay
 kept/argus < /dev/null 2> /dev/null
 of_files
 of_pages

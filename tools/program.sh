@@ -1,5 +1,5 @@
 # SPDX-License-Identifier: MIT
-# What ./argus, ./picture and ./replay have in common: how a program is found, made or proved, and how it is
+# What ./argus and ./replay have in common: how a program is found, made or proved, and how it is
 # run. Whoever takes this in has set `top`, the repository's folder, and `name`, the program's crate.
 
 proved=$top/crates/$name/out/$name
@@ -289,19 +289,11 @@ start() {
         return
     fi
     file=
-    html=
     takes_value=
     for word; do
         shift
         case $word in
-            --database | --list | --patience | --script | --workers) takes_value=yes ;;
-            --html)
-                if [ "$name$takes_value" = picture ]; then
-                    html=yes
-                    continue
-                fi
-                takes_value=
-                ;;
+            --database | --list | --patience | --workers) takes_value=yes ;;
             -* | '') takes_value= ;;
             *)
                 if [ -z "$takes_value$file" ]; then
@@ -318,10 +310,6 @@ start() {
         exit 5
     fi
     find_program "$@"
-    if [ -n "$html" ] && ! asks_for_text "$@"; then
-        write_page "$@"
-        return
-    fi
     if [ -n "$file" ]; then run_on_input "$@" < "$file"; fi
     exec "$program" "$@"
 }

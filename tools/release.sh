@@ -4,8 +4,10 @@
 #
 #   tools/release.sh DIST
 #
-#   DIST/bin/{argus,replay,picture}        the programs that are there: proved, or kept by a launcher. ARGUS, REPLAY
-#                                          and PICTURE in the environment name others
+#   DIST/bin/{argus,replay}                the programs that are there: proved, or kept by a launcher. ARGUS and
+#                                          REPLAY in the environment name others
+#   DIST/bin/picture                       draws what the replay beside it has confirmed, by Python
+#   DIST/share/argus/picture               its modules, with the parts of a page
 #   DIST/share/man/man3/argus.3            the manual page of the headers
 #   DIST/share/argus/rust                  the crates argus-guardian and, in sys/, argus-guardian-sys
 #   DIST/share/doc/argus/LICENSE.kit       the kit's crates that are in all of this, with their licenses
@@ -42,7 +44,7 @@ add_programs() {
     local program found
     rm -rf "$dist/bin"
     mkdir -p "$dist/bin"
-    for program in argus replay picture; do
+    for program in argus replay; do
         found=$(find_one "$program")
         if [ -z "$found" ]; then
             say "without the program $program, which isn't built"
@@ -50,6 +52,24 @@ add_programs() {
             install -m 755 "$found" "$dist/bin/$program"
         fi
     done
+}
+
+add_picture() {
+    local into=$dist/share/argus/picture
+    rm -rf "$into"
+    mkdir -p "$into"
+    cp "$top"/hosts/picture/*.py "$top/hosts/python/argus_guardian/page.py" "$into"
+    cp -r "$top/hosts/page/parts" "$into/page_parts"
+    cat > "$room/picture" << 'END'
+#!/bin/sh
+# SPDX-License-Identifier: MIT
+# Draws a journal's listing, once the replay beside this has confirmed it: picture --help
+set -eu
+here=$(dirname -- "$(readlink -f -- "$0")")
+export REPLAY="${REPLAY:-$here/replay}"
+exec python3 "$here/../share/argus/picture/picture.py" "$@"
+END
+    install -m 755 "$room/picture" "$dist/bin/picture"
 }
 
 # The crates, without what only this repository's tests have.
@@ -74,7 +94,7 @@ add_manual() {
 }
 
 add_licenses() {
-    PYTHONDONTWRITEBYTECODE=1 "$top/tools/licenses.py" argus_c argus replay picture > "$room/licenses"
+    PYTHONDONTWRITEBYTECODE=1 "$top/tools/licenses.py" argus_c argus replay > "$room/licenses"
     install -m 644 "$room/licenses" "$dist/share/doc/argus/LICENSE.kit"
 }
 
@@ -87,7 +107,7 @@ origins() {
     else
         echo "lib: of an archive that DOESN'T SAY it was proved"
     fi
-    for name in argus replay picture; do
+    for name in argus replay; do
         proved=$top/crates/$name/out/$name
         found=$(find_one "$name")
         if [ -n "$found" ] && [ "$found" = "$proved" ] && is_proved; then
@@ -103,6 +123,7 @@ list_contents() {
     {
         echo "argus $version for Linux on x86-64-v2 (processors since 2009), with glibc $(glibc_of "$dist/lib/libargus.so")" \
             "for the library and $(glibc_of "$dist"/bin/*) for the programs, or newer."
+        echo "bin/picture needs Python 3.10 or newer."
         echo "Rust, Python and the functions of the headers are tested, not proved."
         origins
         echo
@@ -163,6 +184,7 @@ make_wheel() {
 }
 
 add_programs
+add_picture
 add_crates
 add_manual
 add_licenses

@@ -1,15 +1,14 @@
 #!/usr/bin/env bash
 # SPDX-License-Identifier: MIT
 # The program itself on streams that fail: a full device, closed streams, a folder for its input, and
-# a pipe that nobody reads; and the help, the version and the mistakes of all three programs on a full
+# a pipe that nobody reads; and the help, the version and the mistakes of argus and replay on a full
 # device. Each has to end with status 5, told on standard error unless that is what is full.
-# The programs have to be built (.ci/run leaves them); ARGUS, REPLAY and PICTURE in the environment name
-# others. Needs /dev/full.
+# The programs have to be built (.ci/run leaves them); ARGUS and REPLAY in the environment name others.
+# Needs /dev/full.
 set -u
 top=$(cd "$(dirname "$0")/.." && pwd)
 program=${ARGUS:-$top/crates/argus/out/argus}
 replay=${REPLAY:-$top/crates/replay/out/replay}
-picture=${PICTURE:-$top/crates/picture/out/picture}
 script=$top/examples/account.argus
 told=$(mktemp)
 trap 'rm -f "$told"' EXIT
@@ -41,7 +40,7 @@ wait $!
 check 'a pipe that nobody reads' 'write fault' $?
 exec 4>&-
 
-for named in "$program" "$replay" "$picture"; do
+for named in "$program" "$replay"; do
     name=${named##*/}
     "$named" --help > /dev/full 2> "$told"
     check "the help of $name, and a full device" 'write fault' $?

@@ -57,6 +57,7 @@ PLACES = [
     ("bench/*/Cargo.lock", r'^name = "argus-.*"\nversion = "(.*)"$', itself),
     ("hosts/rust/sys/src/lib.rs", r"^pub const VERSION_NUMBER: u32 = (\d+);$", number),
     ("hosts/python/argus_guardian/library.py", r"^VERSION_NUMBER = (\d+)$", number),
+    ("hosts/picture/picture.py", r'^VERSION = "(.*)"$', itself),
     ("hosts/python/argus_guardian/__init__.py", r'^__version__ = "(.*)"$', itself),
     ("hosts/python/README.md", r"argus_guardian-([\d.]+)-", itself),
     ("docs/GUIDE.md", r"argus(?:_guardian)?-([\d.]+)-", itself),

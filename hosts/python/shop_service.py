@@ -7,8 +7,8 @@
     GET /audit       how many seats are sold, and for how many the card was charged
     GET /picture     what happened since the journal was folded, drawn: where there is a journal
 
-It stands on aiohttp (Debian: python3-aiohttp). The picture is drawn by the program that ARGUS_PICTURE names, or else
-by that of the repository, which `./picture --prove` leaves.
+It stands on aiohttp (Debian: python3-aiohttp). The picture is drawn by ./picture of the repository, once the program
+has confirmed the journal that REPLAY names, or else the one that `./replay --prove` leaves.
 
 A seat is free, or held by an order that is being paid, or sold.
 """
@@ -38,8 +38,11 @@ PAYING = 0.01
 # So many orders are carried out at once; each is a thread, which mostly waits for the card.
 THREADS = 32
 LOOK_EVERY = 0.05
-# The program that draws a journal, and how long a journal it is handed, in bytes of its listing.
-PICTURE = os.environ.get("ARGUS_PICTURE", str(Path(__file__).resolve().parents[2] / "crates/picture/out/picture"))
+# The program that draws a journal, the one that confirms it before, and how long a journal they are handed, in bytes of
+# its listing.
+TOP = Path(__file__).resolve().parents[2]
+PICTURE = str(TOP / "picture")
+REPLAY = os.environ.get("REPLAY", str(TOP / "crates/replay/out/replay"))
 MOST_DRAWN = 1 << 18
 
 
@@ -199,12 +202,12 @@ class Service:
     async def picture(self, _: web.Request) -> web.Response:
         """Draws the journal."""
         journal = await asyncio.to_thread(self._shop.journal)
-        if journal is None or not os.access(PICTURE, os.X_OK):
-            return web.Response(status=404, text="there is no journal, or no program that draws it")
+        if journal is None or not os.access(REPLAY, os.X_OK):
+            return web.Response(status=404, text="there is no journal, or no program that confirms it")
         if len(journal) > MOST_DRAWN:
             return web.Response(status=404, text="the journal is too long to be drawn")
-        pipe = asyncio.subprocess.PIPE
-        program = await asyncio.create_subprocess_exec(PICTURE, stdin=pipe, stdout=pipe)
+        pipe, settings = asyncio.subprocess.PIPE, {**os.environ, "REPLAY": REPLAY}
+        program = await asyncio.create_subprocess_exec(PICTURE, stdin=pipe, stdout=pipe, env=settings)
         drawn = (await program.communicate(journal.encode()))[0]
         if program.returncode != 0:
             return web.Response(status=500, text=f"the program that draws it has ended by {program.returncode}")

@@ -4,7 +4,7 @@ import os
 import subprocess
 from collections.abc import Callable, Iterator, Mapping, Sequence
 from contextlib import contextmanager
-from dataclasses import dataclass, field
+from dataclasses import dataclass
 from pathlib import Path
 from tempfile import TemporaryFile
 from typing import IO
@@ -24,13 +24,11 @@ SECONDS = 60
 
 @dataclass(frozen=True)
 class Ended:
-    """What a program left: its status, negative where a signal ended it, what it printed, and how many bytes of
-    its input it read."""
+    """What a program left: its status, negative where a signal ended it, and what it printed."""
 
     status: int
     output: bytes
     errors: bytes
-    read: int = field(default=0, compare=False)
 
 
 @dataclass(frozen=True)
@@ -67,8 +65,7 @@ class Programs:
                 )
             except subprocess.TimeoutExpired:
                 return Ended(-1, b"", b"it doesn't end")
-            read = os.lseek(stdin, 0, os.SEEK_CUR)
-            return Ended(ran.returncode, b"" if output else printed(stdout), ran.stderr, read)
+            return Ended(ran.returncode, b"" if output else printed(stdout), ran.stderr)
 
 
 def printed(file: IO[bytes]) -> bytes:

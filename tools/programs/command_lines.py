@@ -2,9 +2,9 @@
 
     argus --list stacks < crates/argus/stdin -> status 0: acct base {7}
     each --version -> status 0: NAME VERSION
-    picture --help -> mentions --script <FILE>
+    replay --help -> mentions --database <FILE>
 
-A row has the program, or `each` for all three, and its words: one in quotes may have blanks in it, or nothing.
+A row has the program, or `each` for argus and replay, and its words: one in quotes may have blanks in it, or nothing.
 Behind `<` comes its input, a path from the top of the repository. Without one it is a folder, and whatever reads
 that ends with status 5. The answer is the status, and how the text begins: on standard output with status 0,
 else on standard error, while the other has nothing. NAME is the program's name, VERSION that of CHANGELOG.md. Of
@@ -19,7 +19,7 @@ from pathlib import Path
 from calling import TOP, Programs, Trial, shortened
 from spelling import rows_of, spelled, words_of
 
-ALL = ("argus", "replay", "picture")
+ALL = ("argus", "replay")
 
 
 def version() -> str:

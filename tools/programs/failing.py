@@ -1,8 +1,9 @@
 """The programs at their work, with each allocation refused in turn, each read failing, and a writer that is full.
 
-A row's script is run by one worker and by two, listed, replayed, also from a log in a database, and drawn. A library that is laid before the C
-library's (failing.c, by LD_PRELOAD) has an allocation, a read or a write fail, and counts how often one did. So it
-needs a compiler for C, and programs that are linked with the C library when they start, as the kit's are.
+A row's script is run by one worker and by two, listed and replayed, also from a log in a database. A library that is
+laid before the C library's (failing.c, by LD_PRELOAD) has an allocation, a read or a write fail, and counts how often
+one did. So it needs a compiler for C, and programs that are linked with the C library when they start, as the kit's
+are.
 
     test NAME
     | TEXT                      a line of the script
@@ -11,8 +12,8 @@ What fails, and what has to come of it:
 
 - All allocations; all but the first; all but the first two; and so on, on any thread, also those for the words of the
   command line: status 4, `out of memory`, and a prefix is written.
-- Each read of standard input in turn, and each of a script's or a database's file, where a read returns at most seven
-  bytes: status 5, `read fault` or `script: read fault`; nothing is written, and no read is tried again.
+- Each read of standard input in turn, and each of a database's file, where a read returns at most seven bytes:
+  status 5, `read fault`; nothing is written, and no read is tried again.
 - A write, where there is room for 0 bytes, 1, 2, .. (in STEPS), by an error or since it accepts nothing, where a write
   accepts at most two bytes: status 5, `write fault`, exactly these bytes are written, and no write is tried again.
 
@@ -43,13 +44,13 @@ STEPS = ((300, 1), (1_000, 7), (1_000_000, 97))
 
 @dataclass(frozen=True)
 class Work:
-    """What is made of a script or, except by argus, of its journal: by which program, with which words, and with which
-    option for a file: the script, or a database with the journal."""
+    """What is made of a script or, except by argus, of its journal: by which program, with which words, and whether the
+    journal is in a database."""
 
     name: str
     program: str
     words: list[bytes]
-    option: bytes = b""
+    is_of_database: bool = False
 
 
 WORKS = (
@@ -58,9 +59,7 @@ WORKS = (
     Work("journal", "argus", JOURNAL),
     Work("audit, behind a checkpoint", "argus", [b"--list", b"audit", b"--checkpoint"]),
     Work("a replay", "replay", [b"--list", b"stacks"]),
-    Work("a log's replay", "replay", [b"--list", b"stacks"], b"--database"),
-    Work("a picture", "picture", []),
-    Work("a picture with names", "picture", [], b"--script"),
+    Work("a log's replay", "replay", [b"--list", b"stacks"], is_of_database=True),
 )
 
 # It is called with a kind of failure and with how many are done before, as failing.c has them. How the program ended,
@@ -73,12 +72,8 @@ def trials(path: Path) -> Iterator[Trial]:
     for test in tests_of(path):
         script = script_of(test).given
         for work in WORKS:
-            parts = [("memory", refused)]
-            if work.option != b"--database":
-                parts.append(("reads", partial(unread, "i", b"read fault\n")))
-            if work.option:
-                message = b"script: read fault\n" if work.option == b"--script" else b"read fault\n"
-                parts.append(("reads of the file", partial(unread, "f", message)))
+            reads = ("reads of the file", "f") if work.is_of_database else ("reads", "i")
+            parts = [("memory", refused), (reads[0], partial(unread, reads[1]))]
             parts += [("a full writer", partial(full, "w")), ("a writer that accepts nothing", partial(full, "n"))]
             for part, check in parts:
                 yield f"{test.name}, {work.name}: {part}", partial(tried, script, work, check)
@@ -103,7 +98,7 @@ def library() -> Path:
 def tried(script: bytes, work: Work, check: Callable[[Attempt, bytes], str], programs: Programs) -> str:
     """What is wrong with a work, with ample memory or in one of the checks."""
     given = script if work.program == "argus" else programs.call("argus", JOURNAL, script).output
-    with attempts(script, work, given, programs) as attempt:
+    with attempts(work, given, programs) as attempt:
         whole, _ = attempt("m", MANY)
         if (whole.status, whole.errors) != (0, b"") or not whole.output:
             return f"with ample memory: {told(whole)}"
@@ -111,14 +106,13 @@ def tried(script: bytes, work: Work, check: Callable[[Attempt, bytes], str], pro
 
 
 @contextmanager
-def attempts(script: bytes, work: Work, given: bytes, programs: Programs) -> Iterator[Attempt]:
+def attempts(work: Work, given: bytes, programs: Programs) -> Iterator[Attempt]:
     """The work with this input, for one thread."""
     with NamedTemporaryFile() as file, NamedTemporaryFile() as count:
-        if work.option == b"--database":
+        words = work.words
+        if work.is_of_database:
             write_log(Path(file.name), given.decode())
-        else:
-            Path(file.name).write_bytes(script)
-        words = [*work.words, work.option, file.name.encode()] if work.option else work.words
+            words = [*words, b"--database", file.name.encode()]
 
         def attempt(kind: str, done: int) -> tuple[Ended, int]:
             Path(count.name).write_bytes(bytes(8))
@@ -147,14 +141,14 @@ def refused(attempt: Attempt, wanted: bytes) -> str:
     return "there is never enough memory"
 
 
-def unread(kind: str, message: bytes, attempt: Attempt, wanted: bytes) -> str:
+def unread(kind: str, attempt: Attempt, wanted: bytes) -> str:
     """What is wrong where each read fails in turn: nothing is written, and no read is tried again."""
     for done in range(MANY):
         ended, failures = attempt(kind, done)
         if failures == 0:
             is_right = ended.status == 0 and ended.output == wanted and ended.errors == b""
             return "" if is_right and done > 1 else f"{done} reads are enough: {told(ended)}"
-        if (ended.status, ended.output, ended.errors, failures) != (5, b"", message, 1):
+        if (ended.status, ended.output, ended.errors, failures) != (5, b"", b"read fault\n", 1):
             return f"{done} reads, {failures} failed: {told(ended)}"
     return "there are too many reads"
 

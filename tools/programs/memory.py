@@ -16,15 +16,13 @@ TOLD = b"out of memory\n"
 
 def trials() -> Iterator[Trial]:
     """Words for which there is no memory, for each program; then its input, and what it prints of it."""
-    for name in ("argus", "replay", "picture"):
+    for name in ("argus", "replay"):
         yield f"{name}: words without memory", partial(without_words, name)
     journal = [b"--list", b"journal"]
     yield "argus: a run without memory", partial(without_memory, "argus", journal, script())
     by_two = [*journal, b"--workers", b"2"]
     yield "argus: a run by two workers without memory", partial(without_memory, "argus", by_two, script())
     yield "replay: a replay without memory", partial(without_memory, "replay", journal, listing())
-    begun = b"".join(b"%d begin_top -> a%d\n" % (at, at) for at in range(20000))
-    yield "picture: a picture without memory", partial(without_memory, "picture", [], begun)
 
 
 def script() -> bytes:

@@ -1,6 +1,7 @@
 """Listings by rows, and what comes of their pictures.
 
     LISTING => drawn
+    LISTING => replayed
     LISTING => line 2: NotNext
     LISTING with SCRIPT => seat o1
     LISTING with SCRIPT => script: o0: OtherShape
@@ -8,6 +9,8 @@
 The lines of a listing and of a script are apart by ` / `; a listing that ends in two dots is torn there: its
 last line has no line feed. With a script, the result is how the objects are called, in the order of their
 numbers. The picture is then the one without names, in which each number is replaced.
+
+Where a listing is only replayed, no picture is asked for.
 
 A test of a size has the listing in lines with `|`, then `size WIDTH HEIGHT`, and `says TEXT`: so the last line
 of the picture begins.
@@ -19,7 +22,7 @@ from collections.abc import Iterator
 from functools import partial
 from pathlib import Path
 
-from calling import FULL, Ended, Programs, Trial, compared, shortened
+from calling import FULL, JOURNAL, Ended, Programs, Trial, compared, shortened
 from spelling import lines_of, rows_of, spelled, spelled_lines, tests_of
 
 # How each tag of a picture begins.
@@ -42,6 +45,13 @@ def drawings(path: Path) -> Iterator[Trial]:
         yield row, partial(drawn, listing_of(listing), wanted)
         if wanted == "drawn" and FULL.exists():
             yield f"{row}, on a full device", partial(on_full, listing_of(listing))
+
+
+def replays(path: Path) -> Iterator[Trial]:
+    """Each row of a listing that is only replayed."""
+    for row in rows_of(path):
+        listing, _, wanted = row.rpartition(" => ")
+        yield row, partial(replayed, listing_of(listing), wanted)
 
 
 def namings(path: Path) -> Iterator[Trial]:
@@ -70,6 +80,12 @@ def drawn(listing: bytes, wanted: str, programs: Programs) -> str:
     return told(ended, wanted) if wanted != "drawn" else faults_of(ended)
 
 
+def replayed(listing: bytes, wanted: str, programs: Programs) -> str:
+    """What is wrong with a replay, or with the fault in its place."""
+    ended = programs.call("replay", JOURNAL, listing)
+    return told(ended, wanted) if wanted != "replayed" else compared(ended, 0, listing, b"")
+
+
 def told(ended: Ended, wanted: str) -> str:
     """What is wrong where a fault is wanted."""
     return compared(ended, 3, b"", f"{wanted}\n".encode())
@@ -94,8 +110,6 @@ def named(listing: bytes, script: bytes, form: bytes, wanted: str, programs: Pro
         file.write(script)
         file.flush()
         ended = programs.call("picture", (form % file.name.encode()).split(b" "), listing)
-    if wanted.startswith("script: line") and ended.read:
-        return "the listing is read behind a faulty script"
     if ": " in wanted:
         return told(ended, wanted)
     names = wanted.encode().split(b" ")

@@ -43,7 +43,7 @@ PARSED = ("scripts", "lines", "places", "accesses", "words", "order", "limits")
 OTHERS = {
     "examples.txt": examples.trials,
     "pictures.rows": pictures.drawings,
-    "entries.rows": pictures.drawings,
+    "entries.rows": pictures.replays,
     "names.rows": pictures.namings,
     "sizes.rows": pictures.sizes,
     "drawn.rows": drawn.trials,
@@ -53,13 +53,16 @@ OTHERS = {
 
 
 def built() -> Programs:
-    """The programs that are tried. SystemExit: one isn't there."""
+    """The programs that are tried; the one for pictures has listings confirmed by this replay. SystemExit: one isn't
+    there."""
     paths = {}
     for name in ("argus", "replay", "picture"):
-        path = Path(os.environ.get(name.upper(), TOP / f"crates/{name}/out/{name}"))
+        usual = TOP / (name if name == "picture" else f"crates/{name}/out/{name}")
+        path = Path(os.environ.get(name.upper(), usual))
         if not os.access(path, os.X_OK):
             sys.exit(f"no program {path}: .ci/run leaves it, and ./{name} --prove\n0 passed, 1 failed")
         paths[name] = path
+    os.environ["REPLAY"] = str(paths["replay"])
     return Programs(paths)
 
 

@@ -33,7 +33,8 @@ def carried_out(test: Callable[[Pages], str], pages: Pages) -> str:
 
 
 def main() -> int:
-    programs = Programs({name: Path(os.environ[name.upper()]) for name in ("argus", "replay", "picture")})
+    programs = Programs({name: Path(os.environ[name.upper()]) for name in ("argus", "replay")})
+    programs.paths["picture"] = TOP / "picture"
     passed, failed = 0, 0
     with tempfile.TemporaryDirectory() as folder, Browser() as browser:
         pages = Pages(programs, browser, Path(folder))

@@ -120,12 +120,12 @@ def stacks(programs: Programs, listing: str) -> list[str]:
 
 
 def make_launchers(folder: Path, programs: Programs) -> None:
-    """Makes a folder's `./argus` and `./picture`, whose programs are these."""
-    for name in ("tools/program.sh", "tools/page.sh", "hosts/page/parts", "examples"):
+    """Makes a folder's `./argus` and `./picture`, whose programs are these. The replay is that of the environment."""
+    for name in ("tools/program.sh", "hosts", "examples"):
         (folder / name).parent.mkdir(parents=True, exist_ok=True)
         (folder / name).symlink_to(TOP / name)
-    (folder / "crates.txt").write_text("argus: argus_usage\npicture: argus_usage\n", encoding="utf-8")
+    (folder / "crates.txt").write_text("argus: argus_usage\n", encoding="utf-8")
     for name in ("argus", "picture"):
         shutil.copy(TOP / name, folder)
-        (folder / f"crates/{name}/out").mkdir(parents=True)
-        (folder / f"crates/{name}/out/{name}").symlink_to(programs.paths[name])
+    (folder / "crates/argus/out").mkdir(parents=True)
+    (folder / "crates/argus/out/argus").symlink_to(programs.paths["argus"])

@@ -11,15 +11,16 @@ from pathlib import Path
 _MARKS = {"&": "&amp;", "<": "&lt;", "\r": "&#13;", "\0": "<wbr>"}
 
 
-def page_of(listing: str, names: Iterable[str] = ()) -> str:
-    """The page of a journal's listing, with its objects called by these names, in the order of their numbers.
+def page_of(listing: str, names: Iterable[str] = (), picture: str = "") -> str:
+    """The page of a journal's listing, with its objects called by these names, in the order of their numbers, and with
+    a picture that is drawn already, as HTML.
 
     ValueError if a line feed is in a name.
     """
     called = list(names)
     if any("\n" in it for it in called):
         raise ValueError("a line feed is in a name")
-    data = {"listing": _escaped(listing), "names": _escaped("".join(f"{it}\n" for it in called)), "picture": ""}
+    data = {"listing": escaped(listing), "names": escaped("".join(f"{it}\n" for it in called)), "picture": picture}
     return "".join(_put(line, data) for line in _part("page.html").splitlines(keepends=True))
 
 
@@ -49,7 +50,8 @@ def _part(name: str) -> str:
     return (parts if parts.exists() else here.parents[2] / "page/parts").joinpath(name).read_text(encoding="utf-8")
 
 
-def _escaped(text: str) -> str:
+def escaped(text: str) -> str:
+    """A text as a page has it."""
     for character, mark in _MARKS.items():
         text = text.replace(character, mark)
     return text

@@ -1,2 +1,0 @@
-pub mod ReadLines
-pub mod Openings
