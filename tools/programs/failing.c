@@ -2,8 +2,9 @@
 /* Stands before the C library's allocations, reads and writes in a program that is run with LD_PRELOAD, and has them
  * fail from one on. FAILING says which, and how many are done before: m3 for three allocations, i3 for three reads of
  * standard input, f3 for three of other files; w3 for three bytes that standard output has room for, behind which
- * writes fail, and n3 for the same where they accept nothing. Such reads and writes are cut short. FAILING_COUNT names
- * a file of eight bytes, which then has the number of those that failed. */
+ * writes fail, and n3 for the same where they accept nothing. Such reads and writes are cut short. Of a database's
+ * files p3 stands for three reads at a place, and s3 for three writes at a place, syncs and changes of a length.
+ * FAILING_COUNT names a file of eight bytes, which then has the number of those that failed. */
 #define _GNU_SOURCE
 #include <errno.h>
 #include <fcntl.h>
@@ -83,4 +84,31 @@ ssize_t write(int file, const void *from, size_t size) {
     ssize_t written = syscall(SYS_write, file, from, size < room ? size : room);
     if (written > 0) left -= written;
     return written;
+}
+
+/* Whether a call of this kind fails. */
+static int fails(char asked) {
+    if (kind != asked || !is_refused()) return 0;
+    errno = EIO;
+    return 1;
+}
+
+ssize_t pread(int file, void *into, size_t size, off_t at) {
+    return fails('p') ? -1 : syscall(SYS_pread64, file, into, size, at);
+}
+
+ssize_t pwrite(int file, const void *from, size_t size, off_t at) {
+    return fails('s') ? -1 : syscall(SYS_pwrite64, file, from, size, at);
+}
+
+int ftruncate(int file, off_t size) {
+    return fails('s') ? -1 : (int)syscall(SYS_ftruncate, file, size);
+}
+
+int fsync(int file) {
+    return fails('s') ? -1 : (int)syscall(SYS_fsync, file);
+}
+
+int fdatasync(int file) {
+    return fails('s') ? -1 : (int)syscall(SYS_fdatasync, file);
 }

@@ -1,7 +1,7 @@
 -- The lines of the entries that a log hasn't got, and its listing with them.
 use Rattle.std.proofs.Common.{◌≡◌, ◌≤◌, ◌<◌, ◌⊎◌, ℕ, ◌+◌, ◌-◌, ◌++◌, List, [], ◌∷◌, suc, refl, sym, ap, arith, ◌∙◌}
-use Rattle.std.proofs.Common.{append_assoc, append-nil, drop, drop-cons, length, reverse, cond, true, false, inl, inr}
-use Rattle.std.proofs.Common.{nat_lt, Option, None, Some, Ok, Err, IsErr, is_err, OnErr, OnOk}
+use Rattle.std.proofs.Common.{append_assoc, append-nil, drop, drop-cons, length, reverse, cond, false, inl, inr}
+use Rattle.std.proofs.Common.{nat_lt, Option, None, Some, Ok, Err, IfOk, IfSome, IsErr, OnErr, OnOk}
 use Rattle.std.proofs.lemmas.Option.{slice_get_cases}
 use Rattle.std.proofs.lemmas.List.{drop-append-le, length-append, length-drop, length-reverse, reverse-append}
 use Rattle.std.proofs.Math.Seq.{drop-append_seam}
@@ -169,20 +169,18 @@ module _ {S : Type 0} (g : Ghosts S) (old : KeptState S) (j : Journal) (was : Is
 
   module _ {T : Type 0} (result : Result (Option End) Error)
       (changes : Changes (state g store) result T j (with_lines j old.name old.end lines)) where
-    pub made : (end : End) → result ≡ Ok (Some end) → end ≡ end_after old.name old.end lines
-        → IsAppended g old store next.journal (Ok end) j
-    made end is at = record {
-      acknowledged = acknowledged end at ((rw is at changes.made) refl).1 ((rw is at changes.durable) refl);
+    pub appended : (q : Result End KeepError) → IfOk q (λ end. result ≡ Ok (Some end))
+        → OnErr q ((result ≡ Ok None) ⊎ IsErr result)
+        → IfOk result (λ made. IfSome made (λ e. e ≡ end_after old.name old.end lines))
+        → IsAppended g old store next.journal q j
+    appended (Ok end) made unmade at = record {
+      acknowledged = acknowledged end (rw made at at) ((rw made at changes.made) refl).1 ((rw made at changes.durable) refl);
       failed = λ _. tt;
       crash = front_left changes.crash;
     }
-
-    pub unmade : (q : Result End KeepError) → is_err q ≡ true → (result ≡ Ok None) ⊎ IsErr result
-        → IsAppended g old store next.journal q j
-    unmade (Ok end) fails none = absurd (let h = fails in cc)
-    unmade (Err why) fails none = record {
+    appended (Err why) made unmade at = record {
       acknowledged = tt;
-      failed = λ is_open. changes.kept is_open none;
+      failed = λ is_open. changes.kept is_open unmade;
       crash = front_left changes.crash;
     }
 

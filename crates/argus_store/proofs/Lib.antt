@@ -10,3 +10,4 @@ pub mod Sums
 pub mod Chains
 pub mod Runs
 pub mod KeptLines
+pub mod Durability

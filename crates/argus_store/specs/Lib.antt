@@ -11,3 +11,4 @@ pub mod Runs
 pub mod Listing
 pub mod RowLine
 pub mod Kept
+pub mod Durability

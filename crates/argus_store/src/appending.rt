@@ -1,6 +1,6 @@
 //! What a log gets before a commit is made.
 
-ghost use Rattle.std.specs.Prelude.{◌≡◌, string_bytes};
+ghost use Rattle.std.specs.Prelude.{◌≡◌, ◌⊎◌, IfOk, IsErr, None, Ok, OnErr, Some, string_bytes};
 ghost use Rattle.sqlite.specs.{State.HasCleanDisk, Held.state};
 ghost use Rattle.argus_journal.specs.{Call.commit, JournalView.after};
 ghost use Rattle.argus_store.specs.{Journal.Journal, Kept.{IsAppended, IsKept, KeptState, lines_from}};
@@ -11,7 +11,7 @@ use crate::store::Store;
 use argus_guardian::ReadyCommit;
 use argus_journal::write_entry;
 use argus_values::Room;
-use sqlite::Alter;
+use sqlite::{Alter, Error};
 
 /// Appends the entry that a ready commit is going to make, behind these lines of the entries before
 /// it that the log hasn't got. `Ok`: where the log ends then.
@@ -22,7 +22,7 @@ pub(crate) fn append_ready<S: Alter>(
     ready: &ReadyCommit,
     mut lines: String<Room>,
 ) -> Result<End, KeepError>
-    ensures { let old : KeptState S = record { journal = ready.now.journal; store = store.old; name = name.now; end = end } in
+    ensures appended { let old : KeptState S = record { journal = ready.now.journal; store = store.old; name = name.now; end = end } in
         (j : Journal) → IsKept S.Store old j → string_bytes lines ≡ lines_from old.journal end.next
         → HasCleanDisk (state S.Store store.new) → IsAppended S.Store old store.new
         (after old.journal (commit ready.now.action)) result j }
@@ -33,8 +33,13 @@ pub(crate) fn append_ready<S: Alter>(
         Some(next) if next > at && next - at == 1 => {}
         _ => return Err(KeepError::OtherLog),
     }
-    match store.append(name, end, lines.as_str())? {
-        Some(end) => Ok(end),
-        None => Err(KeepError::OtherLog),
-    }
+    end_of(store.append(name, end, lines.as_str()))
+}
+
+/// Where the log ends after an append, or why the append wasn't made.
+fn end_of(appended: Result<Option<End>, Error>) -> Result<End, KeepError>
+    ensures made { IfOk result (λ end. appended ≡ Ok (Some end)) }
+    ensures unmade { OnErr result ((appended ≡ Ok None) ⊎ IsErr appended) }
+{
+    appended?.ok_or(KeepError::OtherLog)
 }

@@ -8,8 +8,15 @@ ghost use Rattle.argus_guardian.specs.resume_declared.read_end.ReadEnd.TheVarian
 ghost use Rattle.argus_store.specs.{Journal.{Journal, new_journal}, Runs.{end_behind, with_all}};
 ghost use Rattle.argus_store.specs.{declared.end.End.End, End.{EndsAt, end_folded, end_of_new, folded}};
 ghost use Rattle.argus_store.specs.Chain.{IsChained, Opens, ended, listing_of};
+ghost use Rattle.argus_store.specs.Durability.{Begins, HasCommit, IsDurable, IsFound, MayLeave, Moment};
+ghost use Rattle.argus_store.specs.Durability.{Reopens, Runs, moment};
+ghost use Rattle.argus_store.specs.Kept.{IsAcknowledged, IsKept, KeptState, LeavesFront};
+ghost use Rattle.argus_store.specs.{Journal.HoldsLog, Store.{HasLog, Leaves}};
+ghost use Rattle.argus_journal.specs.{Call.commit, JournalView.after};
+ghost use Rattle.sqlite.specs.{Held.{Held, state}, Tree.Trees};
 
 use argus_guardian::resume_laws::listings_are_resumed;
+use sqlite::Alter;
 
 /// However many appends a log has taken, over however many runs, its rows follow from one another,
 /// and its listing is the text from before with the lines of each append behind it, in their order
@@ -41,3 +48,36 @@ pub fn kept_is_resumed()
 {
     listings_are_resumed();
 }
+
+/// However often a process ends, at whatever moment, and the log is opened again: the log lists all
+/// that a commit has acknowledged, and nothing that the guardian hasn't made. So a guardian that was
+/// made again begins with what was acknowledged, and has nothing but what the one before it had made,
+/// or tried to commit.
+///
+/// `Runs` is any sequence of calls, commits, ends and openings. Of a commit, and of what a crash leaves,
+/// it takes no more than the clauses of `Kept` say: `kept_takes_steps`. Each journal has to be one
+/// that a listing spells.
+pub fn acknowledged_is_durable()
+    ensures durable { (begin now : Moment) → Begins begin → Runs begin now → IsDurable now }
+    ensures found { (begin last next : Moment) → Begins begin → Runs begin last → Reopens last next
+        → IsFound last next }
+{
+    listings_are_resumed();
+}
+
+/// What the clauses of `Kept` say are steps of such runs: what a commit has done that returned `Ok`,
+/// and what a crash leaves of the log, between two calls or of a commit.
+pub fn kept_takes_steps<S: Alter>()
+    ensures commits { (old now : KeptState S) (acknowledged : JournalView) (action : ℕ) (j : Journal)
+        → now.journal ≡ after old.journal (commit action) → IsListable now.journal
+        → IsAcknowledged S.Store old.name old.end now j
+        → (log : Journal) × HasLog (state S.Store now.store) log
+        × HasCommit (moment old.journal acknowledged j) action log }
+    ensures stays { (k : KeptState S) (j : Journal) → IsKept S.Store k j
+        → Leaves (state S.Store k.store) j }
+    ensures crashes { (old : KeptState S) (acknowledged : JournalView) (action : ℕ) (j : Journal)
+        (store : Held S) → IsListable (after old.journal (commit action))
+        → LeavesFront S.Store old store (after old.journal (commit action)) j
+        → (db : Trees) → (state S.Store store).may_leave db
+        → (log : Journal) × HoldsLog db log × MayLeave (moment old.journal acknowledged j) log }
+{}

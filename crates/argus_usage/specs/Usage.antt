@@ -1,8 +1,8 @@
 -- How a program ends on its command line.
-use Rattle.std.specs.Prelude.{List, [], false, true, ℕ, ◌≡◌, ◌≢◌, ◌⊎◌}
+use Rattle.std.specs.Prelude.{[], false, true, ℕ, ◌≡◌, ◌≢◌, ◌⊎◌}
 use Rattle.argus_usage.specs.declared.no_options.NoOptions.{NoOptions}
 use Rattle.argus_usage.specs.declared.no_options.NoOptions.TheVariants as no
-use Rattle.clap.specs.{Words.{App, IsAmong, Text, app_of, args_of, fault_of, groups_of, new_app}, Simple.on_top}
+use Rattle.clap.specs.{Words.{App, Text, app_of, args_of, groups_of, new_app}, Simple.on_top}
 use Rattle.clap.specs.{declared.builder.command.Command.Command, declared.builder.command.Command.TheViews.out-Command}
 use Rattle.clap.specs.declared.error.kind.ErrorKind.{ErrorKind}
 use Rattle.clap.specs.declared.error.kind.ErrorKind.TheVariants as kind
@@ -28,13 +28,6 @@ pub record IsStatusOf (error : ErrorKind) (status : ℕ) : Type 0 where
 abbrev pub IsUsage : ErrorKind → NoOptions → Type 0
 IsUsage error (no.Usage status text) = (error ≢ kind.OutOfMemory) × IsStatusOf error status
 IsUsage error no.Memory = Unit {0}
-
--- why a program with this command line ends at these words, the first of which is its name: the
--- status says that they have a mistake, or ask for help or the version
-abbrev pub EndsBy : App → List Text → NoOptions → Type 0
-EndsBy app words (no.Usage status text) =
-    (error : ErrorKind) × IsAmong error (fault_of app words) × IsStatusOf error status
-EndsBy app words no.Memory = Unit {0}
 
 -- the status is that of a mistake in the command line, or of help and the version
 abbrev pub EndsWith0Or2 : NoOptions → Type 0

@@ -8,14 +8,14 @@ use clap::error::ErrorKind;
 use clap::{Command, Error};
 use std::alloc::Global;
 
-/// The version of the project, which all three programs have.
+/// The version of the project, which both programs have.
 pub const VERSION: &str = "0.1.0";
 
 /// The command of a program that takes `--help` and `--version` and nothing else yet. Help begins
 /// with `about` and ends with `details`.
 ///
 /// ```text
-/// let command = new_command(rt.alloc(), "picture", "Draws a listing.", "It comes from ..");
+/// let command = new_command(rt.alloc(), "replay", "Confirms a listing.", "It comes from ..");
 /// ```
 pub fn new_command<'a>(
     alloc: Global,

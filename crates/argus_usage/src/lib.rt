@@ -4,10 +4,8 @@
 
 mod command;
 mod no_options;
-mod script_option;
 mod words;
 
 pub use command::{VERSION, new_command, usage};
 pub use no_options::NoOptions;
-pub use script_option::take_script;
 pub use words::{with_name, words_given};

@@ -1,14 +1,11 @@
-//! Each public function of argus_store on its happy path, over a file. What works on a store does it
-//! whatever the store is on: a proof for the whole type of one on a file takes ten times as long.
+//! Each public function of `Store` on its happy path, over a file; argus_store_example has those of
+//! `Kept`. What works on a store does it whatever the store is on: a proof for the whole type of one
+//! on a file takes ten times as long.
 
-use argus_actions::ActionId;
-use argus_guardian::{ResumedGuardian, Resuming};
-use argus_journal::{Call, Reply};
-use argus_store::laws::{appends_are_listed, kept_is_resumed};
-use argus_store::{
-    End, FaultyRow, KeepError, Kept, ListingError, RowFault, RowLine, Store, Table, listing_text,
+use argus_store::laws::{
+    acknowledged_is_durable, appends_are_listed, kept_is_resumed, kept_takes_steps,
 };
-use argus_values::{Answer, Heap};
+use argus_store::{End, FaultyRow, ListingError, RowFault, RowLine, Store, Table, listing_text};
 use sqlite::{Alter, Connection, Error, FileStore, Row, Unknown};
 use sqlite_disk::Disk;
 use std::alloc::Global;
@@ -30,22 +27,14 @@ const COMMIT: &str = "3 begin_top -> a2\n4 commit a1 -> done";
 
 const OPENING: &str = "opening entries 5 actions 3\nopening o0 atomic_array[int] 0[]";
 
-// A new log that has taken two batches, and those of a guardian that goes on, if it has them.
-fn begun<S: Alter + Drop>(
-    alloc: Global,
-    heap: Heap,
-    conn: Connection<S>,
-) -> Result<Option<Store<S>>, KeepError> {
+// A new log that has taken three batches.
+fn begun<S: Alter + Drop>(alloc: Global, conn: Connection<S>) -> Result<Option<Store<S>>, Error> {
+    kept_takes_steps::<S>();
     let Some(mut store) = Store::create(conn, NAME, "1")? else {
         return Ok(None);
     };
-    if !fill(&mut store)? || !is_listed(alloc, &mut store)? {
-        return Ok(None);
-    }
-    match resumed(alloc, heap, store)? {
-        Some(bank) => gone_on(bank),
-        None => Ok(None),
-    }
+    let is_begun = fill(&mut store)? && is_listed(alloc, &mut store)? && goes_on(&mut store)?;
+    Ok(if is_begun { Some(store) } else { None })
 }
 
 // Whether both are taken, and read back, and one that doesn't follow refused.
@@ -100,39 +89,12 @@ fn is_listed<S: Alter>(alloc: Global, store: &mut Store<S>) -> Result<bool, Erro
     Ok(lists(alloc, store, wanted)? && place == Some(RowLine { table, row, line }))
 }
 
-// The guardian that the log has, over the log.
-fn resumed<S: Alter + Drop>(
-    alloc: Global,
-    heap: Heap,
-    mut store: Store<S>,
-) -> Result<Option<Kept<S>>, KeepError> {
-    let (Some(head), Ok(text)) = (store.head()?, text_of(alloc, &mut store)?) else {
-        return Ok(None);
+// Whether the third one is taken, too.
+fn goes_on<S: Alter>(store: &mut Store<S>) -> Result<bool, Error> {
+    let Some(end) = store.end(NAME)? else {
+        return Ok(false);
     };
-    let mut resuming = Resuming::new(heap);
-    resuming.take(text.as_slice());
-    let Ok(ResumedGuardian { guardian, .. }) = resuming.into_guardian() else {
-        return Ok(None);
-    };
-    let mut name = String::new(heap.room());
-    if name.push_str(NAME).is_err() {
-        return Ok(None);
-    }
-    Ok(Kept::over(heap, guardian, store, name, head.end))
-}
-
-// The store, if a guardian that was made again goes on, and the log has its commit.
-fn gone_on<S: Alter + Drop>(mut bank: Kept<S>) -> Result<Option<Store<S>>, KeepError> {
-    let is_begun = bank.call(Call::BeginTop)? == Reply::Begun(ActionId(2));
-    let is_done = bank.commit(ActionId(1))? == Reply::Answered(Answer::Done);
-    let next = bank.guardian().journal().journal().len();
-    let (_guardian, mut store, end) = bank.into_parts();
-    let is_kept = has_all(store.batches()?.as_slice())?;
-    if is_begun && is_done && is_kept && next == 5 && end.next == 5 {
-        Ok(Some(store))
-    } else {
-        Ok(None)
-    }
+    Ok(store.append(NAME, end, COMMIT)?.is_some())
 }
 
 fn has_all(rows: &[Row]) -> Result<bool, Error> {
@@ -211,8 +173,8 @@ fn end<D: Disk + Drop>(made: Option<Store<FileStore<D>>>) -> bool {
     }
 }
 
-fn begin(rt: &HostRuntime, heap: Heap) -> Result<bool, KeepError> {
-    Ok(end(begun(rt.alloc(), heap, Connection::open(rt, FILE)?)?))
+fn begin(rt: &HostRuntime) -> Result<bool, Error> {
+    Ok(end(begun(rt.alloc(), Connection::open(rt, FILE)?)?))
 }
 
 fn put_in(rt: &HostRuntime) -> Result<bool, Error> {
@@ -227,9 +189,9 @@ fn fold(rt: &HostRuntime) -> Result<bool, Error> {
 fn over_a_file(rt: HostRuntime) -> Result<(), Fail> {
     appends_are_listed();
     kept_is_resumed();
-    let heap = Heap::new(rt.alloc())?;
+    acknowledged_is_durable();
     let _ = (fs::remove_file(&rt, FILE), fs::remove_file(&rt, WAL));
-    assert!(rt; begin(&rt, heap)?);
+    assert!(rt; begin(&rt)?);
     assert!(rt; put_in(&rt)?);
     assert!(rt; fold(&rt)?);
     Ok(())

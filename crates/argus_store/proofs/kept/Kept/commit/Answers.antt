@@ -17,7 +17,7 @@ returns-in-Ok-append_ready-clause-crash g c j was clean =
     let lines : string_bytes c.in_ok-lines.lines ≡ lines_from c.self.inside.guardian c.self.inside.end.next =
     search rules in
     let same = c.in-Ok.ensures.journal ∙ c.replace-guardian.ensures.value in
-    let all = (rw (same, c.in-Ok.ensures.action, c.as_str.ensures.value) at c.in-Ok-append_ready.ensures) j kept lines clean in
+    let all = (rw (same, c.in-Ok.ensures.action, c.as_str.ensures.value) at c.in-Ok-append_ready.ensures.appended) j kept lines clean in
     rw (← c.self.view_is) all.crash
 
 pub returns-in-Err-append_ready-clause-failed : goal.returns-in-Err-append_ready-clause-failed
@@ -27,7 +27,7 @@ returns-in-Err-append_ready-clause-failed g c j was clean is_open =
     let lines : string_bytes c.in_ok-lines.lines ≡ lines_from c.self.inside.guardian c.self.inside.end.next =
     search rules in
     let same = c.in-Ok.ensures.journal ∙ c.replace-guardian.ensures.value in
-    let all = (rw (same, c.in-Ok.ensures.action, c.as_str.ensures.value) at c.in-Err-append_ready.ensures) j kept lines clean in
+    let all = (rw (same, c.in-Ok.ensures.action, c.as_str.ensures.value) at c.in-Err-append_ready.ensures.appended) j kept lines clean in
     still g.S.Store c.args.self.now _ c.append_ready.new.store j was (all.failed is_open) (search rules)
 
 pub returns-in-Err-append_ready-clause-crash : goal.returns-in-Err-append_ready-clause-crash
@@ -37,5 +37,5 @@ returns-in-Err-append_ready-clause-crash g c j was clean =
     let lines : string_bytes c.in_ok-lines.lines ≡ lines_from c.self.inside.guardian c.self.inside.end.next =
     search rules in
     let same = c.in-Ok.ensures.journal ∙ c.replace-guardian.ensures.value in
-    let all = (rw (same, c.in-Ok.ensures.action, c.as_str.ensures.value) at c.in-Err-append_ready.ensures) j kept lines clean in
+    let all = (rw (same, c.in-Ok.ensures.action, c.as_str.ensures.value) at c.in-Err-append_ready.ensures.appended) j kept lines clean in
     rw (← c.self.view_is) all.crash

@@ -1,0 +1,99 @@
+//! A bank that outlives its process: each run pays into an account of a guardian that a database keeps.
+#![tactic(auto)]
+
+use argus_actions::ActionId;
+use argus_guardian::{ResumedGuardian, Resuming};
+use argus_journal::{Call, Reply};
+use argus_store::{KeepError, Kept, Store, listing_text};
+use argus_values::{Change, Content, Heap, ObjId, OutOfMemory, Room, Shape, Ty, Value};
+use sqlite::{Alter, Connection, Unknown};
+use std::alloc::Global;
+use std::collections::VecDeque;
+
+const FILE: &str = "bank.db";
+
+// A program that makes many logs gives each a name of its own, 32 hexadecimal digits by chance.
+const NAME: &str = "5f0c2d4b9e8a4f7a8f60c3a51b7d9e24";
+
+const ACCOUNT: ObjId = ObjId(0);
+
+fn main(rt: HostRuntime) -> Result<(), KeepError> {
+    let heap = Heap::new(rt.alloc()).map_err(|_| KeepError::OutOfMemory)?;
+    make_log(Connection::open(&rt, FILE)?)?;
+    if let Some((payments, entries)) = pay(rt.alloc(), heap, Store::open(&rt, FILE, Unknown)?)? {
+        let _ = println!(rt; "{payments} payments and {entries} entries are kept");
+    }
+    Ok(())
+}
+
+// If the database is empty, it gets a log.
+fn make_log<S: Alter + Drop>(conn: Connection<S>) -> Result<(), KeepError> {
+    Store::create(conn, NAME, "1")?;
+    Ok(())
+}
+
+// One more payment. How many are kept then, and how many entries.
+fn pay<S: Alter + Drop>(
+    alloc: Global,
+    heap: Heap,
+    store: Store<S>,
+) -> Result<Option<(usize, u64)>, KeepError> {
+    let Some(mut bank) = resumed(alloc, heap, store)? else {
+        return Ok(None);
+    };
+    if bank.guardian().base(ACCOUNT).is_none() {
+        open_account(heap, &mut bank)?;
+    }
+    commit_one(&mut bank, Change::Addh(Value::Int(70)))?;
+    let (guardian, _store, end) = bank.into_parts();
+    match guardian.base(ACCOUNT) {
+        Some(Some(Content::Arr { items, .. })) => Ok(Some((items.len(), end.next))),
+        _ => Ok(None),
+    }
+}
+
+// An account without payments.
+fn open_account<S: Alter>(heap: Heap, bank: &mut Kept<S>) -> Result<(), KeepError> {
+    let items = VecDeque::new(heap.room());
+    let empty = Change::create(heap, Content::Arr { low: 1, items })?;
+    if let Ok(shape) = Shape::arr(Ty::Int) {
+        bank.call(Call::Declare(shape))?;
+    }
+    commit_one(bank, empty)
+}
+
+// The guardian that the log has, over the log.
+fn resumed<S: Alter + Drop>(
+    alloc: Global,
+    heap: Heap,
+    mut store: Store<S>,
+) -> Result<Option<Kept<S>>, KeepError> {
+    let Some(head) = store.head()? else {
+        return Ok(None);
+    };
+    let (opening, batches) = (store.opening()?, store.batches()?);
+    let Ok(text) = listing_text(alloc, &head, opening.as_slice(), batches.as_slice()) else {
+        return Ok(None);
+    };
+    let mut resuming = Resuming::new(heap);
+    resuming.take(text.as_slice());
+    let Ok(ResumedGuardian { guardian, .. }) = resuming.into_guardian() else {
+        return Ok(None);
+    };
+    Ok(Kept::over(heap, guardian, store, name_of_log(heap)?, head.end))
+}
+
+fn name_of_log(heap: Heap) -> Result<String<Room>, OutOfMemory> {
+    let mut name = String::new(heap.room());
+    name.push_str(NAME)?;
+    Ok(name)
+}
+
+// A topaction with one change. `Ok`: it is in the database.
+fn commit_one<S: Alter>(bank: &mut Kept<S>, change: Change) -> Result<(), KeepError> {
+    if let Reply::Begun(action) = bank.call(Call::BeginTop)? {
+        bank.call(Call::Alter(action, ACCOUNT, change))?;
+        bank.commit(action)?;
+    }
+    Ok(())
+}

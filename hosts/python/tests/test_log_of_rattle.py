@@ -1,0 +1,136 @@
+"""A bank in Rattle over a log in a database, argus_store_example: its allocations and its files' calls fail in turn.
+
+REPLAY and ARGUS_STORE_EXAMPLE name the programs, or .ci/run left them. tools/programs/failing.c stands before the C
+library's calls, so it needs a compiler.
+"""
+
+from __future__ import annotations
+
+import os
+import re
+import shutil
+import subprocess
+import unittest
+from itertools import count
+from pathlib import Path
+from tempfile import TemporaryDirectory
+
+TOP = Path(__file__).resolve().parents[3]
+REPLAY = os.environ.get("REPLAY", str(TOP / "crates/replay/out/replay"))
+BANK = os.environ.get("ARGUS_STORE_EXAMPLE", str(TOP / "crates/argus_store_example/out/argus_store_example"))
+FAILING = TOP / "tools/programs/failing.c"
+SUFFIXES = "", "-wal"
+
+# A flipped bit in every so many bytes of the files.
+STEP = 41
+
+
+def says(payments: int) -> str:
+    """What the bank prints, three entries a payment and four for the account."""
+    return f"{payments} payments and {4 + 3 * payments} entries are kept\n"
+
+
+@unittest.skipUnless(os.access(BANK, os.X_OK) and os.access(REPLAY, os.X_OK), "no program of Rattle")
+class BankTest(unittest.TestCase):
+    def setUp(self) -> None:
+        folder = TemporaryDirectory()
+        self.addCleanup(folder.cleanup)
+        self.folder = Path(folder.name)
+        self.kept = self.folder / "kept"
+        self.failures = self.folder / "failures"
+
+    def pay(self, settings: dict[str, str] | None = None) -> tuple[int, str]:
+        """The status of the bank, and what it prints."""
+        environment = {**os.environ, **(settings or {})}
+        ended = subprocess.run(
+            [BANK], cwd=self.folder, env=environment, capture_output=True, text=True, check=False, timeout=60
+        )
+        return ended.returncode, ended.stdout
+
+    def payments(self) -> int | None:
+        """How many payments the log has, by the proved replay; none if it refuses the log."""
+        words = [REPLAY, "--database", "bank.db", "--list", "journal"]
+        ended = subprocess.run(words, cwd=self.folder, capture_output=True, text=True, check=False, timeout=60)
+        if ended.returncode != 0:
+            return None
+        paid = re.findall(r"^\d+ alter (a\d+) o0 addh 70 -> done\n\d+ commit \1 -> done$", ended.stdout, re.MULTILINE)
+        self.assertEqual(ended.stdout.count("addh"), len(paid), "a payment is there in part")
+        return len(paid)
+
+    def keep(self) -> None:
+        self.kept.mkdir()
+        for suffix in SUFFIXES:
+            if (self.folder / f"bank.db{suffix}").exists():
+                shutil.copy(self.folder / f"bank.db{suffix}", self.kept)
+
+    def put_back(self) -> None:
+        for suffix in SUFFIXES:
+            (self.folder / f"bank.db{suffix}").unlink(missing_ok=True)
+        for file in self.kept.iterdir():
+            shutil.copy(file, self.folder)
+
+    def test_each_run_pays_once(self) -> None:
+        for payments in 1, 2, 3:
+            self.assertEqual(self.pay(), (0, says(payments)))
+            self.assertEqual(self.payments(), payments)
+
+    def fails_in_turn(self, kind: str) -> int:
+        """From each call of a kind on all fail: what was acknowledged is there, or one payment more, and the next run
+        goes on from there. Returns how often that was tried."""
+        library = self.folder / "failing.so"
+        subprocess.run(["cc", "-shared", "-O2", "-fPIC", "-o", str(library), str(FAILING)], check=True)
+        before = self.payments() if (self.kept / "bank.db").exists() else 0
+        self.assertIsNotNone(before)
+        for done in count():
+            self.put_back()
+            self.failures.write_bytes(bytes(8))
+            status, printed = self.pay(
+                {"LD_PRELOAD": str(library), "FAILING": f"{kind}{done}", "FAILING_COUNT": str(self.failures)}
+            )
+            acknowledged = status == 0 and printed == says((before or 0) + 1)
+            if self.failures.read_bytes() == bytes(8):
+                self.assertTrue(acknowledged, f"{done} calls: {status} {printed}")
+                return done
+            self.assertTrue(acknowledged or printed == "", f"{done} calls: {status} {printed}")
+            status, printed = self.pay()
+            least = (before or 0) + 1 + acknowledged
+            self.assertIn((status, printed), [(0, says(least)), (0, says((before or 0) + 2))], f"{done} calls")
+            self.assertEqual(says(self.payments() or 0), printed, f"{done} calls")
+        raise AssertionError
+
+    def test_each_call_fails_of_a_new_log(self) -> None:
+        self.kept.mkdir()
+        for kind, most in ("m", 50), ("p", 10), ("s", 20):
+            with self.subTest(kind):
+                self.assertGreater(self.fails_in_turn(kind), most)
+
+    def test_each_call_fails_of_a_log(self) -> None:
+        self.pay()
+        self.pay()
+        self.keep()
+        for kind, most in ("m", 50), ("p", 10), ("s", 5):
+            with self.subTest(kind):
+                self.put_back()
+                self.assertGreater(self.fails_in_turn(kind), most)
+
+    def test_files_that_rot(self) -> None:
+        """A log with a flipped bit is refused, or lacks nothing."""
+        self.pay()
+        self.pay()
+        self.keep()
+        refused = 0
+        for file in sorted(self.kept.iterdir()):
+            whole = file.read_bytes()
+            for at in range(0, len(whole), STEP):
+                self.put_back()
+                rotten = bytearray(whole)
+                rotten[at] ^= 1 << at % 8
+                (self.folder / file.name).write_bytes(rotten)
+                found = self.payments()
+                self.assertIn(found, (None, 2), f"{file.name}: byte {at}")
+                refused += found is None
+        self.assertGreater(refused, 0)
+
+
+if __name__ == "__main__":
+    unittest.main()
