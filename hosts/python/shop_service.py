@@ -202,8 +202,8 @@ class Service:
     async def picture(self, _: web.Request) -> web.Response:
         """Draws the journal."""
         journal = await asyncio.to_thread(self._shop.journal)
-        if journal is None or not os.access(REPLAY, os.X_OK):
-            return web.Response(status=404, text="there is no journal, or no program that confirms it")
+        if journal is None or not all(os.access(it, os.X_OK) for it in (PICTURE, REPLAY)):
+            return web.Response(status=404, text="there is no journal, or no program that confirms or draws it")
         if len(journal) > MOST_DRAWN:
             return web.Response(status=404, text="the journal is too long to be drawn")
         pipe, settings = asyncio.subprocess.PIPE, {**os.environ, "REPLAY": REPLAY}

@@ -58,7 +58,7 @@ fn push_count(
     o: ObjId,
     numbers: &mut [i64],
 ) -> Result<(), BenchError> {
-    let number = numbers.get_mut(o.0 as usize).ok_or(BenchError::BadCount)?;
+    let number = numbers.get_mut(o.0 as usize).ok_or(BenchError::OtherReply)?;
     *number = number.wrapping_add(1);
     let set = Change::SetField(0, Value::Int(*number));
     calls.push(DemandedCall::from(Call::Alter(a, o, Change::Touch)))?;

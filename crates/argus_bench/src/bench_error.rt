@@ -4,38 +4,44 @@ use argus_values::OutOfMemory;
 use std::alloc::{AllocError, AllocFailed};
 use std::io;
 use std::num::ParseIntError;
-use thiserror::Error;
 
 /// Why a run has no figure.
 ///
 /// ```text
-/// assert!(rt; matches!("round".parse::<Work>(), Err(BenchError::UnknownWork)));
+/// assert!(rt; matches!(work_of("round"), Err(BenchError::UnknownWork)));
 /// ```
-#[derive(Debug, Drop, Error)]
+#[derive(Clone, Copy)]
 pub(crate) enum BenchError {
-    #[error("no such work")]
     UnknownWork,
-    #[error("how many objects is a number of 1 to 65535")]
-    BadCount,
     /// The guardian refused a call, or returned what the run doesn't ask for. A guardian begins at
     /// most a million actions, so a run of too many turns ends like this.
-    #[error("a call wasn't answered as the run needs")]
     OtherReply,
-    #[error("the clock can't be read")]
-    NoClock,
-    #[error("out of memory")]
+    /// The clock can't be read, or a line not printed.
+    Host,
     OutOfMemory,
+}
+
+impl BenchError {
+    /// What is printed.
+    pub(crate) fn as_str(self) -> &'static str {
+        match self {
+            BenchError::UnknownWork => "no such work",
+            BenchError::OtherReply => "a call wasn't answered as the run needs",
+            BenchError::Host => "the clock can't be read, or a line not printed",
+            BenchError::OutOfMemory => "out of memory",
+        }
+    }
 }
 
 impl From<io::Error> for BenchError {
     fn from(_fault: io::Error) -> BenchError {
-        BenchError::NoClock
+        BenchError::Host
     }
 }
 
 impl From<ParseIntError> for BenchError {
     fn from(_error: ParseIntError) -> BenchError {
-        BenchError::BadCount
+        BenchError::UnknownWork
     }
 }
 

@@ -60,8 +60,9 @@ impl<K: Callee> Client<K> {
 
     /// Locks the object for a change, when no action of another thread is in the way.
     pub(crate) fn lock(&mut self, a: ActionId, o: ObjId) -> Result<(), BenchError> {
-        let call = Call::Alter(a, o, Change::Touch);
-        self.callee.answer(call, true)?.expect_done()
+        self.callee
+            .answer(Call::Alter(a, o, Change::Touch), true)?
+            .expect_done()
     }
 
     /// Sets the integer of a record.
@@ -78,22 +79,31 @@ impl<K: Callee> Client<K> {
     /// The integer of a record.
     #[inline(always)]
     pub(crate) fn get(&mut self, a: ActionId, o: ObjId) -> Result<i64, BenchError> {
-        let call = Call::Ask(a, o, Query::Field(0));
-        let ReplySummary::Number(number) = self.callee.answer(call, false)? else {
-            return Err(BenchError::OtherReply);
-        };
-        Ok(number)
+        match self.callee.answer(Call::Ask(a, o, Query::Field(0)), false)? {
+            ReplySummary::Number(number) => Ok(number),
+            _ => Err(BenchError::OtherReply),
+        }
     }
 
     /// Declares a record of one integer, the next object, which a topaction of its own creates as 0.
     pub(crate) fn declare_record(&mut self, o: ObjId) -> Result<(), BenchError> {
-        let shape = read_shape(self.heap, "atomic_record[n:int]")?.ok_or(BenchError::OtherReply)?;
-        self.callee.answer(Call::Declare(shape), false)?;
-        let Ok(zero) = read_content(self.heap, "{0}") else {
-            return Err(BenchError::OutOfMemory);
-        };
+        self.callee.answer(declare_call(self.heap)?, false)?;
         let a = self.begin_top()?;
-        self.have_done(Call::Alter(a, o, Change::create(self.heap, zero)?))?;
+        self.have_done(create_call(self.heap, a, o)?)?;
         self.commit(a)
+    }
+}
+
+fn declare_call(heap: Heap) -> Result<Call, BenchError> {
+    match read_shape(heap, "atomic_record[n:int]")? {
+        Some(shape) => Ok(Call::Declare(shape)),
+        None => Err(BenchError::OtherReply),
+    }
+}
+
+fn create_call(heap: Heap, a: ActionId, o: ObjId) -> Result<Call, BenchError> {
+    match read_content(heap, "{0}") {
+        Ok(zero) => Ok(Call::Alter(a, o, Change::create(heap, zero)?)),
+        Err(_) => Err(BenchError::OutOfMemory),
     }
 }

@@ -52,11 +52,19 @@ pub(crate) fn time_threads<N: Sharing + Send + Sync, R: Host>(
     let jobs = jobs_for(client.heap, seats, each, manner)?;
     let start = Instant::now(rt)?;
     let made = count_all(rt, client.heap, client.callee.shared, jobs)?;
-    let counted = added_up(made.as_slice());
-    let first = Figure::since(rt, start, "turns", counted.turns)?;
+    let taken = start.elapsed(rt)?;
+    let Counted { turns, slow } = added_up(made.as_slice());
     Ok(Outcome {
-        first,
-        second: slow_calls(manner, counted.slow),
+        first: Figure {
+            part: "turns",
+            count: turns,
+            taken,
+        },
+        second: Figure {
+            part: "p99",
+            count: u32::from(slow > Duration::ZERO),
+            taken: slow,
+        },
         sum: read_records(client, RECORDS, false)?,
     })
 }
@@ -80,18 +88,6 @@ fn jobs_for<N: Sharing>(
         number = number.wrapping_add(1);
     }
     Ok(jobs)
-}
-
-// What 99 of 100 calls took at most, in the thread where it is most.
-fn slow_calls(manner: Manner, taken: Duration) -> Option<Figure> {
-    match manner {
-        Manner::Own | Manner::Hot | Manner::Batch => None,
-        Manner::Timed => Some(Figure {
-            part: "p99",
-            count: 1,
-            taken,
-        }),
-    }
 }
 
 // What each thread has counted.

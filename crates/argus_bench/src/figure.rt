@@ -1,13 +1,11 @@
 //! `Figure`: what a part of a run took.
 
-use crate::bench_error::BenchError;
-use std::rt::Clock;
-use std::time::{Duration, Instant};
+use std::time::Duration;
 
 /// What a part of a run took, and how often it was done.
 ///
 /// ```text
-/// let figure = Figure::since(rt, start, "turns", 1000)?;
+/// let figure = Figure { part: "turns", count: 1000, taken: start.elapsed(rt)? };
 /// ```
 #[derive(Clone, Copy)]
 pub(crate) struct Figure {
@@ -17,17 +15,6 @@ pub(crate) struct Figure {
 }
 
 impl Figure {
-    /// That of a part which began then, and is done now.
-    pub(crate) fn since(
-        rt: &impl Clock,
-        start: Instant,
-        part: &'static str,
-        count: u32,
-    ) -> Result<Figure, BenchError> {
-        let taken = start.elapsed(rt)?;
-        Ok(Figure { part, count, taken })
-    }
-
     /// The nanoseconds of each; of all if nothing was counted.
     pub(crate) fn nanos_each(&self) -> f64 {
         self.taken.as_secs_f64() * 1e9 / self.count.max(1) as f64

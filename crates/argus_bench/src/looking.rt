@@ -6,7 +6,6 @@ use crate::client::Client;
 use crate::draws::Draws;
 use crate::figure::Figure;
 use crate::host::Host;
-use crate::looks::Looks;
 use crate::outcome::Outcome;
 use crate::seated::Seated;
 use crate::turning::{pair, turn_pair};
@@ -25,6 +24,13 @@ const BATCHES: u32 = 60_000;
 
 const BATCH: u32 = 16;
 
+// How many looks a thread made, and how many of them didn't show two records that agree.
+#[derive(Clone, Copy)]
+struct Looks {
+    made: u32,
+    torn: u32,
+}
+
 /// Looks at pairs of records, by a thread for each looker, for this many milliseconds. Meanwhile
 /// the client commits topactions that set the two of a pair to one number, or nothing happens.
 pub(crate) fn time_lookers<N: Sharing + Send + Sync, R: Host>(
@@ -34,15 +40,15 @@ pub(crate) fn time_lookers<N: Sharing + Send + Sync, R: Host>(
     is_busy: bool,
     millis: u32,
 ) -> Result<Outcome, BenchError> {
-    let (word, next) = (AtomicU64::new(0), AtomicU64::new(7));
-    let (over, seeds) = (&word, &next);
+    let (over, next) = (AtomicU64::new(0), AtomicU64::new(7));
+    let (is_over, seeds) = (&over, &next);
     let heap = client.heap;
     let (looked, commits) = join(
         rt,
-        move || look_all(rt, heap, lookers, seeds, over),
+        move || look_all(rt, heap, lookers, seeds, is_over),
         || {
             let commits = commit_or_sleep(rt, client, is_busy, millis);
-            over.store(1, Ordering::SeqCst);
+            is_over.store(1, Ordering::SeqCst);
             commits
         },
     );
@@ -54,17 +60,18 @@ pub(crate) fn time_lookers<N: Sharing + Send + Sync, R: Host>(
     };
     Ok(Outcome {
         first,
-        second: Some(commits),
+        second: commits,
         sum: i64::from(looks.torn),
     })
 }
 
 fn added_up(looked: &[Looks]) -> Looks {
-    let mut looks = Looks::none();
-    for more in looked {
-        looks = looks.and(*more);
+    let (mut made, mut torn) = (0u32, 0u32);
+    for looks in looked {
+        made = made.saturating_add(looks.made);
+        torn = torn.saturating_add(looks.torn);
     }
-    looks
+    Looks { made, torn }
 }
 
 // Each looker looks in a thread of its own, and draws numbers of its own.
@@ -90,24 +97,25 @@ fn look_until<N: Sharing>(
     is_over: &AtomicU64,
 ) -> Looks {
     let mut draws = Draws::seeded(seeds.fetch_add(1, Ordering::SeqCst));
-    let mut looks = Looks::none();
+    let (mut made, mut torn) = (0u32, 0u32);
     for _ in rt.forever() {
-        looks = looks.and(look_often(heap, &mut looker, &mut draws));
+        made = made.saturating_add(64);
+        torn = torn.saturating_add(torn_of_64(heap, &mut looker, &mut draws));
         if is_over.load(Ordering::SeqCst) == 1 {
             break;
         }
     }
-    looks
+    Looks { made, torn }
 }
 
-fn look_often<N: Sharing>(heap: Heap, looker: &mut Looker<N>, draws: &mut Draws) -> Looks {
+fn torn_of_64<N: Sharing>(heap: Heap, looker: &mut Looker<N>, draws: &mut Draws) -> u32 {
     let mut torn = 0u32;
     for _ in 0..64u32 {
         if !agrees(heap, looker, draws) {
             torn = torn.saturating_add(1);
         }
     }
-    Looks { made: 64, torn }
+    torn
 }
 
 // Whether a look shows two records with one number.
@@ -130,12 +138,18 @@ fn commit_or_sleep<K: Callee>(
 ) -> Result<Figure, BenchError> {
     let limit = Duration::from_millis(u64::from(millis));
     let start = Instant::now(rt)?;
-    if !is_busy {
+    let count = if is_busy {
+        commit_until(rt, client, start, limit)?
+    } else {
         sleep(rt, limit);
-        return Figure::since(rt, start, "commits", 0);
-    }
-    let count = commit_until(rt, client, start, limit)?;
-    Figure::since(rt, start, "commits", count)
+        0
+    };
+    let taken = start.elapsed(rt)?;
+    Ok(Figure {
+        part: "commits",
+        count,
+        taken,
+    })
 }
 
 // How many topactions were committed.

@@ -16,7 +16,6 @@ mod figure;
 mod host;
 mod latencies;
 mod looking;
-mod looks;
 mod manner;
 mod outcome;
 mod reply_summary;
@@ -28,14 +27,16 @@ mod turning;
 mod work;
 mod working;
 
-use anyhow::Result;
 use argus_values::Heap;
 use bench_error::BenchError;
+use figure::Figure;
 use host::Host;
 use outcome::Outcome;
 use std::env;
 use std::io::Print;
-use work::Work;
+use std::process::ExitCode;
+use std::rt::Env;
+use work::{Work, work_of};
 use working::{time_turns, with_records};
 
 const HELP: &str = "\
@@ -87,20 +88,20 @@ const WORKS: &[(&str, u32)] = &[
 ];
 
 fn run<R: Host>(rt: R, heap: Heap, word: &str, turns: u32) -> Result<Outcome, BenchError> {
-    let work = word.parse::<Work>()?;
+    let (work, count) = work_of(word)?;
     let (seats, lookers) = match work {
-        Work::Alone(turn, records) => {
-            let mut client = with_records(heap, records)?;
-            return time_turns(&rt, &mut client, turn, records, turns);
+        Work::Alone(turn) => {
+            let mut client = with_records(heap, count)?;
+            return time_turns(&rt, &mut client, turn, count, turns);
         }
         Work::Seat(_) => (1, 0),
-        Work::Threads(_, threads) => (threads.saturating_add(1), 0),
-        Work::Busy(lookers) | Work::Idle(lookers) => (1, lookers),
+        Work::Threads(_) => (count.saturating_add(1), 0),
+        Work::Busy | Work::Idle => (1, count),
     };
     sharing::run(rt, heap, work, turns, seats, lookers)
 }
 
-fn tell<R: Host + Print>(rt: R, heap: Heap) -> Result<()> {
+fn tell<R: Host + Print>(rt: R, heap: Heap) -> Result<(), BenchError> {
     for (word, turns) in WORKS {
         let sum = run(rt, heap, word, *turns)?.sum;
         println!(rt; "{word} n={turns} sum={sum}")?;
@@ -108,18 +109,38 @@ fn tell<R: Host + Print>(rt: R, heap: Heap) -> Result<()> {
     Ok(())
 }
 
-fn time<R: Host + Print>(rt: R, heap: Heap, word: &str, turns: u32) -> Result<()> {
+fn time<R: Host + Print>(rt: R, heap: Heap, word: &str, turns: u32) -> Result<(), BenchError> {
     let Outcome { first, second, sum } = run(rt, heap, word, turns)?;
-    for figure in &[Some(first), second] {
-        if let Some(figure) = figure {
-            let (part, count, nanos) = (figure.part, figure.count, figure.nanos_each());
-            println!(rt; "{word} {part} n={count} ns_each={nanos:.1} sum={sum}")?;
-        }
+    print_figure(rt, word, first, sum)?;
+    if second.count > 0 {
+        print_figure(rt, word, second, sum)?;
     }
     Ok(())
 }
 
-fn main(rt: HostRuntime) -> Result<()> {
+fn print_figure(
+    rt: impl Print + Drop,
+    word: &str,
+    figure: Figure,
+    sum: i64,
+) -> Result<(), BenchError> {
+    let (part, count, nanos) = (figure.part, figure.count, figure.nanos_each());
+    println!(rt; "{word} {part} n={count} ns_each={nanos:.1} sum={sum}")?;
+    Ok(())
+}
+
+fn main(rt: HostRuntime) -> ExitCode {
+    match run_words(rt) {
+        Ok(()) => ExitCode::SUCCESS,
+        Err(error) => {
+            let _ = rt.eprintln(error.as_str());
+            ExitCode::FAILURE
+        }
+    }
+}
+
+// With no number, the works of the stored run, or the help.
+fn run_words<R: Host + Print + Env + AllocGlobal>(rt: R) -> Result<(), BenchError> {
     let heap = Heap::new(rt.alloc())?;
     let mut words = env::args(&rt)?;
     let _program = words.next();
@@ -127,8 +148,7 @@ fn main(rt: HostRuntime) -> Result<()> {
         return tell(rt, heap);
     };
     let Ok(turns) = turns.as_str().parse::<u32>() else {
-        println!(rt; "{HELP}")?;
-        return Ok(());
+        return Ok(rt.println(HELP)?);
     };
     for word in words {
         time(rt, heap, word.as_str(), turns)?;

@@ -25,8 +25,8 @@ pub(crate) fn run<R: Host>(
     heap: Heap,
     work: Work,
     turns: u32,
-    seats: u8,
-    lookers: u8,
+    seats: u16,
+    lookers: u16,
 ) -> Result<Outcome, BenchError> {
     let guardian = with_records(heap, RECORDS)?.callee;
     let blank = Blank::new(u64::from(seats));
@@ -50,8 +50,8 @@ fn time_shared<N: Sharing + Send + Sync, R: Host>(
     guardian: Guardian,
     work: Work,
     turns: u32,
-    seats: u8,
-    lookers: u8,
+    seats: u16,
+    lookers: u16,
     blank: Blank,
     keeper: Keeper,
 ) -> Result<Outcome, BenchError>
@@ -79,14 +79,14 @@ fn time_parts<N: Sharing + Send + Sync, R: Host>(
         mut seats,
         lookers,
     } = parts;
-    let last = seats.pop().ok_or(BenchError::BadCount)?;
+    let last = seats.pop().ok_or(BenchError::OutOfMemory)?;
     let mut client = Client::of(heap, Seated::new(rt, &shared, last));
     match work {
-        Work::Alone(turn, _) | Work::Seat(turn) => {
+        Work::Alone(turn) | Work::Seat(turn) => {
             time_turns(rt, &mut client, turn, RECORDS, turns)
         }
-        Work::Threads(manner, _) => time_threads(rt, &mut client, seats, manner, turns),
-        Work::Busy(_) => time_lookers(rt, &mut client, lookers, true, turns),
-        Work::Idle(_) => time_lookers(rt, &mut client, lookers, false, turns),
+        Work::Threads(manner) => time_threads(rt, &mut client, seats, manner, turns),
+        Work::Busy => time_lookers(rt, &mut client, lookers, true, turns),
+        Work::Idle => time_lookers(rt, &mut client, lookers, false, turns),
     }
 }

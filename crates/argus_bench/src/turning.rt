@@ -32,13 +32,13 @@ pub(crate) fn turn_flat<K: Callee>(
     draws: &mut Draws,
     turn: u32,
 ) -> Result<i64, BenchError> {
-    let first = i64::from(turn) * 4;
-    let records = four(draws);
+    let mut number = i64::from(turn) * 4;
     let mut sum = 0i64;
     let a = client.begin_top()?;
-    for place in 0..4usize {
-        sum = sum.wrapping_add(client.get(a, records[place])?);
-        client.set(a, records[place], first + place as i64)?;
+    for o in &four(draws) {
+        sum = sum.wrapping_add(client.get(a, *o)?);
+        client.set(a, *o, number)?;
+        number = number.wrapping_add(1);
     }
     client.commit(a)?;
     Ok(sum)
@@ -138,10 +138,10 @@ pub(crate) fn turn_counts<K: Callee>(
     records: [ObjId; 4],
 ) -> Result<(), BenchError> {
     let a = client.begin_top()?;
-    for place in 0..4usize {
-        client.lock(a, records[place])?;
-        let number = client.get(a, records[place])?;
-        client.set(a, records[place], number.wrapping_add(1))?;
+    for o in &records {
+        client.lock(a, *o)?;
+        let number = client.get(a, *o)?;
+        client.set(a, *o, number.wrapping_add(1))?;
     }
     client.commit(a)
 }

@@ -4,47 +4,54 @@ use crate::bench_error::BenchError;
 use crate::manner::Manner;
 use crate::turn::Turn;
 use crate::turning::{CHAIN_RECORDS, RECORDS};
-use std::str::FromStr;
 
 /// A piece of work whose time is taken; the program's help says what each is.
 ///
 /// ```text
-/// let work = "hot:4".parse::<Work>()?;            // Work::Threads(Manner::Hot, 4)
+/// let (work, count) = work_of("hot:4")?;              // Work::Threads(Manner::Hot), 4
 /// ```
 #[derive(Clone, Copy)]
 pub(crate) enum Work {
-    /// On a guardian with this many records.
-    Alone(Turn, u16),
+    /// On a guardian with so many records.
+    Alone(Turn),
     /// By one seat of a shared guardian.
     Seat(Turn),
-    /// By this many threads.
-    Threads(Manner, u8),
-    /// This many lookers, while a thread commits.
-    Busy(u8),
+    /// By so many threads.
+    Threads(Manner),
+    /// So many lookers, while a thread commits.
+    Busy,
     /// The same, while nothing happens.
-    Idle(u8),
+    Idle,
 }
 
-impl FromStr for Work {
-    type Err = BenchError;
+// Each with its name, and with its count if none is given.
+const WORKS: [(&str, Work, u16); 13] = [
+    ("flat", Work::Alone(Turn::Flat), RECORDS),
+    ("nested", Work::Alone(Turn::Nested), RECORDS),
+    ("commit", Work::Alone(Turn::Commit), RECORDS),
+    ("abort", Work::Alone(Turn::Abort), RECORDS),
+    ("chain", Work::Alone(Turn::Chain), CHAIN_RECORDS),
+    ("shared:flat", Work::Seat(Turn::Flat), 0),
+    ("shared:nested", Work::Seat(Turn::Nested), 0),
+    ("own", Work::Threads(Manner::Own), 1),
+    ("hot", Work::Threads(Manner::Hot), 1),
+    ("batch", Work::Threads(Manner::Batch), 1),
+    ("timed", Work::Threads(Manner::Timed), 1),
+    ("busy", Work::Busy, 1),
+    ("idle", Work::Idle, 1),
+];
 
-    fn from_str(text: &str) -> Result<Work, BenchError> {
-        let (name, rest) = text.split_once(':').unwrap_or((text, ""));
-        match (name, rest) {
-            ("flat", "") => Ok(Work::Alone(Turn::Flat, RECORDS)),
-            ("nested", "") => Ok(Work::Alone(Turn::Nested, RECORDS)),
-            ("chain", "") => Ok(Work::Alone(Turn::Chain, CHAIN_RECORDS)),
-            ("commit", _) => Ok(Work::Alone(Turn::Commit, rest.parse::<u16>()?)),
-            ("abort", _) => Ok(Work::Alone(Turn::Abort, rest.parse::<u16>()?)),
-            ("shared", "flat") => Ok(Work::Seat(Turn::Flat)),
-            ("shared", "nested") => Ok(Work::Seat(Turn::Nested)),
-            ("own", _) => Ok(Work::Threads(Manner::Own, rest.parse::<u8>()?)),
-            ("hot", _) => Ok(Work::Threads(Manner::Hot, rest.parse::<u8>()?)),
-            ("batch", _) => Ok(Work::Threads(Manner::Batch, rest.parse::<u8>()?)),
-            ("timed", _) => Ok(Work::Threads(Manner::Timed, rest.parse::<u8>()?)),
-            ("busy", _) => Ok(Work::Busy(rest.parse::<u8>()?)),
-            ("idle", _) => Ok(Work::Idle(rest.parse::<u8>()?)),
-            _ => Err(BenchError::UnknownWork),
+/// The work of this name, and its count, as of `commit:10`.
+pub(crate) fn work_of(text: &str) -> Result<(Work, u16), BenchError> {
+    for (name, work, count) in &WORKS {
+        if *name == text {
+            return Ok((*work, *count));
+        }
+        if let Some(digits) = text.strip_prefix(*name)
+            && let Some(digits) = digits.strip_prefix(":")
+        {
+            return Ok((*work, digits.parse::<u16>()?));
         }
     }
+    Err(BenchError::UnknownWork)
 }

@@ -33,11 +33,16 @@ pub(crate) fn time_turns<K: Callee>(
 ) -> Result<Outcome, BenchError> {
     let start = Instant::now(rt)?;
     let read = make_turns(client, turn, records, turns)?;
-    let first = Figure::since(rt, start, "turns", turns)?;
+    let taken = start.elapsed(rt)?;
     let left = read_records(client, records, true)?;
+    let first = Figure {
+        part: "turns",
+        count: turns,
+        taken,
+    };
     Ok(Outcome {
         first,
-        second: None,
+        second: Figure { count: 0, ..first },
         sum: read.wrapping_add(left),
     })
 }

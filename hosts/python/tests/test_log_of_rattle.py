@@ -1,7 +1,8 @@
 """A bank in Rattle over a log in a database, argus_store_example: its allocations and its files' calls fail in turn.
 
 REPLAY and ARGUS_STORE_EXAMPLE name the programs, or .ci/run left them. tools/programs/failing.c stands before the C
-library's calls, so it needs a compiler.
+library's calls, so it needs a compiler. With ARGUS_EACH_CALL set each allocation fails in turn, and a bit of each byte
+is flipped, which takes an hour; else one of so many.
 """
 
 from __future__ import annotations
@@ -21,8 +22,10 @@ BANK = os.environ.get("ARGUS_STORE_EXAMPLE", str(TOP / "crates/argus_store_examp
 FAILING = TOP / "tools/programs/failing.c"
 SUFFIXES = "", "-wal"
 
-# A flipped bit in every so many bytes of the files.
-STEP = 41
+EACH = "ARGUS_EACH_CALL" in os.environ
+# One of so many allocations fails, and a bit of one byte of so many is flipped. Reads and writes all fail in turn.
+STEPS = {"m": 1 if EACH else 53, "p": 1, "s": 1}
+FLIPPED = 1 if EACH else 1009
 
 
 def says(payments: int) -> str:
@@ -81,7 +84,7 @@ class BankTest(unittest.TestCase):
         subprocess.run(["cc", "-shared", "-O2", "-fPIC", "-o", str(library), str(FAILING)], check=True)
         before = self.payments() if (self.kept / "bank.db").exists() else 0
         self.assertIsNotNone(before)
-        for done in count():
+        for done in count(0, STEPS[kind]):
             self.put_back()
             self.failures.write_bytes(bytes(8))
             status, printed = self.pay(
@@ -114,20 +117,21 @@ class BankTest(unittest.TestCase):
                 self.assertGreater(self.fails_in_turn(kind), most)
 
     def test_files_that_rot(self) -> None:
-        """A log with a flipped bit is refused, or lacks nothing."""
+        """A log with a flipped bit is refused, or a front of it is there: as SQLite does, the store ends a WAL before
+        the first frame that is broken."""
         self.pay()
         self.pay()
         self.keep()
         refused = 0
         for file in sorted(self.kept.iterdir()):
             whole = file.read_bytes()
-            for at in range(0, len(whole), STEP):
+            for at in range(0, len(whole), FLIPPED):
                 self.put_back()
                 rotten = bytearray(whole)
                 rotten[at] ^= 1 << at % 8
                 (self.folder / file.name).write_bytes(rotten)
                 found = self.payments()
-                self.assertIn(found, (None, 2), f"{file.name}: byte {at}")
+                self.assertIn(found, (None, 0, 1, 2), f"{file.name}: byte {at}")
                 refused += found is None
         self.assertGreater(refused, 0)
 
