@@ -23,7 +23,7 @@ pub(crate) fn push_told(
 /// A call, or one that waits: `wait 3 commit a0`; behind `answer`, one that returns no receipt.
 pub(crate) fn make_call<N: Sharing, R: Wait + Drop>(
     rt: &R,
-    setting: Setting,
+    setting: Setting<'_>,
     shared: &Shared<N, R>,
     seat: &mut Seat<N>,
     text: &str,
@@ -36,14 +36,13 @@ pub(crate) fn make_call<N: Sharing, R: Wait + Drop>(
 
 fn receive<N: Sharing, R: Wait + Drop>(
     rt: &R,
-    setting: Setting,
+    setting: Setting<'_>,
     shared: &Shared<N, R>,
     seat: &mut Seat<N>,
     text: &str,
 ) -> Result<Receipt> {
     let (patience, asked) = patience_of(text);
     let call = call_of(setting.heap, asked)?;
-    setting.limit();
     let received = match patience {
         None => shared.call(rt, seat, call),
         Some(patience) => shared.call_waiting(rt, seat, call, patience),
@@ -54,14 +53,13 @@ fn receive<N: Sharing, R: Wait + Drop>(
 // The receipt is made of the answer and another copy of the call.
 fn answer_call<N: Sharing, R: Wait + Drop>(
     rt: &R,
-    setting: Setting,
+    setting: Setting<'_>,
     shared: &Shared<N, R>,
     seat: &mut Seat<N>,
     text: &str,
 ) -> Result<Receipt> {
     let (patience, asked) = patience_of(text);
     let call = call_of(setting.heap, asked)?;
-    setting.limit();
     let answered = match patience {
         None => shared.answer(rt, seat, call),
         Some(patience) => shared.answer_waiting(rt, seat, call, patience),

@@ -12,7 +12,7 @@ use std::sync::Wait;
 /// Makes the calls between commas, but for the first ones, and adds their receipts.
 pub(crate) fn make_each<N: Sharing, R: Wait + Drop>(
     rt: &R,
-    setting: Setting,
+    setting: Setting<'_>,
     shared: &Shared<N, R>,
     seat: &mut Seat<N>,
     text: &str,
@@ -20,9 +20,7 @@ pub(crate) fn make_each<N: Sharing, R: Wait + Drop>(
     receipts: &mut Vec<Receipt, Room>,
 ) -> Result<CallsEnd> {
     let calls = calls_of(setting.heap, text, made)?;
-    setting.limit();
     let made = shared.call_each(rt, seat, calls.as_slice());
-    setting.lift();
     push_receipts(setting.texts, calls.as_slice(), &made, receipts)?;
     Ok(made.end)
 }

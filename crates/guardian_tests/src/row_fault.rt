@@ -19,18 +19,8 @@ pub(crate) enum RowFault {
     OutOfMemory,
     /// After a refused allocation something had changed.
     Changed,
-    /// However many allocations were allowed, one was refused.
-    NeverAnswered,
-    /// No allocation was refused, or too few were.
-    NeverRefused,
     /// Another answer came, which is printed.
     Other,
-    /// A seat made more or fewer calls.
-    Miscounted,
-    /// An arm was held up for ever.
-    HeldUp,
-    /// A run wasn't settled.
-    Unsettled,
     /// A file wasn't read, or a line not printed.
     Stream,
 }
@@ -45,12 +35,7 @@ impl RowFault {
             RowFault::NotSpelled => "it is no row",
             RowFault::OutOfMemory => "out of memory",
             RowFault::Changed => "a refused allocation has changed something",
-            RowFault::NeverAnswered => "out of memory, whatever is allowed",
-            RowFault::NeverRefused => "too few allocations are refused",
             RowFault::Other => "another answer",
-            RowFault::Miscounted => "a seat makes more or fewer calls",
-            RowFault::HeldUp => "an arm is held up for ever",
-            RowFault::Unsettled => "a run isn't settled",
             RowFault::Stream => "a stream fails",
         }
     }

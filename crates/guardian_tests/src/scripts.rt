@@ -1,82 +1,124 @@
-//! Tests of scripts that no process can tell, by rows of data/: runs by several workers whose arms are
-//! held up, runs on guardians that aren't new, and receipts that are forged. Whatever doesn't come out
-//! as its row says is printed.
+//! Scripts of tests: runs by one thread or by seats, and receipts that may show a run.
 
-mod checking;
-mod hold;
-mod place;
-mod plan;
-pub(crate) mod run;
-mod showing;
-mod standing;
-mod telling;
-mod turns;
-mod writing;
+ghost use Rattle.argus_commands.specs.FailStop.{has_failed};
 
+use crate::call_reading::read_receipt;
 use crate::host::Host;
 use crate::row_fault::Result;
 use crate::setting::Setting;
-use crate::test::Test;
-use checking::check_worked;
-use showing::check_shown;
-use std::fs;
-use std::rt::Files;
-use writing::check_written;
+use crate::telling::{tell, tell_reply};
+use crate::turns::Turns;
+use crate::word_reading::first_word;
+use argus_commands::{
+    ArmOutcome, FailStop, RunFault, RunReport, Script, check_run, run_serial, run_shared,
+};
+use argus_guardian::{Guardian, Receipt, Seat, Shared, Sharing};
+use argus_values::Room;
+use std::fmt::Write;
+use std::str::from_utf8;
 
-// What is done with the scripts of a file.
-#[derive(Clone, Copy)]
-enum Kind {
-    Worked,
-    Written,
-    Shown,
-}
-
-const FILES: [(&str, Kind); 4] = [
-    ("standing.rows", Kind::Written),
-    ("shown.rows", Kind::Shown),
-    ("worked_scripts.rows", Kind::Worked),
-    ("gates.rows", Kind::Worked),
-];
-
-/// Whether the scripts of all files come out as their rows say.
-pub(crate) fn test_scripts<R: Host + Files + Alloc>(rt: R, setting: Setting) -> Result<bool> {
-    rt.println("scripts:")?;
-    let mut wrong = 0u32;
-    for (name, kind) in &FILES {
-        let text = fs::read_to_string(&rt, *name)?;
-        test_text(rt, setting, text.as_str(), *kind, &mut wrong)?;
-    }
-    Ok(wrong == 0)
-}
-
-// Counts the tests of a file that don't come out as they say.
-fn test_text<R: Host>(
-    rt: R,
-    setting: Setting,
-    text: &str,
-    kind: Kind,
-    wrong: &mut u32,
+/// Runs the test's script on the guardian, and tells the lines that the run writes.
+pub(crate) fn run_alone(
+    guardian: &mut Guardian,
+    setting: Setting<'_>,
+    out: &mut String<Room>,
 ) -> Result<()> {
-    for block in text.split("\n\n") {
-        if let Some(test) = Test::of_block(block) {
-            print!(rt; "{}: ", test.name)?;
-            let told = match check(rt, setting, kind, test) {
-                Ok(()) => "as written",
-                Err(fault) => {
-                    *wrong = wrong.saturating_add(1);
-                    fault.as_str()
-                }
-            };
-            rt.println(told)?;
-        }
+    let script = setting.script()?;
+    let mut writer = FailStop::new(Vec::new(setting.texts.room()));
+    match run_serial(setting.heap, guardian, &script, &mut writer) {
+        Ok(()) => tell_lines(from_utf8(writer.get_ref()).unwrap_or("no text"), out),
+        Err(fault) => tell(fault, out),
+    }
+}
+
+fn tell_lines(lines: &str, out: &mut String<Room>) -> Result<()> {
+    for line in lines.lines() {
+        tell(line, out)?;
     }
     Ok(())
 }
 
-fn check<R: Host>(rt: R, setting: Setting, kind: Kind, test: Test<'_>) -> Result<()> {
-    match kind {
-        Kind::Worked => check_worked(rt, setting, test),
-        Kind::Written => check_written(&rt, setting, test),
-        Kind::Shown => check_shown(&rt, setting, test),
+/// What the test's receipts show of a run of its script: how each arm ended, or nothing.
+pub(crate) fn tell_shown(setting: Setting<'_>, out: &mut String<Room>) -> Result<()> {
+    let script = setting.script()?;
+    let receipts = receipts_in(setting)?;
+    match check_run(setting.heap, &script, receipts.as_slice())? {
+        Some(outcomes) => tell_arms(outcomes.as_slice(), out),
+        None => tell("nothing", out),
     }
+}
+
+// Those that are spelled as lines of a journal: `: 6 commit a2 -> done`.
+fn receipts_in(setting: Setting<'_>) -> Result<Vec<Receipt, Room>> {
+    let mut receipts = Vec::new(setting.texts.room());
+    for line in setting.lines.lines() {
+        if let Some(line) = line.strip_prefix(": ") {
+            receipts.push(read_receipt(setting.texts, line)?)?;
+        }
+    }
+    Ok(receipts)
+}
+
+/// The test's script, run under the test's gate by so many workers, whose accesses wait for so many
+/// wake-ups: `2 1000`. There has to be one seat more.
+pub(crate) fn run_by_seats<N: Sharing + Send + Sync, R: Host>(
+    rt: &R,
+    setting: Setting<'_>,
+    shared: &Shared<N, R>,
+    seats: &mut [Seat<N>],
+    words: &str,
+) -> Result<std::result::Result<RunReport, RunFault>> {
+    let (workers, patience) = first_word(words);
+    let (workers, patience) = (workers.parse::<u8>()?, patience.parse::<u32>()?);
+    let gate = Turns::new(setting)?;
+    let script = setting.script()?;
+    Ok(run_seats(
+        rt, setting, shared, seats, &script, &gate, workers, patience,
+    ))
+}
+
+fn run_seats<N: Sharing + Send + Sync, R: Host>(
+    rt: &R,
+    setting: Setting<'_>,
+    shared: &Shared<N, R>,
+    seats: &mut [Seat<N>],
+    script: &Script,
+    gate: &Turns,
+    workers: u8,
+    patience: u32,
+) -> std::result::Result<RunReport, RunFault> {
+    if workers > 0 && seats.len() == usize::from(workers) + 1 {
+        let workers = u32::from(workers);
+        run_shared(
+            rt,
+            setting.heap,
+            shared,
+            seats,
+            script,
+            gate,
+            workers,
+            patience,
+        )
+    } else {
+        Err(RunFault::Memory)
+    }
+}
+
+/// The replies to all calls in script order, and how each arm ended.
+pub(crate) fn tell_run(
+    receipts: &[Receipt],
+    outcomes: &[ArmOutcome],
+    out: &mut String<Room>,
+) -> Result<()> {
+    for receipt in receipts {
+        tell_reply(&receipt.reply, out)?;
+    }
+    tell_arms(outcomes, out)
+}
+
+fn tell_arms(outcomes: &[ArmOutcome], out: &mut String<Room>) -> Result<()> {
+    for outcome in outcomes {
+        write!(out, " {:?}", outcome.ended)?;
+    }
+    Ok(())
 }

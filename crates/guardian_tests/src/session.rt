@@ -4,13 +4,14 @@ use crate::call_reading::reply_of;
 use crate::calling::{make_call, push_told};
 use crate::each_call::{make_each, receipt_of, tell_each};
 use crate::host::Host;
+use crate::row::{asked_in, compare, is_row};
 use crate::row_fault::{Result, RowFault};
+use crate::scripts::{run_by_seats, tell_run};
 use crate::setting::Setting;
-use crate::tally::Tally;
 use crate::telling::{tell, tell_checkpoint, tell_content, tell_shown};
-use crate::test::asked_in;
-use crate::waiting::{WAITING, wait_meanwhile};
+use crate::waiting::wait_meanwhile;
 use crate::word_reading::{first_word, object};
+use argus_commands::RunReport;
 use argus_guardian::{
     Guardian, LookFault, Looker, Parts, Receipt, Seat, SettleFault, Shared, Sharing, Unsettled,
 };
@@ -18,19 +19,25 @@ use argus_values::{Heap, ObjId, Room};
 use std::mem::replace;
 use std::sync::Wait;
 
-/// A guardian that is shared, or was, with its seats and lookers, and the receipts of all calls so
-/// far.
-///
-/// ```text
-/// let mut session = Session::new(setting, parts);
-/// session.play(rt, setting, "begin_top -> a0\nsettle all -> done", &mut tally)?;
-/// ```
+/// The seats and lookers of a guardian that is shared answer the rows up to its settlement, or its
+/// drop, and behind it. Returns the guardian that was settled, or else a new one.
+pub(crate) fn play<N: Sharing + Send + Sync, R: Host>(
+    rt: R,
+    setting: Setting<'_>,
+    parts: Parts<N, R>,
+) -> Result<Guardian> {
+    let mut session = Session::new(setting, parts);
+    session.answer_rows(rt, setting)?;
+    Ok(replace(&mut session.guardian, Guardian::new(setting.heap)))
+}
+
+// A guardian that is shared, or was, with its seats and lookers, and the receipts of all calls so far.
 #[derive(Drop)]
-pub(crate) struct Session<N: Sharing, R: Wait + Drop> {
+struct Session<N: Sharing, R: Wait + Drop> {
     // Until it is settled or dropped.
     shared: Option<Shared<N, R>>,
     // Once it is settled; a new one before.
-    pub(crate) guardian: Guardian,
+    guardian: Guardian,
     seats: Vec<Seat<N>, Room>,
     // While a settlement leaves it out.
     left_out: Option<Seat<N>>,
@@ -44,7 +51,7 @@ pub(crate) struct Session<N: Sharing, R: Wait + Drop> {
 }
 
 impl<N: Sharing + Send + Sync, R: Host> Session<N, R> {
-    pub(crate) fn new(setting: Setting, parts: Parts<N, R>) -> Session<N, R> {
+    fn new(setting: Setting<'_>, parts: Parts<N, R>) -> Session<N, R> {
         let Parts {
             shared,
             seats,
@@ -64,47 +71,39 @@ impl<N: Sharing + Send + Sync, R: Host> Session<N, R> {
         }
     }
 
-    /// Answers the rows between a sharing and its settlement or its drop, and behind it.
-    pub(crate) fn play(
-        &mut self,
-        rt: R,
-        setting: Setting,
-        rows: &str,
-        tally: &mut Tally,
-    ) -> Result<()> {
+    fn answer_rows(&mut self, rt: R, setting: Setting<'_>) -> Result<()> {
         let mut told = String::new(setting.texts.room());
-        for row in rows.lines() {
-            if !row.starts_with('#') {
+        for row in setting.rows.lines() {
+            if is_row(row) {
+                told.clear();
                 let answered = self.answer_at_last(rt, setting, asked_in(row), &mut told);
-                tally.compare(&rt, row, answered, told.as_str())?;
+                compare(&rt, row, answered, told.as_str())?;
             }
         }
         Ok(())
     }
 
-    // Tells the answer to the row. Where memory is tight, each allocation is refused in turn. After a
-    // refusal lookers see what they saw before, unless a list of calls has made some.
+    // Where an allocation is refused it is asked again with memory. Lookers see what they saw before,
+    // unless a list of calls has made some.
     fn answer_at_last(
         &mut self,
         rt: R,
-        setting: Setting,
+        setting: Setting<'_>,
         asked: &str,
         told: &mut String<Room>,
     ) -> Result<()> {
         self.seen = sight(setting.texts, &mut self.lookers)?;
         self.before = self.receipts.len();
-        for allowed in setting.budgets() {
-            told.clear();
-            let answered = self.answer(rt, setting.allowing(allowed), asked, told);
-            setting.lift();
-            if !matches!(answered, Err(RowFault::OutOfMemory)) {
-                return answered;
-            }
-            if !self.is_as_before(setting.texts)? {
-                return Err(RowFault::Changed);
-            }
+        let answered = self.answer(rt, setting, asked, told);
+        if !matches!(answered, Err(RowFault::OutOfMemory)) {
+            return answered;
         }
-        Err(RowFault::NeverAnswered)
+        setting.budget.lift();
+        if !self.is_as_before(setting.texts)? {
+            return Err(RowFault::Changed);
+        }
+        told.clear();
+        self.answer(rt, setting, asked, told)
     }
 
     fn is_as_before(&mut self, texts: Heap) -> Result<bool> {
@@ -115,7 +114,7 @@ impl<N: Sharing + Send + Sync, R: Host> Session<N, R> {
     fn answer(
         &mut self,
         rt: R,
-        setting: Setting,
+        setting: Setting<'_>,
         asked: &str,
         out: &mut String<Room>,
     ) -> Result<()> {
@@ -130,6 +129,7 @@ impl<N: Sharing + Send + Sync, R: Host> Session<N, R> {
                 self.shared = None;
                 tell("done", out)
             }
+            "run" => self.run(&rt, setting, rest, out),
             "settle" => self.settle(setting, rest, out),
             "settle_short" => {
                 self.left_out = self.seats.pop();
@@ -139,14 +139,16 @@ impl<N: Sharing + Send + Sync, R: Host> Session<N, R> {
         }
     }
 
-    // `commit a3, abort a4: wait 3 CALL`: seat 1 waits, and seat 0 makes the others.
-    fn wait(&mut self, rt: R, setting: Setting, text: &str, out: &mut String<Room>) -> Result<()> {
-        let (others, waiting) = text.split_once(": wait ").unwrap_or((text, ""));
-        let (patience, asked) = first_word(waiting);
+    // `3 commit a3, abort a4`: seat 1 waits for so many wake-ups, and seat 0 makes the others.
+    fn wait(
+        &mut self,
+        rt: R,
+        setting: Setting<'_>,
+        text: &str,
+        out: &mut String<Room>,
+    ) -> Result<()> {
+        let (patience, others) = first_word(text);
         let patience = patience.parse::<u32>()?;
-        if asked != WAITING {
-            return Err(RowFault::NotSpelled);
-        }
         let shared = self.shared.as_ref().ok_or(RowFault::NotSpelled)?;
         let [first, second] = self.seats.as_mut_slice() else {
             return Err(RowFault::NotSpelled);
@@ -158,17 +160,38 @@ impl<N: Sharing + Send + Sync, R: Host> Session<N, R> {
         push_told(waited?, receipts, out)
     }
 
+    // All seats run the test's script: `2 1000`.
+    fn run(
+        &mut self,
+        rt: &R,
+        setting: Setting<'_>,
+        words: &str,
+        out: &mut String<Room>,
+    ) -> Result<()> {
+        let shared = self.shared.as_ref().ok_or(RowFault::NotSpelled)?;
+        let seats = self.seats.as_mut_slice();
+        match run_by_seats(rt, setting, shared, seats, words)? {
+            Ok(report) => self.keep_report(report, out),
+            Err(fault) => tell(fault, out),
+        }
+    }
+
+    fn keep_report(&mut self, report: RunReport, out: &mut String<Room>) -> Result<()> {
+        let RunReport { outcomes, receipts } = report;
+        self.receipts = receipts;
+        tell_run(self.receipts.as_slice(), outcomes.as_slice(), out)
+    }
+
     // What is pending is published, which the looker of this number sees then; or it is folded.
     fn publish(
         &mut self,
         rt: &R,
-        setting: Setting,
+        setting: Setting<'_>,
         word: &str,
         number: &str,
         out: &mut String<Room>,
     ) -> Result<()> {
         let shared = self.shared.as_ref().ok_or(RowFault::NotSpelled)?;
-        setting.limit();
         match word {
             "refresh" => tell_shown(shared.refresh(rt), out),
             "checkpoint" => tell_checkpoint(shared.checkpoint(rt), out),
@@ -184,7 +207,7 @@ impl<N: Sharing + Send + Sync, R: Host> Session<N, R> {
     fn call(
         &mut self,
         rt: &R,
-        setting: Setting,
+        setting: Setting<'_>,
         asked: &str,
         out: &mut String<Room>,
     ) -> Result<()> {
@@ -206,7 +229,7 @@ impl<N: Sharing + Send + Sync, R: Host> Session<N, R> {
     }
 
     // With all receipts, or those of these numbers.
-    fn settle(&mut self, setting: Setting, words: &str, out: &mut String<Room>) -> Result<()> {
+    fn settle(&mut self, setting: Setting<'_>, words: &str, out: &mut String<Room>) -> Result<()> {
         copy_named(
             setting.texts,
             self.receipts.as_slice(),
@@ -215,13 +238,11 @@ impl<N: Sharing + Send + Sync, R: Host> Session<N, R> {
         )?;
         let shared = self.shared.take().ok_or(RowFault::NotSpelled)?;
         let seats = replace(&mut self.seats, Vec::new(setting.texts.room()));
-        setting.limit();
         let settled = if words == "all" {
             shared.settle(seats, self.receipts.as_slice())
         } else {
             shared.settle(seats, self.named.as_slice())
         };
-        setting.lift();
         match settled {
             Ok(guardian) => {
                 self.guardian = guardian;
@@ -264,7 +285,7 @@ fn sight<N: Sharing>(texts: Heap, lookers: &mut Vec<Looker<N>, Room>) -> Result<
 
 // `0 o0 o7`
 fn look<N: Sharing>(
-    setting: Setting,
+    setting: Setting<'_>,
     lookers: &mut Vec<Looker<N>, Room>,
     text: &str,
     out: &mut String<Room>,
@@ -273,7 +294,6 @@ fn look<N: Sharing>(
     let objects = objects_of(setting.texts, rest)?;
     let number = number.parse::<usize>()?;
     let looker = lookers.get_mut(number).ok_or(RowFault::NotSpelled)?;
-    setting.limit();
     tell_look(looker, setting.heap, objects.as_slice(), out)
 }
 
@@ -306,7 +326,7 @@ fn objects_of(texts: Heap, text: &str) -> Result<Vec<ObjId, Room>> {
 
 // `0 o5`: puts this reply into receipt 0.
 fn forge(
-    setting: Setting,
+    setting: Setting<'_>,
     receipts: &mut Vec<Receipt, Room>,
     text: &str,
     out: &mut String<Room>,

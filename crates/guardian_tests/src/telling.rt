@@ -2,7 +2,7 @@
 
 use crate::row_fault::{Result, RowFault};
 use argus_guardian::CheckpointError;
-use argus_journal::{Owner, Reply, write_reply};
+use argus_journal::{Reply, write_reply};
 use argus_values::{Content, ObjId, Room, write_content};
 use std::fmt::{Display, Write};
 
@@ -35,9 +35,8 @@ pub(crate) fn tell_checkpoint(
 ) -> Result<()> {
     match outcome {
         Ok(()) => tell("done", out),
-        Err(CheckpointError::Busy) => tell("Busy", out),
-        Err(CheckpointError::Full) => tell("Full", out),
         Err(CheckpointError::Memory) => Err(RowFault::OutOfMemory),
+        Err(error) => Ok(write!(out, " {error:?}")?),
     }
 }
 
@@ -47,17 +46,6 @@ pub(crate) fn tell_shown(is_shown: bool, out: &mut String<Room>) -> Result<()> {
         tell("true", out)
     } else {
         Err(RowFault::OutOfMemory)
-    }
-}
-
-/// Adds the owner.
-pub(crate) fn tell_owner(owner: Option<Owner>, out: &mut String<Room>) -> Result<()> {
-    match owner {
-        None => tell("unbegun", out),
-        Some(Owner::Folded) => tell("folded", out),
-        Some(Owner::Gone) => tell("gone", out),
-        Some(Owner::Base) => tell("base", out),
-        Some(Owner::Held(holder)) => Ok(write!(out, " a{}", holder.0)?),
     }
 }
 

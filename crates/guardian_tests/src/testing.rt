@@ -1,26 +1,22 @@
 //! Runs the tests of rows.
 
-use crate::alone::answer_at_last;
+use crate::alone::answer_rows;
 use crate::call_reading::call_of;
 use crate::host::Host;
-use crate::row_fault::Result;
+use crate::row::asked_in;
+use crate::row_fault::{Result, RowFault};
 use crate::setting::Setting;
 use crate::sharing::share;
-use crate::tally::Tally;
-use crate::task::Task;
-use crate::test::{Test, asked_in};
 use argus_guardian::Guardian;
 use argus_values::{Heap, Room};
 use std::fmt::Write;
 use std::fs;
-use std::io::Print;
 use std::rt::Files;
 
-// The files. Their tests are run as they stand, alone or by guardians that they share: with ample
-// memory, and, except for large tests, once more with each allocation refused in turn. Or their calls,
+// The files. Their tests are run as they stand, alone or by guardians that they share. Or their calls,
 // each with this before it, are made by one seat of a new guardian, at once or by calls that may wait,
 // without patience; the guardian is then settled with all receipts.
-const FILES: [(&str, Option<&str>); 13] = [
+const FILES: [(&str, Option<&str>); 17] = [
     ("replays.rows", None),
     ("lookers.rows", None),
     ("lists.rows", None),
@@ -34,55 +30,73 @@ const FILES: [(&str, Option<&str>); 13] = [
     ("ends.rows", Some("wait 0 ")),
     ("contents.rows", Some("answer wait 0 ")),
     ("questions.rows", Some("answer wait 0 ")),
+    ("standing.rows", None),
+    ("shown.rows", None),
+    ("worked_scripts.rows", None),
+    ("gates.rows", None),
 ];
 
+// Nothing here takes this many allocations.
+const MOST: u64 = 10_000;
+
 /// Whether all rows of all files get the answers that they say.
-pub(crate) fn test_rows<R: Host + Files + Alloc>(rt: R, setting: Setting) -> Result<bool> {
-    let mut tally = Tally::new();
+pub(crate) fn test_rows<R: Host + Files + Alloc>(rt: R, setting: Setting<'_>) -> Result<bool> {
+    let mut wrong = 0u32;
     for (name, by_seat) in &FILES {
-        let before = tally.tests;
         let text = fs::read_to_string(&rt, *name)?;
-        run_text(rt, setting, text.as_str(), *by_seat, &mut tally)?;
-        let tests = tally.tests.saturating_sub(before);
+        let tests = test_text(rt, setting, text.as_str(), *by_seat, &mut wrong)?;
         println!(rt; "{name}: {tests} tests")?;
     }
-    tally.tell(&rt)
+    println!(rt; "{wrong} wrong answers")?;
+    Ok(wrong == 0)
 }
 
-// Runs each test of the text. The rows under the text's first heading come first in each test; no test
-// stands above it.
-fn run_text<R: Host>(
+// Runs each test of the text, and counts those with a wrong answer. The rows under the text's first
+// heading come first in each test; no test stands above it. Returns how many tests there are.
+fn test_text<R: Host>(
     rt: R,
-    setting: Setting,
+    setting: Setting<'_>,
     text: &str,
     by_seat: Option<&str>,
-    tally: &mut Tally,
-) -> Result<()> {
+    wrong: &mut u32,
+) -> Result<u32> {
     let (_, below) = text.split_once("before each test\n").unwrap_or(("", text));
     let (before, tests) = below.split_once("\n\n").unwrap_or((below, ""));
+    let mut count = 0u32;
     for block in tests.split("\n\n") {
-        if let Some(test) = Test::of_block(block) {
-            tally.tests = tally.tests.saturating_add(1);
-            run_block(rt, setting, before, test, by_seat, tally)?;
+        count = count.saturating_add(1);
+        if let Err(fault) = test_block(rt, setting, before, block, by_seat) {
+            *wrong = wrong.saturating_add(1);
+            println!(rt; "{}: {block}", fault.as_str())?;
         }
     }
-    Ok(())
+    Ok(count)
 }
 
-fn run_block<R: Host>(
+// A heading and rows. With ample memory; and, except for large tests, with each allocation refused in
+// turn: with none, one, two and so on, until none is refused.
+fn test_block<R: Host>(
     rt: R,
-    setting: Setting,
+    setting: Setting<'_>,
     before: &str,
-    test: Test<'_>,
+    block: &str,
     by_seat: Option<&str>,
-    tally: &mut Tally,
 ) -> Result<()> {
-    let rows = rows_of(setting.texts, before, test.lines, by_seat)?;
-    run_test(rt, setting, rows.as_str(), tally)?;
-    if by_seat.is_none() && !test.is_large {
-        run_test(rt, setting.tight(), rows.as_str(), tally)?;
+    let (heading, lines) = block.split_once('\n').unwrap_or((block, ""));
+    let rows = rows_of(setting.texts, before, lines, by_seat)?;
+    let setting = Setting { lines, ..setting };
+    setting.budget.lift();
+    if by_seat.is_some() || heading.starts_with("large ") {
+        return run_test(rt, setting, rows.as_str());
     }
-    Ok(())
+    for allowed in 0..MOST {
+        setting.budget.allow(allowed);
+        run_test(rt, setting, rows.as_str())?;
+        if matches!(setting.budget.left(), Some(1..)) {
+            return Ok(());
+        }
+    }
+    Err(RowFault::OutOfMemory)
 }
 
 // All rows of both texts; or those of a sharing with one seat: their calls, and a settlement.
@@ -100,14 +114,12 @@ fn rows_of(texts: Heap, before: &str, lines: &str, by_seat: Option<&str>) -> Res
     Ok(rows)
 }
 
-fn run_test<R: Host>(rt: R, setting: Setting, rows: &str, tally: &mut Tally) -> Result<()> {
+fn run_test<R: Host>(rt: R, setting: Setting<'_>, rows: &str) -> Result<()> {
     let mut guardian = Guardian::new(setting.heap);
-    for (place, section) in rows.split("share ").enumerate() {
-        if place == 0 {
-            run_alone(rt, setting, &mut guardian, section, tally)?;
-        } else {
-            run_section(rt, setting, &mut guardian, section, tally)?;
-        }
+    let (alone, shared) = rows.split_once("share ").unwrap_or((rows, ""));
+    answer_rows(&rt, setting, &mut guardian, alone)?;
+    for section in shared.split("share ") {
+        run_section(rt, setting, &mut guardian, section)?;
     }
     Ok(())
 }
@@ -115,36 +127,15 @@ fn run_test<R: Host>(rt: R, setting: Setting, rows: &str, tally: &mut Tally) -> 
 // The rows of a sharing, and those that the guardian answers after it.
 fn run_section<R: Host>(
     rt: R,
-    setting: Setting,
+    setting: Setting<'_>,
     guardian: &mut Guardian,
     section: &str,
-    tally: &mut Tally,
 ) -> Result<()> {
     let (heading, rows) = section.split_once('\n').unwrap_or((section, ""));
     let (rows, after) = rows.split_once("alone\n").unwrap_or((rows, ""));
-    let (seats, lookers) = heading.split_once(' ').unwrap_or((heading, "0"));
-    let (seats, lookers) = (seats.parse::<u8>()?, lookers.parse::<u8>()?);
-    let mut task = Task::Play(rows, *tally);
-    share(rt, setting, guardian, seats, lookers, &mut task)?;
-    if let Task::Play(_, counted) = task {
-        *tally = counted;
+    if let Some((seats, lookers)) = heading.split_once(' ') {
+        let (seats, lookers) = (seats.parse::<u8>()?, lookers.parse::<u8>()?);
+        share(rt, Setting { rows, ..setting }, guardian, seats, lookers)?;
     }
-    run_alone(rt, setting, guardian, after, tally)
-}
-
-fn run_alone(
-    rt: impl Print + Drop,
-    setting: Setting,
-    guardian: &mut Guardian,
-    rows: &str,
-    tally: &mut Tally,
-) -> Result<()> {
-    let mut told = String::new(setting.texts.room());
-    for row in rows.lines() {
-        if !row.starts_with('#') {
-            let answered = answer_at_last(guardian, setting, asked_in(row), &mut told);
-            tally.compare(&rt, row, answered, told.as_str())?;
-        }
-    }
-    Ok(())
+    answer_rows(&rt, setting, guardian, after)
 }

@@ -1,7 +1,7 @@
 -- Which sharing this is.
 use Rattle.argus_guardian.specs.Starting.{board_with}
 use Rattle.argus_journal.specs.JournalView.{next_entry}
-use Rattle.guardian_tests.proofs.sharing.share.Given as goal
+use Rattle.guardian_tests.proofs.sharing.share_once.Given as goal
 
 abbrev pub ghosts-share_as-N-Ledger : goal.ghosts-share_as-N-Ledger
 ghosts-share_as-N-Ledger g a = record { name = a.blank.name; parts = a.blank.parts }
