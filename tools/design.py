@@ -27,7 +27,7 @@ LAYERS = [
         ("program", "hosts", "programs in C, Rust and Python", []),
     ],
     [
-        ("surface", "argus_cli", "what argus and replay do", [("argus_usage", "command lines")]),
+        ("surface", "argus_cli", "what argus and replay do", []),
         ("surface", "argus_embed", "calls by numbers and texts", []),
         ("surface", "argus_c", "a static library for C", []),
     ],

@@ -46,14 +46,14 @@ unread() {
 # A folder with the launchers, whose builds are copies of this program or, without one, fail: copy_of FOLDER [PROGRAM]
 copy_of() {
     mkdir -p "$1/tools" "$1/build/unproved" "$1"/hosts/{page,picture,python/argus_guardian} \
-        "$1"/crates/{argus,replay,argus_usage}/src
+        "$1"/crates/{argus,replay,argus_cli}/src
     cp "$top"/{argus,replay,picture} "$1"
     cp -r "$top"/tools/{program.sh,kept.sh,help} "$1/tools"
     cp -r "$top/hosts/page/parts" "$1/hosts/page"
     cp "$top"/hosts/picture/*.py "$1/hosts/picture"
     cp "$top/hosts/python/argus_guardian/page.py" "$1/hosts/python/argus_guardian"
-    cp "$top/crates/argus_usage/src/command.rt" "$1/crates/argus_usage/src"
-    printf '%s: argus_usage\n' argus replay > "$1/crates.txt"
+    cp "$top/crates/argus_cli/src/command.rt" "$1/crates/argus_cli/src"
+    printf '%s: argus_cli\n' argus replay > "$1/crates.txt"
     echo '// one' > "$1/crates/argus/src/main.rt"
     printf '#!/bin/sh\necho made >> made\n[ ! -e meanwhile ] || . ./meanwhile\necho words\ncp "%s" "$2"\n' \
         "${2:-/nothing}" > "$1/tools/unproved.py"

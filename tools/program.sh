@@ -245,7 +245,7 @@ show_text() {
     case $1 in
         -h | --help) cat "$top/tools/help/$name.txt" ;;
         *)
-            source=$top/crates/argus_usage/src/command.rt
+            source=$top/crates/argus_cli/src/command.rt
             printf '%s %s\n' "$name" "$(sed -n 's/^pub const VERSION: &str = "\(.*\)";/\1/p' "$source")"
             say "neither proved nor compiled yet"
             ;;

@@ -5,8 +5,8 @@ use Rattle.argus_cli.specs.declared.limits.TheConstants.{MAX_PATIENCE, MAX_WORKE
 use Rattle.argus_cli.specs.declared.run_options.Options.{Options}
 use Rattle.argus_guardian.specs.listings_declared.listing.Listing.{Listing}
 use Rattle.argus_guardian.specs.listings_declared.listing.Listing.TheVariants.{Audit, Bases, Journal, Stacks}
-use Rattle.argus_usage.specs.{Usage.{IsStatusOf, named_program}, declared.no_options.NoOptions.NoOptions}
-use Rattle.argus_usage.specs.declared.no_options.NoOptions.TheVariants as no
+use Rattle.argus_cli.specs.{Usage.{IsStatusOf, named_program}, declared.no_options.NoOptions.NoOptions}
+use Rattle.argus_cli.specs.declared.no_options.NoOptions.TheVariants as no
 use Rattle.clap.specs.Words.{App, IsAmong, IsPlain, Row, Rule, Text, app_of, fault_of, first_of, matches_of, new_rule}
 use Rattle.clap.specs.{Words.{one_of, with_rule}, declared.builder.action.ArgAction.TheVariants.{Set, SetTrue}}
 use Rattle.clap.specs.{declared.builder.command.Command.Command, declared.builder.command.Command.TheViews.out-Command}

@@ -7,5 +7,4 @@ pub mod Replayed
 pub mod ReplayCommandLine
 pub mod Status
 pub mod Streams
-pub use Rattle.argus_usage.specs.Usage
-pub use Rattle.argus_usage.specs.declared as usage_declared
+pub mod Usage

@@ -2,8 +2,8 @@
 use Rattle.std.specs.{Borrow.Bor, Prelude.{List, [], Some, codes, false, option_map, string_bytes, ◌∷◌, ◌≡◌}}
 use Rattle.argus_cli.specs.CommandLine.{NamesListings, flag_of, is_given, listing_or_bases, option_of}
 use Rattle.argus_cli.specs.declared.replay_options.ReplayRequest.{ReplayRequest}
-use Rattle.argus_usage.specs.{Usage.{IsStatusOf, named_program}, declared.no_options.NoOptions.NoOptions}
-use Rattle.argus_usage.specs.declared.no_options.NoOptions.TheVariants as no
+use Rattle.argus_cli.specs.{Usage.{IsStatusOf, named_program}, declared.no_options.NoOptions.NoOptions}
+use Rattle.argus_cli.specs.declared.no_options.NoOptions.TheVariants as no
 use Rattle.clap.specs.Words.{App, IsAmong, IsPlain, Row, Rule, Text, app_of, fault_of, first_of, matches_of, new_rule}
 use Rattle.clap.specs.{Words.{one_of, with_rule}, declared.builder.action.ArgAction.TheVariants.Set}
 use Rattle.clap.specs.declared.builder.command.Command.{Command}

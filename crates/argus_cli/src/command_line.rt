@@ -6,14 +6,16 @@ ghost use Rattle.argus_cli.specs.CommandLine.{AskNothing, Asks, IsProgram, IsRef
 ghost use Rattle.argus_cli.specs.CommandLine.{NamesListings, flag_of, listing_named, option_of};
 ghost use Rattle.argus_cli.specs.Ranges.{KeepsRanges};
 ghost use Rattle.argus_cli.specs.declared.limits.TheConstants.{MAX_PATIENCE, MAX_WORKERS};
-ghost use Rattle.argus_usage.specs.Usage.{EndsWith0Or2};
+ghost use Rattle.argus_cli.specs.Usage.{EndsWith0Or2};
 ghost use Rattle.clap.specs.Words.{IsPlainArg, Text, kind_of, rule_of};
 ghost use Rattle.clap.specs.declared.builder.value_parser.ValueParser.TheVariants as vp;
 
+use crate::command::{new_command, usage};
 use crate::limits::{MAX_PATIENCE, MAX_WORKERS};
+use crate::no_options::NoOptions;
 use crate::run_options::Options;
+use crate::words::with_name;
 use argus_guardian::Listing;
-use argus_usage::{NoOptions, new_command, usage, with_name};
 use clap::error::ErrorKind;
 use clap::{Arg, ArgAction, Command, Error, value_parser};
 use std::alloc::{AllocError, Global};

@@ -8,10 +8,12 @@
 #![tactic(auto)]
 
 mod cli_fault;
+mod command;
 mod command_line;
 mod faulty_line;
 pub mod limits;
 mod listing;
+mod no_options;
 mod replay_command_line;
 mod replay_error;
 mod replay_options;
@@ -20,14 +22,15 @@ mod run_options;
 mod running;
 mod running_by_workers;
 mod text_fault;
+mod words;
 
 pub use argus_commands::{FaultKind, ScriptFault};
 pub use argus_guardian::Listing;
-pub use argus_usage::{NoOptions, words_given};
 pub use cli_fault::CliFault;
 pub use command_line::options;
 pub use faulty_line::FaultyLine;
 pub use listing::list;
+pub use no_options::NoOptions;
 pub use replay_command_line::options_for_replay;
 pub use replay_error::ReplayError;
 pub use replay_options::{ReplayOptions, ReplayRequest};
@@ -35,3 +38,4 @@ pub use replaying::replay;
 pub use run_options::Options;
 pub use running::run;
 pub use text_fault::TextFault;
+pub use words::words_given;

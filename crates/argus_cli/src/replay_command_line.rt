@@ -5,12 +5,14 @@ ghost use Rattle.std.specs.Prelude.{codes, false};
 ghost use Rattle.argus_cli.specs.ReplayCommandLine.{AskNoReplay, AsksReplay, IsReplayRefused};
 ghost use Rattle.argus_cli.specs.ReplayCommandLine.{IsReplayProgram, text_option_of};
 ghost use Rattle.argus_cli.specs.CommandLine.{flag_of};
-ghost use Rattle.argus_usage.specs.Usage.{EndsWith0Or2};
+ghost use Rattle.argus_cli.specs.Usage.{EndsWith0Or2};
 ghost use Rattle.clap.specs.Words.{IsPlainArg, kind_of, rule_of};
 
+use crate::command::{new_command, usage};
 use crate::command_line::{list_option, listing_named};
+use crate::no_options::NoOptions;
 use crate::replay_options::{ReplayOptions, ReplayRequest};
-use argus_usage::{NoOptions, new_command, usage, with_name};
+use crate::words::with_name;
 use clap::error::ErrorKind;
 use clap::{Arg, ArgAction, Command, Error};
 use std::alloc::{AllocError, Global};

@@ -124,7 +124,7 @@ def make_launchers(folder: Path, programs: Programs) -> None:
     for name in ("tools/program.sh", "hosts", "examples"):
         (folder / name).parent.mkdir(parents=True, exist_ok=True)
         (folder / name).symlink_to(TOP / name)
-    (folder / "crates.txt").write_text("argus: argus_usage\n", encoding="utf-8")
+    (folder / "crates.txt").write_text("argus: argus_cli\n", encoding="utf-8")
     for name in ("argus", "picture"):
         shutil.copy(TOP / name, folder)
     (folder / "crates/argus/out").mkdir(parents=True)

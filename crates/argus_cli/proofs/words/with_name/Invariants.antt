@@ -1,5 +1,5 @@
 use Rattle.std.specs.Prelude.{map, string_bytes, take, ◌∷◌, ◌≡◌}
-use Rattle.argus_usage.proofs.words.with_name.Given as goal
+use Rattle.argus_cli.proofs.words.with_name.Given as goal
 
 abbrev pub invariant-loop-word : goal.invariant-loop-word
 invariant-loop-word l =

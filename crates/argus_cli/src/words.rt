@@ -1,7 +1,7 @@
 //! The words of a command line.
 
 ghost use Rattle.std.specs.Prelude.{IfErr, IfOk, map, string_bytes, ◌∷◌, ◌≡◌};
-ghost use Rattle.argus_usage.specs.Usage.{IsMistake};
+ghost use Rattle.argus_cli.specs.Usage.{IsMistake};
 
 use crate::no_options::NoOptions;
 use std::alloc::{AllocError, Global};

@@ -1,7 +1,7 @@
 //! `NoOptions`: why there are no options from a command line.
 
 ghost use Rattle.std.specs.Prelude.{◌≡◌, ◌⊎◌};
-ghost use Rattle.argus_usage.specs.Usage.{MayEndWith};
+ghost use Rattle.argus_cli.specs.Usage.{MayEndWith};
 
 use std::alloc::AllocError;
 
@@ -59,7 +59,7 @@ fn show_text(rt: &(impl Print + Eprint), status: u8, text: &String) -> u8
 
 impl From<AllocError> for NoOptions {
     ghost use Rattle.std.specs.Prelude.{◌≡◌};
-    ghost use Rattle.argus_usage.specs.declared.no_options.NoOptions.TheVariants.{Memory};
+    ghost use Rattle.argus_cli.specs.declared.no_options.NoOptions.TheVariants.{Memory};
 
     ghost from_gives = { λ _ e. e ≡ Memory };
 

@@ -1,7 +1,7 @@
 -- How a program ends on its command line.
 use Rattle.std.specs.Prelude.{[], false, true, ℕ, ◌≡◌, ◌≢◌, ◌⊎◌}
-use Rattle.argus_usage.specs.declared.no_options.NoOptions.{NoOptions}
-use Rattle.argus_usage.specs.declared.no_options.NoOptions.TheVariants as no
+use Rattle.argus_cli.specs.declared.no_options.NoOptions.{NoOptions}
+use Rattle.argus_cli.specs.declared.no_options.NoOptions.TheVariants as no
 use Rattle.clap.specs.{Words.{App, Text, app_of, args_of, groups_of, new_app}, Simple.on_top}
 use Rattle.clap.specs.{declared.builder.command.Command.Command, declared.builder.command.Command.TheViews.out-Command}
 use Rattle.clap.specs.declared.error.kind.ErrorKind.{ErrorKind}

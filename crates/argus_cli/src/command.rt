@@ -1,6 +1,6 @@
 //! `clap`'s command of a program: its name, the project's version, and how its errors end it.
 
-ghost use Rattle.argus_usage.specs.Usage.{EndsWith0Or2, IsBare, IsUsage};
+ghost use Rattle.argus_cli.specs.Usage.{EndsWith0Or2, IsBare, IsUsage};
 ghost use Rattle.clap.specs.Words.{kind_of};
 
 use crate::no_options::NoOptions;
