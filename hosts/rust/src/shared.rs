@@ -23,7 +23,7 @@ use crate::reply::{Answer, Reply};
 use crate::request::Request;
 use crate::shared::action::SharedAction;
 use crate::shared::circles::Deadlock;
-use crate::shared::looking::LOOKS;
+use crate::shared::looking::{LOOKS, look_for};
 use crate::shared::state::{Borrower, DroppedAction, SharedState};
 use crate::shared::turns::{Taken, Turns};
 use crate::shared::waits::{AccessAgain, Attempt, CONFLICT, Lineage, WaitGoal, WaitingAccess};
@@ -150,7 +150,7 @@ impl Shared {
             }
             let left = patience.saturating_sub(start.elapsed());
             drop(state);
-            sleeper.look(LOOKS.min(left));
+            look_for(LOOKS.min(left), || sleeper.is_woken());
             sleeper.sleep_for(left);
             state = self.lock();
             sleeper.forget();

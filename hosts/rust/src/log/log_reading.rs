@@ -88,7 +88,8 @@ pub(crate) fn read_log(path: &Path, wanted: &LogOptions) -> Result<ReadLog> {
     })?;
     let owner = lock(&path)?;
     // SQLite rolls back what was broken off without a WAL, and leaves a WAL where it is.
-    let database = Connection::open_with_flags(&path, OpenFlags::SQLITE_OPEN_READ_WRITE)?;
+    let flags = OpenFlags::SQLITE_OPEN_READ_WRITE | OpenFlags::SQLITE_OPEN_NO_MUTEX;
+    let database = Connection::open_with_flags(&path, flags)?;
     database.set_db_config(KEEPS_WAL, true)?;
     database.execute_batch("BEGIN")?;
     let head = compared_head(&path, &database, wanted)?;

@@ -1,23 +1,22 @@
 //! `Group`: the commits that wait together for a log.
 
 use crate::log::{Failure, JournalLines, LogCounts, LoggedError, Result};
-use crate::shared::looking::Sleeper;
+use crate::shared::looking::{has_processors_for, look_for};
 use crate::shared::taking::PIECE;
 use std::collections::VecDeque;
 use std::panic::{AssertUnwindSafe, catch_unwind, resume_unwind};
-use std::sync::{Arc, Condvar, Mutex, MutexGuard, OnceLock, PoisonError};
+use std::sync::atomic::{AtomicU64, Ordering};
+use std::sync::{Condvar, Mutex, MutexGuard, OnceLock, PoisonError};
 use std::thread::{self, ThreadId};
 use std::time::{Duration, Instant};
 use std::{io, mem};
 
-// A write that takes longer has synced a disk: the next one waits so long for other commits.
+// A write waits for other commits a quarter of what it takes, and at most so long. One that takes longer has synced a
+// disk, and those who wait for it sleep.
 const GATHER: Duration = Duration::from_micros(200);
 
 // A thread may lose its processor while it writes: one long write doesn't say that the disk is slow, some do.
 const SUDDEN: Duration = Duration::from_micros(10);
-
-// How long a thread goes on writing for others, where that takes less.
-const STAY: Duration = Duration::from_micros(400);
 
 /// That a log has all entries before a number, and so many openings.
 pub(crate) type Goal = (u64, u64);
@@ -25,7 +24,9 @@ pub(crate) type Goal = (u64, u64);
 /// The commits that wait together for a log.
 pub(crate) struct Group {
     queue: Mutex<Queue>,
-    have_come: Condvar,
+    // How many batches have been written, or have failed; and that one more has.
+    writes: AtomicU64,
+    has_written: Condvar,
     broken: OnceLock<Failure>,
 }
 
@@ -35,9 +36,9 @@ struct Queue {
     // The entries before this number are in the log.
     safe: u64,
     pieces: VecDeque<JournalLines>,
-    // The thread that writes; those that wait, and for what; how many did when the last write ended, and what such writes take.
+    // The thread that writes; how many wait for it; how many did when the last write ended, and what such writes take.
     writer: Option<ThreadId>,
-    waiting: Vec<(Goal, Arc<Sleeper>)>,
+    waiting: usize,
     expected: usize,
     pace: Duration,
     counts: LogCounts,
@@ -57,7 +58,8 @@ impl Group {
         };
         Group {
             queue: Mutex::new(queue),
-            have_come: Condvar::new(),
+            writes: AtomicU64::new(0),
+            has_written: Condvar::new(),
             broken: OnceLock::new(),
         }
     }
@@ -107,7 +109,7 @@ impl Group {
         queue.counts.time += pace;
     }
 
-    /// Returns when the log has that. A thread that finds no other one writing writes batches, in this way, for all.
+    /// Returns when the log has that. A thread that finds no other one writing writes the next batch, in this way, for all.
     pub(crate) fn wait(&self, goal: Goal, write: impl Fn() -> Result<(), Failure>) -> Result<()> {
         let this = Some(thread::current().id());
         let mut queue = locked(&self.queue);
@@ -117,89 +119,64 @@ impl Group {
                 return Err(LoggedError::InDoubt(failure));
             }
             assert_ne!(queue.writer, this, "a log waits for its own guardian");
-            if queue.writer.is_none() {
+            queue = if queue.writer.is_none() {
                 queue.writer = this;
-                queue = self.write(queue, &write);
-                continue;
-            }
-            let sleeper = Sleeper::here();
-            queue.waiting.push((goal, Arc::clone(&sleeper)));
-            if queue.waiting.len() == queue.expected {
-                self.have_come.notify_one();
-            }
-            let looks = queue.is_quick().then_some(2 * queue.pace);
-            drop(queue);
-            looks.inspect(|it| sleeper.look(*it));
-            sleeper.sleep();
-            queue = locked(&self.queue);
+                self.gather(queue);
+                self.write(&write);
+                locked(&self.queue)
+            } else {
+                self.rest(queue)
+            };
         }
         Ok(())
     }
 
-    // Writes the next batch. First it waits a little until as many wait as at the last write: their commits share this
-    // one. Where a write is quick it doesn't, but writes later ones for others, too: what SQLite needs for that is in
-    // this processor's cache, and nobody has to be woken to write.
-    fn write<'q>(
-        &'q self,
-        mut queue: MutexGuard<'q, Queue>,
-        write: impl Fn() -> Result<(), Failure>,
-    ) -> MutexGuard<'q, Queue> {
-        let start = Instant::now();
-        loop {
-            if queue.is_quick() {
-                drop(queue);
-            } else {
-                let are_missing = |it: &mut Queue| it.waiting.len() < it.expected;
-                drop(
-                    self.have_come
-                        .wait_timeout_while(queue, GATHER, are_missing),
-                );
-            }
-            let written = catch_unwind(AssertUnwindSafe(&write));
-            let panicked = |_: &_| Err(io::Error::other("the thread that wrote panicked").into());
-            if let Err(failure) = written.as_ref().map_or_else(panicked, Clone::clone) {
-                self.broken.get_or_init(|| failure);
-            }
-            let goes_on = self.wake(start.elapsed() < STAY);
-            if let Err(panic) = written {
-                resume_unwind(panic);
-            }
+    // Waits a little until as many wait as at the last write: their commits share this one.
+    fn gather<'q>(&'q self, mut queue: MutexGuard<'q, Queue>) {
+        let (start, patience) = (Instant::now(), GATHER.min(queue.pace / 4));
+        while queue.waiting < queue.expected && start.elapsed() < patience {
+            drop(queue);
+            thread::yield_now();
             queue = locked(&self.queue);
-            if !goes_on {
-                return queue;
-            }
         }
     }
 
-    // A batch was written, or the log is broken: wakes those who waited for that. If others still wait, this thread writes
-    // the next one, or one of them does. Returns whether this thread does.
-    fn wake(&self, may_go_on: bool) -> bool {
+    // Writes the next batch. Who waits then looks what the log has; one whose entries it hasn't writes the next one.
+    fn write(&self, write: impl Fn() -> Result<(), Failure>) {
+        let written = catch_unwind(AssertUnwindSafe(write));
+        let panicked = |_: &_| Err(io::Error::other("the thread that wrote panicked").into());
+        if let Err(failure) = written.as_ref().map_or_else(panicked, Clone::clone) {
+            self.broken.get_or_init(|| failure);
+        }
         let mut queue = locked(&self.queue);
-        queue.expected = queue.waiting.len();
-        let is_broken = self.broken.get().is_some();
-        let all = mem::take(&mut queue.waiting).into_iter();
-        let (mut woken, mut waiting): (Vec<_>, Vec<_>) =
-            all.partition(|it| is_broken || queue.has(it.0));
-        let goes_on = may_go_on && queue.is_quick() && !waiting.is_empty();
-        if !goes_on {
-            queue.writer = None;
-            woken.extend(waiting.drain(..waiting.len().min(1)));
-        }
-        queue.waiting = waiting;
+        queue.writer = None;
+        queue.expected = mem::take(&mut queue.waiting);
+        self.writes.fetch_add(1, Ordering::Release);
         drop(queue);
-        for (_, sleeper) in woken {
-            sleeper.wake();
+        self.has_written.notify_all();
+        if let Err(panic) = written {
+            resume_unwind(panic);
         }
-        goes_on
+    }
+
+    // Waits until what is written now has been. Where that is quick, and processors are left, it looks before it sleeps.
+    fn rest<'q>(&'q self, mut queue: MutexGuard<'q, Queue>) -> MutexGuard<'q, Queue> {
+        let before = self.writes.load(Ordering::Relaxed);
+        let is_writing = || self.writes.load(Ordering::Acquire) == before;
+        queue.waiting += 1;
+        if queue.pace < GATHER && has_processors_for(queue.expected) {
+            let patience = 2 * queue.pace;
+            drop(queue);
+            look_for(patience, || !is_writing());
+            queue = locked(&self.queue);
+        }
+        let woken = self.has_written.wait_while(queue, |_| is_writing());
+        woken.unwrap_or_else(PoisonError::into_inner)
     }
 }
 
 impl Queue {
     fn has(&self, goal: Goal) -> bool {
         self.safe >= goal.0 && self.counts.checkpoints >= goal.1
-    }
-
-    fn is_quick(&self) -> bool {
-        self.pace < GATHER
     }
 }

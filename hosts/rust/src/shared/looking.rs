@@ -17,11 +17,21 @@ const MOST_PAUSES: u32 = 1024;
 // How many threads of this process look for something.
 static LOOKING: AtomicUsize = AtomicUsize::new(0);
 
+// How many processors this process has.
+fn processors() -> usize {
+    static COUNT: OnceLock<usize> = OnceLock::new();
+    *COUNT.get_or_init(|| available_parallelism().map_or(1, usize::from))
+}
+
 // The most that may: others need processors to get on, such as the thread that writes a log, and a few do to take over at
 // once.
 fn most_looking() -> usize {
-    static MOST: OnceLock<usize> = OnceLock::new();
-    *MOST.get_or_init(|| available_parallelism().map_or(1, usize::from).min(8) / 2)
+    processors().min(8) / 2
+}
+
+/// Whether so many threads can look while another one works.
+pub(crate) fn has_processors_for(threads: usize) -> bool {
+    threads < processors()
 }
 
 /// A thread that looks for something, which keeps a processor busy.
@@ -79,6 +89,17 @@ impl Drop for Looking {
     }
 }
 
+/// This thread looks for so long whether that has come, unless enough look for something.
+pub(crate) fn look_for(patience: Duration, has_come: impl Fn() -> bool) {
+    if let Some(looking) = Looking::begin().filter(|_| !has_come()) {
+        let pauses = |times| {
+            pause(times);
+            false
+        };
+        looking.look(patience, pauses, |_, _| has_come().then_some(()));
+    }
+}
+
 /// Pauses so many times.
 pub(crate) fn pause(times: u32) {
     (0..times).for_each(|_| spin_loop());
@@ -112,17 +133,6 @@ impl Sleeper {
     /// It is as if this thread hadn't been woken.
     pub(crate) fn forget(&self) {
         self.is_woken.store(false, Ordering::Relaxed);
-    }
-
-    /// This thread looks for so long whether it was woken.
-    pub(crate) fn look(&self, patience: Duration) {
-        if let Some(looking) = Looking::begin().filter(|_| !self.is_woken()) {
-            let pauses = |times| {
-                pause(times);
-                false
-            };
-            looking.look(patience, pauses, |_, _| self.is_woken().then_some(()));
-        }
     }
 
     /// This thread sleeps until it is woken, unless it was.
