@@ -3,7 +3,7 @@
 # Prints what a log costs: the bank's orders a second, and how long half of them and all but a hundredth take at the
 # most, in milliseconds: in memory; with a sync for each commit; with commits that wait together; replicated, over
 # three nodes of etcd on this machine; and SQLite doing the same orders itself (WAL, synchronous FULL) with a savepoint
-# for each transfer. Medians of interleaved runs. Then, of logs of 100,000 and of 1,000,000 entries, the bytes of an
+# for each account. Medians of interleaved runs. Then, of logs of 100,000 and of 1,000,000 entries, the bytes of an
 # entry, and what it takes to open them: to make the guardian again; in a database, and copied into etcd.
 # Nothing is compared with a limit: the figures are the machine's, and above all its disk's.
 #

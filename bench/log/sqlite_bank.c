@@ -1,4 +1,4 @@
-/* The orders of the bank in SQLite: a transaction each, a savepoint for each transfer. WAL, synchronous=FULL. One mutex
+/* The orders of the bank in SQLite: a transaction each, a savepoint for each account. WAL, synchronous=FULL. One mutex
  * around each order, so that nobody waits in vain for SQLite's own lock. With synchronous=OFF nothing is synced.
  *
  *   sqlite_bank FOLDER full|off CLIENTS SECONDS
@@ -14,12 +14,12 @@
 #include <sys/stat.h>
 #include <time.h>
 
-enum { ACCOUNTS = 1000, TRANSFERS = 4, MOST = 400000 };
+enum { ACCOUNTS = 1000, MOST = 400000 };
 static const int64_t BALANCE = 1000000000;
 
-enum { BEGIN, SAVEPOINT, RELEASE, BACK, COMMIT, ROLLBACK, READ, WRITE, STATEMENTS };
+enum { BEGIN, SAVEPOINT, RELEASE, COMMIT, READ, WRITE, STATEMENTS };
 static const char *const TEXTS[STATEMENTS] = {
-    "begin immediate", "savepoint transfer", "release transfer", "rollback to transfer", "commit", "rollback",
+    "begin immediate", "savepoint part", "release part", "commit",
     "select balance from account where id = ?1", "update account set balance = ?2 where id = ?1",
 };
 
@@ -68,17 +68,13 @@ static void set_balance(client *it, uint32_t account, int64_t number) {
     run(it, WRITE);
 }
 
-static void transfer(client *it, uint32_t from, uint32_t to, int64_t amount) {
-    int64_t here;
+static void add(client *it, uint32_t account, int64_t amount) {
     run(it, SAVEPOINT);
-    set_balance(it, to, balance(it, to) + amount);
-    here = balance(it, from);
-    if (here < amount) run(it, BACK);
-    else set_balance(it, from, here - amount);
+    set_balance(it, account, balance(it, account) + amount);
     run(it, RELEASE);
 }
 
-/* As hosts/rust/tests/log/orders.rs has it. */
+/* As src/orders.rs has it. */
 static uint32_t draw(uint64_t *state) {
     *state = *state * 6364136223846793005u + 1442695040888963407u;
     return (uint32_t)(*state >> 33);
@@ -86,15 +82,14 @@ static uint32_t draw(uint64_t *state) {
 
 static void carry_out(client *it, uint64_t number) {
     uint64_t state = (uint64_t)it->number * 1000003 + number;
+    uint32_t from = draw(&state) % ACCOUNTS;
+    uint32_t to = (from + 1 + draw(&state) % (ACCOUNTS - 1)) % ACCOUNTS;
+    int64_t amount = 1 + draw(&state) % 10;
     pthread_mutex_lock(&turn);
     run(it, BEGIN);
-    for (int k = 0; k < TRANSFERS; k++) {
-        uint32_t from = draw(&state) % ACCOUNTS;
-        uint32_t to = (from + 1 + draw(&state) % (ACCOUNTS - 1)) % ACCOUNTS;
-        int64_t amount = 1 + draw(&state) % 10;
-        transfer(it, from, to, k == TRANSFERS - 1 ? ACCOUNTS * BALANCE + 1 : amount);
-    }
-    run(it, number % 10 == 9 ? ROLLBACK : COMMIT);
+    add(it, from, -amount);
+    add(it, to, amount);
+    run(it, COMMIT);
     pthread_mutex_unlock(&turn);
 }
 
@@ -103,7 +98,7 @@ static void *work(void *given) {
     for (uint64_t number = 0; now() < end && it->count < MOST; number++) {
         double begin = now();
         carry_out(it, number);
-        if (number % 10 != 9) it->each[it->count++] = now() - begin;
+        it->each[it->count++] = now() - begin;
     }
     return NULL;
 }

@@ -10,7 +10,6 @@
 
 mod bank;
 mod figures;
-#[path = "../../../hosts/rust/tests/log/orders.rs"]
 mod orders;
 mod reading;
 mod syncing;

@@ -13,7 +13,7 @@ mod bank;
 mod copying;
 #[path = "../../log/src/figures.rs"]
 mod figures;
-#[path = "../../../hosts/rust/tests/log/orders.rs"]
+#[path = "../../log/src/orders.rs"]
 mod orders;
 #[allow(dead_code, reason = "a log in a database needs more of it")]
 #[path = "../../log/src/reading.rs"]
