@@ -11,7 +11,7 @@ use std::thread::{self, ThreadId};
 use std::time::{Duration, Instant};
 use std::{io, mem};
 
-// A write waits for other commits a quarter of what it takes, and at most so long. One that takes longer has synced a
+// A write waits for other commits half of what it takes, and at most so long. One that takes longer has synced a
 // disk, and those who wait for it sleep.
 const GATHER: Duration = Duration::from_micros(200);
 
@@ -133,7 +133,7 @@ impl Group {
 
     // Waits a little until as many wait as at the last write: their commits share this one.
     fn gather<'q>(&'q self, mut queue: MutexGuard<'q, Queue>) {
-        let (start, patience) = (Instant::now(), GATHER.min(queue.pace / 4));
+        let (start, patience) = (Instant::now(), GATHER.min(queue.pace / 2));
         while queue.waiting < queue.expected && start.elapsed() < patience {
             drop(queue);
             thread::yield_now();

@@ -29,6 +29,12 @@ fn most_looking() -> usize {
     processors().min(8) / 2
 }
 
+/// How many threads look for a mutex, or are being woken to, where there are others: to be woken takes as long as some
+/// orders, so that one alone would come too late.
+pub(crate) fn enough_looking() -> usize {
+    most_looking().clamp(1, 2)
+}
+
 /// Whether so many threads can look while another one works.
 pub(crate) fn has_processors_for(threads: usize) -> bool {
     threads < processors()
@@ -62,6 +68,7 @@ impl Looking {
 
     /// Looks until that finds something, or for so long, and pauses before each time. `pause` is given how often it is to
     /// pause, and returns whether something has cut that short; `look` is given that, and how long this thread has looked.
+    /// A thread that works and has no processor, such as one that writes a log, gets this one meanwhile.
     pub(crate) fn look<T>(
         &self,
         patience: Duration,
@@ -71,6 +78,9 @@ impl Looking {
         let mut pauses = FIRST_PAUSES;
         loop {
             let is_cut = pause(pauses);
+            if !is_cut {
+                thread::yield_now();
+            }
             let passed = self.since.elapsed();
             let found = look(is_cut, passed);
             if found.is_some() || passed >= patience {

@@ -1,6 +1,6 @@
 //! `Turns`: the mutex of a shared guardian, which threads take in turns.
 
-use crate::shared::looking::{LOOKS, Looking, Sleeper, pause};
+use crate::shared::looking::{LOOKS, Looking, Sleeper, enough_looking, pause};
 use std::collections::VecDeque;
 use std::mem;
 use std::ops::{Deref, DerefMut};
@@ -19,8 +19,8 @@ const LONG: u32 = 256;
 const SHORT: u32 = 16;
 
 /// A mutex, around std's. Who finds it taken looks for it a while, if not too many do, and then sleeps. Who frees it
-/// wakes a thread only if none looks for it: a call is much shorter than a wake-up, so those that are awake do better to
-/// go on among themselves.
+/// wakes a thread only if too few look for it: a call is much shorter than a wake-up, so those that are awake do better
+/// to go on among themselves.
 #[derive(Debug)]
 pub(crate) struct Turns<T> {
     kept: Mutex<T>,
@@ -253,7 +253,7 @@ impl<T> Drop for Turn<'_, T> {
         }
         fence(Ordering::SeqCst);
         if turns.sleeping.load(Ordering::Relaxed) > 0
-            && (self.is_long || turns.looking.load(Ordering::Relaxed) == 0)
+            && (self.is_long || turns.looking.load(Ordering::Relaxed) < enough_looking())
         {
             turns.wake_one(self.is_long);
         }
