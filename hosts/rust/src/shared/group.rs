@@ -36,8 +36,11 @@ struct Queue {
     // The entries before this number are in the log.
     safe: u64,
     pieces: VecDeque<JournalLines>,
-    // The thread that writes; how many wait for it; how many did when the last write ended, and what such writes take.
+    // The thread that writes, and whether it still waits for others to share that; the one that wrote last; how many wait,
+    // how many did when the last write ended, and what such writes take.
     writer: Option<ThreadId>,
+    is_gathering: bool,
+    last: Option<ThreadId>,
     waiting: usize,
     expected: usize,
     pace: Duration,
@@ -119,10 +122,13 @@ impl Group {
                 return Err(LoggedError::InDoubt(failure));
             }
             assert_ne!(queue.writer, this, "a log waits for its own guardian");
-            queue = if queue.writer.is_none() {
+            // Whoever wrote last takes over: what SQLite needs is in the cache of that one's processor.
+            let takes_over = queue.is_gathering && queue.last == this;
+            queue = if queue.writer.is_none() || takes_over {
                 queue.writer = this;
-                self.gather(queue);
-                self.write(&write);
+                if self.gather(queue) {
+                    self.write(&write);
+                }
                 locked(&self.queue)
             } else {
                 self.rest(queue)
@@ -131,14 +137,23 @@ impl Group {
         Ok(())
     }
 
-    // Waits a little until as many wait as at the last write: their commits share this one.
-    fn gather<'q>(&'q self, mut queue: MutexGuard<'q, Queue>) {
+    // Waits a little until as many wait as at the last write: their commits share this one. Whether it is still for this
+    // thread to write.
+    fn gather<'q>(&'q self, mut queue: MutexGuard<'q, Queue>) -> bool {
+        let this = queue.writer;
         let (start, patience) = (Instant::now(), GATHER.min(queue.pace / 2));
-        while queue.waiting < queue.expected && start.elapsed() < patience {
+        queue.is_gathering = true;
+        while queue.writer == this && queue.waiting < queue.expected && start.elapsed() < patience {
             drop(queue);
             thread::yield_now();
             queue = locked(&self.queue);
         }
+        let is_writer = queue.writer == this;
+        if is_writer {
+            queue.is_gathering = false;
+            queue.last = this;
+        }
+        is_writer
     }
 
     // Writes the next batch. Who waits then looks what the log has; one whose entries it hasn't writes the next one.
