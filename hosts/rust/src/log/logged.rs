@@ -180,7 +180,7 @@ impl Logged {
     /// holds back each [`topaction`](Self::topaction), at most for this patience. At an error the log goes on as it was, but
     /// after `OutOfMemory` it may start again later. A log in a database does so by itself (`LogOptions::checkpoint_after`).
     pub fn checkpoint_waiting(&self, patience: Duration) -> Result<()> {
-        let fold = |it: &Guardian| locked(&self.taking).fold(it, |piece| self.group.put(piece));
+        let fold = |it: &Guardian| locked(&self.taking).fold(it);
         let openings = self.shared()?.fold_waiting(patience, fold)?;
         self.wait(0, openings)
     }
@@ -234,7 +234,7 @@ impl Shares for Logged {
 
     // What isn't taken here, for want of memory, is when it is written.
     fn committed(&self, guardian: &Guardian) -> u64 {
-        let _ = self.take_all(guardian);
+        let _ = locked(&self.taking).take_all(guardian);
         guardian.entries()
     }
 
@@ -305,20 +305,16 @@ impl Logged {
     }
 
     fn write_batch(&self) -> Result<(), Failure> {
-        let mut batch = self.group.next_batch();
+        let mut batch = locked(&self.taking).next_batch();
         if batch.is_none() {
-            let taken = self.shared.lend(|guardian| self.take_all(guardian));
-            taken.map_err(io::Error::other)?;
-            batch = self.group.next_batch();
+            let take_all = |it: &Guardian| locked(&self.taking).take_all(it);
+            self.shared.lend(take_all).map_err(io::Error::other)?;
+            batch = locked(&self.taking).next_batch();
         }
         let lines = batch.ok_or_else(|| io::Error::other(Error::OtherAnswer))?;
         let started = Instant::now();
         locked(&self.log).append(&lines)?;
         self.group.has_written(&lines, started.elapsed());
         Ok(())
-    }
-
-    fn take_all(&self, guardian: &Guardian) -> Result<(), Error> {
-        locked(&self.taking).take_all(guardian, |piece| self.group.put(piece))
     }
 }

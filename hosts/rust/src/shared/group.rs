@@ -1,12 +1,11 @@
 //! `Group`: the commits that wait together for a log.
 
 use crate::log::{Failure, JournalLines, LogCounts, LoggedError, Result};
-use crate::shared::looking::{has_processors_for, look_for};
-use crate::shared::taking::PIECE;
+use crate::shared::looking::{Sleeper, has_processors_for, look_for};
 use std::collections::VecDeque;
 use std::panic::{AssertUnwindSafe, catch_unwind, resume_unwind};
 use std::sync::atomic::{AtomicU64, Ordering};
-use std::sync::{Condvar, Mutex, MutexGuard, OnceLock, PoisonError};
+use std::sync::{Arc, Mutex, MutexGuard, OnceLock, PoisonError};
 use std::thread::{self, ThreadId};
 use std::time::{Duration, Instant};
 use std::{io, mem};
@@ -24,18 +23,16 @@ pub(crate) type Goal = (u64, u64);
 /// The commits that wait together for a log.
 pub(crate) struct Group {
     queue: Mutex<Queue>,
-    // How many batches have been written, or have failed; and that one more has.
+    // How many batches have been written, or have failed.
     writes: AtomicU64,
-    has_written: Condvar,
     broken: OnceLock<Failure>,
 }
 
-// How far the log has come, what it is to get, and who waits.
+// How far the log has come, and who waits.
 #[derive(Default)]
 struct Queue {
     // The entries before this number are in the log.
     safe: u64,
-    pieces: VecDeque<JournalLines>,
     // The thread that writes, and whether it still waits for others to share that; the one that wrote last; how many wait,
     // how many did when the last write ended, and what such writes take.
     writer: Option<ThreadId>,
@@ -44,6 +41,9 @@ struct Queue {
     waiting: usize,
     expected: usize,
     pace: Duration,
+    // Those that sleep until this write ends; and those to be woken, since theirs has.
+    sleeping: VecDeque<Arc<Sleeper>>,
+    woken: VecDeque<Arc<Sleeper>>,
     counts: LogCounts,
 }
 
@@ -62,7 +62,6 @@ impl Group {
         Group {
             queue: Mutex::new(queue),
             writes: AtomicU64::new(0),
-            has_written: Condvar::new(),
             broken: OnceLock::new(),
         }
     }
@@ -75,29 +74,6 @@ impl Group {
     /// Why the log is broken, if it is.
     pub(crate) fn broken(&self) -> Option<Failure> {
         self.broken.get().cloned()
-    }
-
-    /// The log is to get this piece, after the others.
-    pub(crate) fn put(&self, piece: JournalLines) {
-        locked(&self.queue).pieces.push_back(piece);
-    }
-
-    /// The pieces that the log gets next: those that fit into a batch, and at least one, if there are any. An opening is
-    /// one by itself.
-    pub(crate) fn next_batch(&self) -> Option<JournalLines> {
-        let pieces = &mut locked(&self.queue).pieces;
-        let mut batch = pieces.pop_front()?;
-        while let Some(piece) = pieces.pop_front() {
-            let is_opening = batch.is_opening() || piece.is_opening();
-            if is_opening || batch.text.len() + piece.text.len() > PIECE {
-                pieces.push_front(piece);
-                break;
-            }
-            batch.text += &piece.text;
-            batch.next = piece.next;
-            batch.named.extend(piece.named);
-        }
-        Some(batch)
     }
 
     /// The log has these lines, and writing them took so long.
@@ -167,8 +143,12 @@ impl Group {
         queue.writer = None;
         queue.expected = mem::take(&mut queue.waiting);
         self.writes.fetch_add(1, Ordering::Release);
+        let Queue {
+            sleeping, woken, ..
+        } = &mut *queue;
+        woken.append(sleeping);
         drop(queue);
-        self.has_written.notify_all();
+        self.wake_next();
         if let Err(panic) = written {
             resume_unwind(panic);
         }
@@ -177,16 +157,31 @@ impl Group {
     // Waits until what is written now has been. Where that is quick, and processors are left, it looks before it sleeps.
     fn rest<'q>(&'q self, mut queue: MutexGuard<'q, Queue>) -> MutexGuard<'q, Queue> {
         let before = self.writes.load(Ordering::Relaxed);
-        let is_writing = || self.writes.load(Ordering::Acquire) == before;
+        let has_ended = || self.writes.load(Ordering::Acquire) != before;
         queue.waiting += 1;
         if queue.pace < GATHER && has_processors_for(queue.expected) {
             let patience = 2 * queue.pace;
             drop(queue);
-            look_for(patience, || !is_writing());
+            look_for(patience, has_ended);
             queue = locked(&self.queue);
         }
-        let woken = self.has_written.wait_while(queue, |_| is_writing());
-        woken.unwrap_or_else(PoisonError::into_inner)
+        if !has_ended() {
+            let this = Sleeper::here();
+            queue.sleeping.push_back(Arc::clone(&this));
+            drop(queue);
+            this.sleep();
+            self.wake_next();
+            queue = locked(&self.queue);
+        }
+        queue
+    }
+
+    // Wakes one of those whose write has ended, which wakes the next one: all at once would only wait for each other.
+    fn wake_next(&self) {
+        let next = locked(&self.queue).woken.pop_front();
+        if let Some(sleeper) = next {
+            sleeper.wake();
+        }
     }
 }
 
