@@ -17,7 +17,7 @@ check also reads what a function calls, and what that calls. One check then prov
 An edit is refused if its function isn't proved, and not only for a hole.
 
 With `--beside`, `rt ci` is still at work and writes LOG; the file ENDED is there once it has ended. The edits of
-a crate are then tried as soon as the libraries below it are proved.
+a crate are then tried as soon as the libraries below it are proved, by half of the jobs until `rt ci` has ended.
 
 A line an edit: `refused` with the first goal that stays open, `NOT REFUSED`, or `NOT TRIED` with the reason.
 The last line counts: 'N passed, M failed'.
@@ -363,10 +363,19 @@ class Beside(NamedTuple):
                 return
             time.sleep(2)
 
+    def leave(self, jobs, turn):
+        """Leaves so many more jobs to the edits once `rt ci` has ended."""
+        while not self.ended.exists():
+            time.sleep(2)
+        for _ in range(jobs):
+            turn.release()
+
 
 def results_of(given, checker, tries):
     """What each edit comes to, of groups of edits by crate. A crate waits for its libraries, a check for its turn."""
-    beside, turn = Beside(*given.beside) if given.beside else None, threading.Semaphore(given.jobs)
+    beside = Beside(*given.beside) if given.beside else None
+    held_back = given.jobs // 2 if beside else 0
+    turn = threading.Semaphore(given.jobs - held_back)
 
     def in_turn(work, *words):
         with turn:
@@ -378,7 +387,9 @@ def results_of(given, checker, tries):
         usual = in_turn(usual_goals, crate, [edit for group in tries[crate] for edit in group])
         return list(pool.map(lambda group: in_turn(answers, crate, group, usual), tries[crate]))
 
-    with ThreadPoolExecutor() as crates, ThreadPoolExecutor(given.jobs) as pool:
+    with ThreadPoolExecutor(len(tries) + 1) as crates, ThreadPoolExecutor(given.jobs) as pool:
+        if beside:
+            crates.submit(beside.leave, held_back, turn)
         for results in crates.map(tried, tries):
             for group in results:
                 yield from group.items()
