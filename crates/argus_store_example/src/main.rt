@@ -1,5 +1,9 @@
 //! A bank that outlives its process: each run pays into an account of a guardian that a database keeps.
+//! With a word it runs the tests of argus_store instead.
 #![tactic(auto)]
+
+mod faults;
+mod tests;
 
 use argus_actions::ActionId;
 use argus_guardian::{ResumedGuardian, Resuming};
@@ -18,6 +22,9 @@ const NAME: &str = "5f0c2d4b9e8a4f7a8f60c3a51b7d9e24";
 const ACCOUNT: ObjId = ObjId(0);
 
 fn main(rt: HostRuntime) -> Result<(), KeepError> {
+    if tests::are_asked_for(&rt)? {
+        return tests::run(&rt);
+    }
     let heap = Heap::new(rt.alloc()).map_err(|_| KeepError::OutOfMemory)?;
     make_log(Connection::open(&rt, FILE)?)?;
     if let Some((payments, entries)) = pay(rt.alloc(), heap, Store::open(&rt, FILE, Unknown)?)? {

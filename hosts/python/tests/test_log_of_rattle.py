@@ -1,4 +1,5 @@
-"""A bank in Rattle over a log in a database, argus_store_example: its allocations and its files' calls fail in turn.
+"""A log that Rattle's own store writes: argus_store_example, a bank, whose allocations and files' calls fail in turn,
+and which has the store's own tests.
 
 REPLAY and ARGUS_STORE_EXAMPLE name the programs, or .ci/run left them. tools/programs/failing.c stands before the C
 library's calls, so it needs a compiler. With ARGUS_EACH_CALL set each allocation fails in turn, and a bit of each byte
@@ -11,13 +12,18 @@ import os
 import re
 import shutil
 import subprocess
+import sys
 import unittest
 from itertools import count
 from pathlib import Path
 from tempfile import TemporaryDirectory
 
-TOP = Path(__file__).resolve().parents[3]
-REPLAY = os.environ.get("REPLAY", str(TOP / "crates/replay/out/replay"))
+sys.path.insert(0, str(Path(__file__).resolve().parent))
+
+from log_replays import REPLAY, TOP, ReplayCase  # noqa: E402
+
+from argus_guardian.log import Log  # noqa: E402
+
 BANK = os.environ.get("ARGUS_STORE_EXAMPLE", str(TOP / "crates/argus_store_example/out/argus_store_example"))
 FAILING = TOP / "tools/programs/failing.c"
 SUFFIXES = "", "-wal"
@@ -33,7 +39,36 @@ def says(payments: int) -> str:
     return f"{payments} payments and {4 + 3 * payments} entries are kept\n"
 
 
-@unittest.skipUnless(os.access(BANK, os.X_OK) and os.access(REPLAY, os.X_OK), "no program of Rattle")
+def has_programs() -> bool:
+    return os.access(BANK, os.X_OK) and os.access(REPLAY, os.X_OK)
+
+
+@unittest.skipUnless(has_programs(), "no program of Rattle")
+class StoreTest(ReplayCase):
+    def setUp(self) -> None:
+        super().setUp()
+        ended = subprocess.run(
+            [BANK, "tests"], cwd=self.room, capture_output=True, text=True, check=False, timeout=60
+        )
+        self.assertEqual((ended.returncode, ended.stdout), (0, "passed\n"))
+        self.path = str(self.room / "argus_store_test.db")
+
+    def test_other_programs_read_its_log(self) -> None:
+        """SQLite finds it sound, and Python's host goes on with it."""
+        self.assertEqual(self.rows("PRAGMA integrity_check"), [("ok",)])
+        opening = b"opening entries 5 actions 3\nopening o0 atomic_array[int] 0[]\n"
+        self.assertEqual(self.text(), opening + b"5 begin_top -> a3\n")
+        self.lists(self.text())
+        self.rows("PRAGMA application_id = 0x41524755")
+        self.rows("PRAGMA user_version = 1")
+        with Log.open(self.path) as log, log.topaction() as top:
+            top.addh(0, 7)
+        wanted = b"6 abort a3 -> done\n7 begin_top -> a4\n8 alter a4 o0 addh 7 -> done\n9 commit a4 -> done\n"
+        self.assertEqual(self.text(), opening + b"5 begin_top -> a3\n" + wanted)
+        self.lists(self.text())
+
+
+@unittest.skipUnless(has_programs(), "no program of Rattle")
 class BankTest(unittest.TestCase):
     def setUp(self) -> None:
         folder = TemporaryDirectory()

@@ -1,14 +1,13 @@
 """Logs that the proved program reads from their databases: `replay --database`. REPLAY names it, or .ci/run left it.
 
 Where they are built, so are logs that C's host wrote and Rust's: hosts/run leaves the programs, or ARGUS_C_LOG and
-ARGUS_RUST_ORDERS name them. And SQLite and Python's host read a log that argus_store wrote.
+ARGUS_RUST_ORDERS name them.
 """
 
 from __future__ import annotations
 
 import os
 import shutil
-import sqlite3
 import subprocess
 import sys
 import unittest
@@ -16,26 +15,18 @@ from pathlib import Path
 
 sys.path.insert(0, str(Path(__file__).resolve().parent))
 
-from log_bank import LogCase, carry_out, open_bank  # noqa: E402
+from log_bank import carry_out, open_bank  # noqa: E402
+from log_replays import REPLAY, ReplayCase, replayed  # noqa: E402
 
-from argus_guardian.log import Log  # noqa: E402
 from argus_guardian.log_rows import summed  # noqa: E402
 
 TOP = Path(__file__).resolve().parents[3]
-REPLAY = os.environ.get("REPLAY", str(TOP / "crates/replay/out/replay"))
 C_LOG = os.environ.get("ARGUS_C_LOG", str(TOP / "build/hosts/c/log_tests"))
-STORE_TESTS = TOP / "crates/store_tests/out/store_tests_tests"
 RUST_ORDERS = os.environ.get("ARGUS_RUST_ORDERS", str(TOP / "build/hosts/rust/release/examples/orders"))
 
 
-def replayed(*words: str, given: bytes = b"") -> tuple[int, str, str]:
-    """The status of the program, and what it printed and said."""
-    ended = subprocess.run([REPLAY, *words], input=given, capture_output=True, check=False, timeout=60)
-    return ended.returncode, ended.stdout.decode(), ended.stderr.decode()
-
-
 @unittest.skipUnless(os.access(REPLAY, os.X_OK), "no program replay")
-class ReplayedTest(LogCase):
+class ReplayedTest(ReplayCase):
     def setUp(self) -> None:
         super().setUp()
         with open_bank(self.path) as log:
@@ -45,34 +36,9 @@ class ReplayedTest(LogCase):
                 carry_out(log, 0, number)
         self.firsts = [first for (first,) in self.rows("SELECT first FROM batch ORDER BY first")]
 
-    def rows(self, statement: str) -> list[tuple[int, ...]]:
-        database = sqlite3.connect(self.path)
-        try:
-            found = database.execute(statement).fetchall()
-            database.commit()
-            return found
-        finally:
-            database.close()
-
     def says(self, status: int, words: str) -> None:
         """What it says of a database that is changed by hand."""
         self.assertEqual(replayed("--database", self.path), (status, "", words + "\n"))
-
-    def text(self) -> bytes:
-        """The listing, as SQL has it."""
-        database = sqlite3.connect(self.path)
-        try:
-            rows = database.execute("SELECT text FROM opening ORDER BY line").fetchall()
-            rows += database.execute("SELECT lines FROM batch ORDER BY first").fetchall()
-            return "".join(f"{lines}\n" for (lines,) in rows).encode()
-        finally:
-            database.close()
-
-    def lists(self, text: bytes) -> None:
-        for listing in "bases", "stacks", "journal", "audit":
-            wanted = replayed("--list", listing, given=text)
-            self.assertEqual((wanted[0], wanted[1] != ""), (0, True))
-            self.assertEqual(replayed("--database", self.path, "--list", listing), wanted)
 
     def test_it_lists_what_the_text_gives(self) -> None:
         self.lists(self.text())
@@ -90,24 +56,6 @@ class ReplayedTest(LogCase):
     @unittest.skipUnless(os.access(RUST_ORDERS, os.X_OK), "no log of Rust's host")
     def test_a_log_of_rust(self) -> None:
         self.written_by(RUST_ORDERS, self.path, given="3 1 70\n3 2 30\n5 1 900\n")
-
-    @unittest.skipUnless(os.access(STORE_TESTS, os.X_OK), "no log of argus_store")
-    def test_a_log_of_rattle(self) -> None:
-        """SQLite finds it sound, and Python's host goes on with it."""
-        folder = Path(self.path).parent
-        subprocess.run([STORE_TESTS, "tests::over_a_file"], cwd=folder, capture_output=True, check=True, timeout=60)
-        self.path = str(folder / "argus_store_test.db")
-        self.assertEqual(self.rows("PRAGMA integrity_check"), [("ok",)])
-        opening = b"opening entries 5 actions 3\nopening o0 atomic_array[int] 0[]\n"
-        self.assertEqual(self.text(), opening + b"5 begin_top -> a3\n")
-        self.lists(self.text())
-        self.rows("PRAGMA application_id = 0x41524755")
-        self.rows("PRAGMA user_version = 1")
-        with Log.open(self.path) as log, log.topaction() as top:
-            top.addh(0, 7)
-        wanted = b"6 abort a3 -> done\n7 begin_top -> a4\n8 alter a4 o0 addh 7 -> done\n9 commit a4 -> done\n"
-        self.assertEqual(self.text(), opening + b"5 begin_top -> a3\n" + wanted)
-        self.lists(self.text())
 
     def test_it_reads_the_wal_and_writes_nothing(self) -> None:
         with open_bank(self.path) as log:

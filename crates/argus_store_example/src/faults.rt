@@ -7,7 +7,6 @@ use argus_store::{End, Store};
 use sqlite::{Alter, Connection, Error, Files, Options};
 use sqlite_disk::{Crash, Fuse, Memory};
 use std::alloc::Global;
-use std::test::Fail;
 
 const OPENING: &str = "opening entries 3 actions 2\nopening o0 atomic_array[int] 0[]";
 
@@ -72,7 +71,7 @@ fn crash<D: Crash + Drop>(alloc: Global, files: Files<D>) -> Result<Option<usize
 }
 
 // Whether no crash loses what was acknowledged, and the last one comes after all steps.
-fn outlasts(alloc: Global) -> Result<bool, Error> {
+pub(crate) fn outlasts(alloc: Global) -> Result<bool, Error> {
     for calls in 0..MOST {
         let log = Fuse::new(Memory::new(alloc), calls);
         let db = Fuse::new(Memory::new(alloc), calls);
@@ -83,10 +82,4 @@ fn outlasts(alloc: Global) -> Result<bool, Error> {
         }
     }
     Ok(false)
-}
-
-#[test]
-fn crashes(rt: HostRuntime) -> Result<(), Fail> {
-    assert!(rt; outlasts(rt.alloc())?);
-    Ok(())
 }

@@ -1,18 +1,20 @@
-//! Each public function of `Store` on its happy path, over a file; argus_store_example has those of
-//! `Kept`. What works on a store does it whatever the store is on: a proof for the whole type of one
-//! on a file takes ten times as long.
+//! Tests of argus_store: each public function of `Store` on its happy path, over a file; the bank has
+//! those of `Kept`. What works on a store does it whatever the store is on: a proof for the whole type
+//! of one on a file takes ten times as long.
 
+use crate::faults::outlasts;
 use argus_store::laws::{
     acknowledged_is_durable, appends_are_listed, kept_is_resumed, kept_takes_steps,
 };
-use argus_store::{End, FaultyRow, ListingError, RowFault, RowLine, Store, Table, listing_text};
+use argus_store::{
+    End, FaultyRow, KeepError, ListingError, RowFault, RowLine, Store, Table, listing_text,
+};
 use sqlite::{Alter, Connection, Error, FileStore, Row, Unknown};
 use sqlite_disk::Disk;
 use std::alloc::Global;
-use std::fs;
-use std::test::Fail;
+use std::{env, fs};
 
-// Left behind for hosts/python/tests/test_log_replayed.py.
+// Left behind for hosts/python/tests/test_log_of_rattle.py.
 const FILE: &str = "argus_store_test.db";
 
 const WAL: &str = "argus_store_test.db-wal";
@@ -185,14 +187,25 @@ fn fold(rt: &HostRuntime) -> Result<bool, Error> {
     Ok(end(folded(rt.alloc(), Store::open(rt, FILE, Unknown)?)?))
 }
 
-#[test]
-fn over_a_file(rt: HostRuntime) -> Result<(), Fail> {
+fn has_each_step(rt: &HostRuntime) -> Result<bool, Error> {
     appends_are_listed();
     kept_is_resumed();
     acknowledged_is_durable();
-    let _ = (fs::remove_file(&rt, FILE), fs::remove_file(&rt, WAL));
-    assert!(rt; begin(&rt)?);
-    assert!(rt; put_in(&rt)?);
-    assert!(rt; fold(&rt)?);
+    let _ = (fs::remove_file(rt, FILE), fs::remove_file(rt, WAL));
+    Ok(begin(rt)? && put_in(rt)? && fold(rt)?)
+}
+
+/// Whether a word is given.
+pub(crate) fn are_asked_for(rt: &HostRuntime) -> Result<bool, KeepError> {
+    let mut words = env::args(rt).map_err(|_| KeepError::OutOfMemory)?;
+    let _program = words.next();
+    Ok(words.next().is_some())
+}
+
+/// Prints whether all tests passed.
+pub(crate) fn run(rt: &HostRuntime) -> Result<(), KeepError> {
+    let is_passed = has_each_step(rt)? && outlasts(rt.alloc())?;
+    let word = if is_passed { "passed" } else { "failed" };
+    let _ = println!(rt; "{word}");
     Ok(())
 }
