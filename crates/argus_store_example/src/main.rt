@@ -1,16 +1,19 @@
 //! A bank that outlives its process: each run pays into an account of a guardian that a database keeps.
-//! With a word it runs the tests of argus_store instead.
 #![tactic(auto)]
 
-mod faults;
-mod tests;
+mod folding;
 
 use argus_actions::ActionId;
 use argus_guardian::{ResumedGuardian, Resuming};
 use argus_journal::{Call, Reply};
+use argus_store::laws::{
+    acknowledged_is_durable, appends_are_listed, kept_is_resumed, kept_takes_steps,
+};
 use argus_store::{KeepError, Kept, Store, listing_text};
 use argus_values::{Change, Content, Heap, ObjId, OutOfMemory, Room, Shape, Ty, Value};
-use sqlite::{Alter, Connection, Unknown};
+use folding::fold;
+use sqlite::{Alter, Connection, FileStore, Unknown};
+use sqlite_disk::Disk;
 use std::alloc::Global;
 use std::collections::VecDeque;
 
@@ -21,14 +24,16 @@ const NAME: &str = "5f0c2d4b9e8a4f7a8f60c3a51b7d9e24";
 
 const ACCOUNT: ObjId = ObjId(0);
 
+// After so many payments the log begins again with what the account holds.
+const FOLDED: usize = 3;
+
 fn main(rt: HostRuntime) -> Result<(), KeepError> {
-    if tests::are_asked_for(&rt)? {
-        return tests::run(&rt);
-    }
     let heap = Heap::new(rt.alloc()).map_err(|_| KeepError::OutOfMemory)?;
     make_log(Connection::open(&rt, FILE)?)?;
-    if let Some((payments, entries)) = pay(rt.alloc(), heap, Store::open(&rt, FILE, Unknown)?)? {
+    let store = Store::open(&rt, FILE, Unknown)?;
+    if let Some((payments, entries, store)) = pay(rt.alloc(), heap, store)? {
         let _ = println!(rt; "{payments} payments and {entries} entries are kept");
+        close(store);
     }
     Ok(())
 }
@@ -39,12 +44,16 @@ fn make_log<S: Alter + Drop>(conn: Connection<S>) -> Result<(), KeepError> {
     Ok(())
 }
 
+fn close<D: Disk + Drop>(store: Store<FileStore<D>>) {
+    drop(store.stop());
+}
+
 // One more payment. How many are kept then, and how many entries.
 fn pay<S: Alter + Drop>(
     alloc: Global,
     heap: Heap,
     store: Store<S>,
-) -> Result<Option<(usize, u64)>, KeepError> {
+) -> Result<Option<(usize, u64, Store<S>)>, KeepError> {
     let Some(mut bank) = resumed(alloc, heap, store)? else {
         return Ok(None);
     };
@@ -52,11 +61,15 @@ fn pay<S: Alter + Drop>(
         open_account(heap, &mut bank)?;
     }
     commit_one(&mut bank, Change::Addh(Value::Int(70)))?;
-    let (guardian, _store, end) = bank.into_parts();
-    match guardian.base(ACCOUNT) {
-        Some(Some(Content::Arr { items, .. })) => Ok(Some((items.len(), end.next))),
-        _ => Ok(None),
+    let (guardian, mut store, end) = bank.into_parts();
+    let payments = match guardian.base(ACCOUNT) {
+        Some(Some(Content::Arr { items, .. })) => items.len(),
+        _ => return Ok(None),
+    };
+    if payments % FOLDED == 0 {
+        fold(heap, guardian, &mut store, NAME, end)?;
     }
+    Ok(Some((payments, end.next, store)))
 }
 
 // An account without payments.
@@ -69,13 +82,21 @@ fn open_account<S: Alter>(heap: Heap, bank: &mut Kept<S>) -> Result<(), KeepErro
     commit_one(bank, empty)
 }
 
-// The guardian that the log has, over the log.
+// The guardian that the log has, over the log. The laws say that it has all that was acknowledged, for a
+// proof that needs this.
 fn resumed<S: Alter + Drop>(
     alloc: Global,
     heap: Heap,
     mut store: Store<S>,
 ) -> Result<Option<Kept<S>>, KeepError> {
+    kept_takes_steps::<S>();
+    acknowledged_is_durable();
+    kept_is_resumed();
+    appends_are_listed();
     let Some(head) = store.head()? else {
+        return Ok(None);
+    };
+    let Some(end) = store.end(NAME)? else {
         return Ok(None);
     };
     let (opening, batches) = (store.opening()?, store.batches()?);
@@ -87,7 +108,7 @@ fn resumed<S: Alter + Drop>(
     let Ok(ResumedGuardian { guardian, .. }) = resuming.into_guardian() else {
         return Ok(None);
     };
-    Ok(Kept::over(heap, guardian, store, name_of_log(heap)?, head.end))
+    Ok(Kept::over(heap, guardian, store, name_of_log(heap)?, end))
 }
 
 fn name_of_log(heap: Heap) -> Result<String<Room>, OutOfMemory> {

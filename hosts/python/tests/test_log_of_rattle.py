@@ -1,5 +1,5 @@
-"""A log that Rattle's own store writes: argus_store_example, a bank, whose allocations and files' calls fail in turn,
-and which has the store's own tests.
+"""A log that Rattle's own store writes: that of argus_store_example, a bank. Its allocations and its files' calls fail in
+turn, and what a power cut may leave of its files is rebuilt.
 
 REPLAY and ARGUS_STORE_EXAMPLE name the programs, or .ci/run left them. tools/programs/failing.c stands before the C
 library's calls, so it needs a compiler. With ARGUS_EACH_CALL set each allocation fails in turn, and a bit of each byte
@@ -9,6 +9,7 @@ is flipped, which takes an hour; else one of so many.
 from __future__ import annotations
 
 import os
+import random
 import re
 import shutil
 import subprocess
@@ -21,6 +22,7 @@ from tempfile import TemporaryDirectory
 sys.path.insert(0, str(Path(__file__).resolve().parent))
 
 from log_replays import REPLAY, TOP, ReplayCase  # noqa: E402
+from power_cuts import Disk, events_of, make_tracer  # noqa: E402
 
 from argus_guardian.log import Log  # noqa: E402
 
@@ -32,6 +34,8 @@ EACH = "ARGUS_EACH_CALL" in os.environ
 # One of so many allocations fails, and a bit of one byte of so many is flipped. Reads and writes all fail in turn.
 STEPS = {"m": 1 if EACH else 53, "p": 1, "s": 1}
 FLIPPED = 1 if EACH else 1009
+# Of each moment of a power cut so many states are drawn.
+DRAWN = 200 if EACH else 4
 
 
 def says(payments: int) -> str:
@@ -45,26 +49,21 @@ def has_programs() -> bool:
 
 @unittest.skipUnless(has_programs(), "no program of Rattle")
 class StoreTest(ReplayCase):
-    def setUp(self) -> None:
-        super().setUp()
-        ended = subprocess.run(
-            [BANK, "tests"], cwd=self.room, capture_output=True, text=True, check=False, timeout=60
-        )
-        self.assertEqual((ended.returncode, ended.stdout), (0, "passed\n"))
-        self.path = str(self.room / "argus_store_test.db")
-
     def test_other_programs_read_its_log(self) -> None:
         """SQLite finds it sound, and Python's host goes on with it."""
+        for _ in range(4):
+            subprocess.run([BANK], cwd=self.room, capture_output=True, check=True, timeout=60)
         self.assertEqual(self.rows("PRAGMA integrity_check"), [("ok",)])
-        opening = b"opening entries 5 actions 3\nopening o0 atomic_array[int] 0[]\n"
-        self.assertEqual(self.text(), opening + b"5 begin_top -> a3\n")
+        opening = b"opening entries 13 actions 4\nopening o0 atomic_array[int] 1[70,70,70]\n"
+        begun = b"13 begin_top -> a4\n14 alter a4 o0 addh 70 -> done\n15 commit a4 -> done\n"
+        self.assertEqual(self.text(), opening + begun)
         self.lists(self.text())
         self.rows("PRAGMA application_id = 0x41524755")
         self.rows("PRAGMA user_version = 1")
         with Log.open(self.path) as log, log.topaction() as top:
             top.addh(0, 7)
-        wanted = b"6 abort a3 -> done\n7 begin_top -> a4\n8 alter a4 o0 addh 7 -> done\n9 commit a4 -> done\n"
-        self.assertEqual(self.text(), opening + b"5 begin_top -> a3\n" + wanted)
+        wanted = b"16 begin_top -> a5\n17 alter a5 o0 addh 7 -> done\n18 commit a5 -> done\n"
+        self.assertEqual(self.text(), opening + begun + wanted)
         self.lists(self.text())
 
 
@@ -86,14 +85,15 @@ class BankTest(unittest.TestCase):
         return ended.returncode, ended.stdout
 
     def payments(self) -> int | None:
-        """How many payments the log has, by the proved replay; none if it refuses the log."""
+        """How many payments the log has, by the proved replay; none if it refuses the log. Each third one folds it."""
         words = [REPLAY, "--database", "bank.db", "--list", "journal"]
         ended = subprocess.run(words, cwd=self.folder, capture_output=True, text=True, check=False, timeout=60)
         if ended.returncode != 0:
             return None
+        folded = re.search(r"^opening o0 .*$", ended.stdout, re.MULTILINE)
         paid = re.findall(r"^\d+ alter (a\d+) o0 addh 70 -> done\n\d+ commit \1 -> done$", ended.stdout, re.MULTILINE)
         self.assertEqual(ended.stdout.count("addh"), len(paid), "a payment is there in part")
-        return len(paid)
+        return len(paid) + (len(re.findall(r"\b70\b", folded[0])) if folded else 0)
 
     def keep(self) -> None:
         self.kept.mkdir()
@@ -108,7 +108,7 @@ class BankTest(unittest.TestCase):
             shutil.copy(file, self.folder)
 
     def test_each_run_pays_once(self) -> None:
-        for payments in 1, 2, 3:
+        for payments in 1, 2, 3, 4, 5, 6:
             self.assertEqual(self.pay(), (0, says(payments)))
             self.assertEqual(self.payments(), payments)
 
@@ -154,8 +154,8 @@ class BankTest(unittest.TestCase):
     def test_files_that_rot(self) -> None:
         """A log with a flipped bit is refused, or a front of it is there: as SQLite does, the store ends a WAL before
         the first frame that is broken."""
-        self.pay()
-        self.pay()
+        for _ in range(4):
+            self.pay()
         self.keep()
         refused = 0
         for file in sorted(self.kept.iterdir()):
@@ -166,9 +166,35 @@ class BankTest(unittest.TestCase):
                 rotten[at] ^= 1 << at % 8
                 (self.folder / file.name).write_bytes(rotten)
                 found = self.payments()
-                self.assertIn(found, (None, 0, 1, 2), f"{file.name}: byte {at}")
+                self.assertIn(found, (None, 0, 1, 2, 3, 4), f"{file.name}: byte {at}")
                 refused += found is None
         self.assertGreater(refused, 0)
+
+    def test_power_cuts(self) -> None:
+        """Whatever a disk has kept of what wasn't synced: what was acknowledged is there, or one payment more."""
+        library, trace = self.folder / "trace.so", self.folder / "trace"
+        make_tracer(library)
+        for payments in 1, 2, 3, 4:
+            self.assertEqual(self.pay({"LD_PRELOAD": str(library), "ARGUS_TRACE": str(trace)}), (0, says(payments)))
+        disk, chance, acknowledged, tried = Disk(), random.Random(1), 0, set()
+        for event in events_of(trace):
+            disk.take(event)
+            acknowledged += event.kind == "said"
+            for files in disk.states(chance, DRAWN):
+                state = acknowledged, *(files.get(f"bank.db{suffix}") for suffix in SUFFIXES)
+                if state not in tried:
+                    self.assert_cut(*state)
+                tried.add(state)
+        self.assertEqual(acknowledged, 4)
+        self.assertGreater(len(tried), 50)
+
+    def assert_cut(self, acknowledged: int, *files: bytes | None) -> None:
+        for suffix, content in zip(SUFFIXES, files):
+            (self.folder / f"bank.db{suffix}").unlink(missing_ok=True)
+            if content is not None:
+                (self.folder / f"bank.db{suffix}").write_bytes(content)
+        found = self.payments()
+        self.assertIn(found, (acknowledged, acknowledged + 1) if acknowledged else (None, 0, 1))
 
 
 if __name__ == "__main__":
