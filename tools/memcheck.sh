@@ -9,7 +9,7 @@
 set -u
 top=$(cd "$(dirname "$0")/.." && pwd)
 command -v valgrind > /dev/null || { echo 'memcheck.sh: needs the package valgrind' >&2; exit 2; }
-[ $# -gt 0 ] || set -- argus replay argus_embedding_example
+[ $# -gt 0 ] || set -- argus replay
 work=$(mktemp -d)
 trap 'rm -rf "$work"' EXIT
 wrong=0

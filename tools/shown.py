@@ -23,7 +23,7 @@ SHOWN = [
         "docs/RATTLE.md",
         "rust",
         4,
-        "crates/argus_embedding_example/src/main.rt",
+        "crates/guardian_tests/src/two_threads.rt",
         "crates/argus_store_example/src/main.rt",
     ),
 ]

@@ -1,7 +1,10 @@
 /* The orders of the bank in SQLite: a transaction each, a savepoint for each account. WAL, synchronous=FULL. One mutex
  * around each order, so that nobody waits in vain for SQLite's own lock. With synchronous=OFF nothing is synced.
  *
- *   sqlite_bank FOLDER full|off CLIENTS SECONDS
+ *   sqlite_bank FOLDER full|off CLIENTS SECONDS [append]
+ *
+ * With `append` it makes no orders, but only writes what a log writes of each: a row with the lines of 12 entries, 474
+ * bytes, and where the log ends then. No log that does so in SQLite makes more orders a second with one client.
  *
  * It prints what log-bench prints: `sqlite-FULL CLIENTS ORDERS-A-SECOND P50 P99`, times in milliseconds. */
 #define _POSIX_C_SOURCE 200809L
@@ -17,11 +20,14 @@
 enum { ACCOUNTS = 1000, MOST = 400000 };
 static const int64_t BALANCE = 1000000000;
 
-enum { BEGIN, SAVEPOINT, RELEASE, COMMIT, READ, WRITE, STATEMENTS };
+enum { BEGIN, SAVEPOINT, RELEASE, COMMIT, READ, WRITE, MOVE, PUT, STATEMENTS };
 static const char *const TEXTS[STATEMENTS] = {
     "begin immediate", "savepoint part", "release part", "commit",
     "select balance from account where id = ?1", "update account set balance = ?2 where id = ?1",
+    "update log set next_entry = ?1, sum = ?2 where next_entry = ?3", "insert into batch values (?1, ?2, ?3)",
 };
+/* What an order's entries take in a log, and how many they are. */
+enum { BYTES = 474, ENTRIES = 12 };
 
 typedef struct client {
     pthread_t thread;
@@ -34,6 +40,8 @@ typedef struct client {
 
 static pthread_mutex_t turn = PTHREAD_MUTEX_INITIALIZER;
 static double end;
+static int64_t next_entry;
+static int appends;
 
 static double now(void) {
     struct timespec time;
@@ -93,11 +101,34 @@ static void carry_out(client *it, uint64_t number) {
     pthread_mutex_unlock(&turn);
 }
 
+/* The sum is any number: what is measured is SQLite. */
+static void append(client *it, const char *lines) {
+    sqlite3_stmt *move = it->statements[MOVE], *put = it->statements[PUT];
+    int64_t sum;
+    pthread_mutex_lock(&turn);
+    sum = next_entry * 48271 % 2147483647;
+    run(it, BEGIN);
+    sqlite3_bind_int64(move, 1, next_entry + ENTRIES);
+    sqlite3_bind_int64(move, 2, sum);
+    sqlite3_bind_int64(move, 3, next_entry);
+    run(it, MOVE);
+    sqlite3_bind_int64(put, 1, next_entry);
+    sqlite3_bind_text(put, 2, lines, BYTES, SQLITE_STATIC);
+    sqlite3_bind_int64(put, 3, sum);
+    run(it, PUT);
+    run(it, COMMIT);
+    next_entry += ENTRIES;
+    pthread_mutex_unlock(&turn);
+}
+
 static void *work(void *given) {
+    char lines[BYTES];
+    memset(lines, '7', sizeof lines);
     client *it = given;
     for (uint64_t number = 0; now() < end && it->count < MOST; number++) {
         double begin = now();
-        carry_out(it, number);
+        if (appends) append(it, lines);
+        else carry_out(it, number);
         it->each[it->count++] = now() - begin;
     }
     return NULL;
@@ -120,6 +151,9 @@ static void prepare(client *it) {
 static void set_up(client *it) {
     static const char *const text =
         "create table account (id integer primary key, balance integer not null);"
+        "create table log (id integer primary key, next_entry integer not null, sum integer not null);"
+        "create table batch (first integer primary key, lines text not null, sum integer not null);"
+        "insert into log values (0, 0, 0);"
         "with recursive n(i) as (select 0 union all select i + 1 from n where i < 999)"
         " insert into account select i, 1000000000 from n";
     must(sqlite3_exec(it->connection, text, NULL, NULL, NULL), SQLITE_OK, "the accounts");
@@ -161,7 +195,8 @@ int main(int argc, char **argv) {
     uint32_t count;
     client *clients;
     double begin;
-    if (argc != 5) return fprintf(stderr, "sqlite_bank FOLDER full|off CLIENTS SECONDS\n"), 2;
+    appends = argc == 6 && strcmp(argv[5], "append") == 0;
+    if (argc != 5 && !appends) return fprintf(stderr, "sqlite_bank FOLDER full|off CLIENTS SECONDS [append]\n"), 2;
     count = (uint32_t)strtoul(argv[3], NULL, 10);
     clients = calloc(count, sizeof *clients);
     if (clients == NULL || count == 0) return 2;

@@ -4,7 +4,7 @@
 mod folding;
 
 use argus_actions::ActionId;
-use argus_guardian::{ResumedGuardian, Resuming};
+use argus_guardian::{Guardian, ResumedGuardian, Resuming};
 use argus_journal::{Call, Reply};
 use argus_store::laws::{
     acknowledged_is_durable, appends_are_listed, kept_is_resumed, kept_takes_steps,
@@ -29,23 +29,35 @@ const FOLDED: usize = 3;
 
 fn main(rt: HostRuntime) -> Result<(), KeepError> {
     let heap = Heap::new(rt.alloc()).map_err(|_| KeepError::OutOfMemory)?;
-    make_log(Connection::open(&rt, FILE)?)?;
-    let store = Store::open(&rt, FILE, Unknown)?;
-    if let Some((payments, entries, store)) = pay(rt.alloc(), heap, store)? {
-        let _ = println!(rt; "{payments} payments and {entries} entries are kept");
-        close(store);
-    }
-    Ok(())
+    make_log(&rt)?;
+    print_payment(&rt, heap)
+}
+
+fn make_log(rt: &HostRuntime) -> Result<(), KeepError> {
+    make_log_in(Connection::open(rt, FILE)?)
+}
+
+fn print_payment(rt: &HostRuntime, heap: Heap) -> Result<(), KeepError> {
+    pay_and_close(rt, heap, Store::open(rt, FILE, Unknown)?)
 }
 
 // If the database is empty, it gets a log.
-fn make_log<S: Alter + Drop>(conn: Connection<S>) -> Result<(), KeepError> {
+fn make_log_in<S: Alter + Drop>(conn: Connection<S>) -> Result<(), KeepError> {
     Store::create(conn, NAME, "1")?;
     Ok(())
 }
 
-fn close<D: Disk + Drop>(store: Store<FileStore<D>>) {
-    drop(store.stop());
+// Pays, and says how much is kept.
+fn pay_and_close<D: Disk + Drop>(
+    rt: &HostRuntime,
+    heap: Heap,
+    store: Store<FileStore<D>>,
+) -> Result<(), KeepError> {
+    if let Some((payments, entries, store)) = pay(rt.alloc(), heap, store)? {
+        let _ = println!(rt; "{payments} payments and {entries} entries are kept");
+        drop(store.stop());
+    }
+    Ok(())
 }
 
 // One more payment. How many are kept then, and how many entries.
@@ -93,22 +105,40 @@ fn resumed<S: Alter + Drop>(
     acknowledged_is_durable();
     kept_is_resumed();
     appends_are_listed();
-    let Some(head) = store.head()? else {
+    let Some(text) = listing_of(alloc, &mut store)? else {
+        return Ok(None);
+    };
+    let Some(guardian) = guardian_of(heap, text.as_slice()) else {
         return Ok(None);
     };
     let Some(end) = store.end(NAME)? else {
         return Ok(None);
     };
-    let (opening, batches) = (store.opening()?, store.batches()?);
-    let Ok(text) = listing_text(alloc, &head, opening.as_slice(), batches.as_slice()) else {
-        return Ok(None);
-    };
-    let mut resuming = Resuming::new(heap);
-    resuming.take(text.as_slice());
-    let Ok(ResumedGuardian { guardian, .. }) = resuming.into_guardian() else {
-        return Ok(None);
-    };
     Ok(Kept::over(heap, guardian, store, name_of_log(heap)?, end))
+}
+
+// The listing of the log.
+fn listing_of<S: Alter + Drop>(
+    alloc: Global,
+    store: &mut Store<S>,
+) -> Result<Option<Vec<u8>>, KeepError> {
+    let Some(head) = store.head()? else {
+        return Ok(None);
+    };
+    let (opening, batches) = (store.opening()?, store.batches()?);
+    match listing_text(alloc, &head, opening.as_slice(), batches.as_slice()) {
+        Ok(text) => Ok(Some(text)),
+        Err(_) => Ok(None),
+    }
+}
+
+fn guardian_of(heap: Heap, text: &[u8]) -> Option<Guardian> {
+    let mut resuming = Resuming::new(heap);
+    resuming.take(text);
+    match resuming.into_guardian() {
+        Ok(ResumedGuardian { guardian, .. }) => Some(guardian),
+        Err(_) => None,
+    }
 }
 
 fn name_of_log(heap: Heap) -> Result<String<Room>, OutOfMemory> {

@@ -1,6 +1,7 @@
-//! The calls of a list, which a seat makes together, and their receipts.
+//! The calls of a row by a seat: one, or a list that is made together; and their receipts.
 
 use crate::call_reading::{call_of, reply_of};
+use crate::calling::{make_call, push_told};
 use crate::row_fault::{Result, RowFault};
 use crate::setting::Setting;
 use crate::telling::{tell, tell_reply};
@@ -8,6 +9,27 @@ use argus_guardian::{CallsEnd, CallsMade, Demand, DemandedCall, Receipt, Seat, S
 use argus_journal::{Call, Reply};
 use argus_values::{Heap, Room};
 use std::sync::Wait;
+
+/// The call; or behind `each` a list, of which those that weren't made yet are made together. The
+/// replies are told, and the receipts kept, of which so many were there before the row.
+pub(crate) fn call_by_seat<N: Sharing, R: Wait + Drop>(
+    rt: &R,
+    setting: Setting<'_>,
+    shared: &Shared<N, R>,
+    seat: &mut Seat<N>,
+    text: &str,
+    before: usize,
+    receipts: &mut Vec<Receipt, Room>,
+    out: &mut String<Room>,
+) -> Result<()> {
+    let Some(list) = text.strip_prefix("each ") else {
+        let receipt = make_call(rt, setting, shared, seat, text)?;
+        return push_told(receipt, receipts, out);
+    };
+    let made = receipts.len().saturating_sub(before);
+    let end = make_each(rt, setting, shared, seat, list, made, receipts)?;
+    tell_each(receipts.as_slice(), before, end, out)
+}
 
 /// Makes the calls between commas, but for the first ones, and adds their receipts.
 pub(crate) fn make_each<N: Sharing, R: Wait + Drop>(
@@ -68,8 +90,8 @@ pub(crate) fn receipt_of(heap: Heap, at: u64, call: &Call, reply: &Reply) -> Res
     Ok(Receipt { at, call, reply })
 }
 
-/// Tells the replies to all calls of the row, and why no more were made.
-pub(crate) fn tell_each(
+// Tells the replies to all calls of the row, and why no more were made.
+fn tell_each(
     receipts: &[Receipt],
     before: usize,
     end: CallsEnd,

@@ -23,6 +23,7 @@ mod sharing;
 mod telling;
 mod testing;
 mod turns;
+mod two_threads;
 mod waiting;
 mod word_reading;
 
@@ -32,6 +33,7 @@ use setting::Setting;
 use std::process::ExitCode;
 use std::rt::Files;
 use testing::test_rows;
+use two_threads::print_payments;
 
 fn main(rt: HostRuntime) -> ExitCode {
     match test_all(rt) {
@@ -53,5 +55,6 @@ fn test_all<R: Host + Files + AllocGlobal>(rt: R) -> Result<bool> {
         return Ok(false);
     }
     rt.println("used_up_budgets_refuse")?;
+    print_payments(rt, setting.texts)?;
     test_rows(rt, setting)
 }

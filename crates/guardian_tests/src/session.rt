@@ -1,8 +1,8 @@
 //! `Session`: a guardian from its sharing to its settlement, or its drop, which answers rows.
 
 use crate::call_reading::reply_of;
-use crate::calling::{make_call, push_told};
-use crate::each_call::{make_each, receipt_of, tell_each};
+use crate::calling::push_told;
+use crate::each_call::{call_by_seat, receipt_of};
 use crate::host::Host;
 use crate::row::{asked_in, compare, is_row};
 use crate::row_fault::{Result, RowFault};
@@ -122,7 +122,9 @@ impl<N: Sharing + Send + Sync, R: Host> Session<N, R> {
         match word {
             "while" => self.wait(rt, setting, rest, out),
             "look" => look(setting, &mut self.lookers, rest, out),
-            "brief" | "refresh" | "checkpoint" => self.publish(&rt, setting, word, rest, out),
+            "brief" => self.brief(&rt, rest, out),
+            "refresh" => self.refresh(&rt, out),
+            "checkpoint" => self.fold(&rt, out),
             "forge" => forge(setting, &mut self.receipts, rest, out),
             "made" => tell_made(self.seats.as_slice(), rest, out),
             "drop" => {
@@ -182,28 +184,25 @@ impl<N: Sharing + Send + Sync, R: Host> Session<N, R> {
         tell_run(self.receipts.as_slice(), outcomes.as_slice(), out)
     }
 
-    // What is pending is published, which the looker of this number sees then; or it is folded.
-    fn publish(
-        &mut self,
-        rt: &R,
-        setting: Setting<'_>,
-        word: &str,
-        number: &str,
-        out: &mut String<Room>,
-    ) -> Result<()> {
+    // What is pending is published, which the looker of this number sees then.
+    fn brief(&mut self, rt: &R, number: &str, out: &mut String<Room>) -> Result<()> {
         let shared = self.shared.as_ref().ok_or(RowFault::NotSpelled)?;
-        match word {
-            "refresh" => tell_shown(shared.refresh(rt), out),
-            "checkpoint" => tell_checkpoint(shared.checkpoint(rt), out),
-            _ => {
-                let looker = self.lookers.get_mut(number.parse::<usize>()?);
-                tell_shown(shared.brief(rt, looker.ok_or(RowFault::NotSpelled)?), out)
-            }
-        }
+        let looker = self.lookers.get_mut(number.parse::<usize>()?);
+        tell_shown(shared.brief(rt, looker.ok_or(RowFault::NotSpelled)?), out)
     }
 
-    // `seat 1 CALL`, or by seat 0; behind `each` a list, of which those that weren't made yet are made
-    // together.
+    // What is pending is published.
+    fn refresh(&self, rt: &R, out: &mut String<Room>) -> Result<()> {
+        let shared = self.shared.as_ref().ok_or(RowFault::NotSpelled)?;
+        tell_shown(shared.refresh(rt), out)
+    }
+
+    fn fold(&self, rt: &R, out: &mut String<Room>) -> Result<()> {
+        let shared = self.shared.as_ref().ok_or(RowFault::NotSpelled)?;
+        tell_checkpoint(shared.checkpoint(rt), out)
+    }
+
+    // `seat 1 CALL`, or by seat 0.
     fn call(
         &mut self,
         rt: &R,
@@ -219,13 +218,7 @@ impl<N: Sharing + Send + Sync, R: Host> Session<N, R> {
         let seat = self.seats.get_mut(number.parse::<usize>()?);
         let seat = seat.ok_or(RowFault::NotSpelled)?;
         let receipts = &mut self.receipts;
-        let Some(list) = text.strip_prefix("each ") else {
-            let receipt = make_call(rt, setting, shared, seat, text)?;
-            return push_told(receipt, receipts, out);
-        };
-        let made = receipts.len().saturating_sub(self.before);
-        let end = make_each(rt, setting, shared, seat, list, made, receipts)?;
-        tell_each(receipts.as_slice(), self.before, end, out)
+        call_by_seat(rt, setting, shared, seat, text, self.before, receipts, out)
     }
 
     // With all receipts, or those of these numbers.

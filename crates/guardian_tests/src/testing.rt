@@ -43,12 +43,22 @@ const MOST: u64 = 10_000;
 pub(crate) fn test_rows<R: Host + Files + Alloc>(rt: R, setting: Setting<'_>) -> Result<bool> {
     let mut wrong = 0u32;
     for (name, by_seat) in &FILES {
-        let text = fs::read_to_string(&rt, *name)?;
-        let tests = test_text(rt, setting, text.as_str(), *by_seat, &mut wrong)?;
-        println!(rt; "{name}: {tests} tests")?;
+        test_file(rt, setting, *name, *by_seat, &mut wrong)?;
     }
     println!(rt; "{wrong} wrong answers")?;
     Ok(wrong == 0)
+}
+
+fn test_file<R: Host + Files + Alloc>(
+    rt: R,
+    setting: Setting<'_>,
+    name: &str,
+    by_seat: Option<&str>,
+    wrong: &mut u32,
+) -> Result<()> {
+    let text = fs::read_to_string(&rt, name)?;
+    let tests = test_text(rt, setting, text.as_str(), by_seat, wrong)?;
+    Ok(println!(rt; "{name}: {tests} tests")?)
 }
 
 // Runs each test of the text, and counts those with a wrong answer. The rows under the text's first

@@ -83,8 +83,22 @@ pub fn read_log(rt: &HostRuntime, path: &str) -> Result<LogListing, DatabaseFaul
         Some(wal) => wal,
         None => Memory::new(rt.alloc()),
     };
-    match Connection::open_files(rt.alloc(), Files { log, db }, Options::new(0)) {
-        Ok(conn) => list(rt.alloc(), Store::over(conn), has_wal),
+    list_copies(rt.alloc(), log, db, has_wal)
+}
+
+// The listing of the log in these copies of a WAL and a database. It is a function of its own, since
+// each local beside the connection makes the check slower.
+fn list_copies(
+    alloc: Global,
+    log: Memory,
+    db: Memory,
+    has_wal: bool,
+) -> Result<LogListing, DatabaseFault>
+    requires log { IsTrue (memory_is_usable log) }
+    requires db { IsTrue (memory_is_usable db) }
+{
+    match Connection::open_files(alloc, Files { log, db }, Options::new(0)) {
+        Ok(conn) => list(alloc, conn, has_wal),
         Err((error, _)) => Err(DatabaseFault::from(error)),
     }
 }
@@ -162,12 +176,13 @@ fn bytes_of(rt: &HostRuntime, path: &str) -> Result<Option<Vec<u8>>, DatabaseFau
     }
 }
 
-// The listing of the store's log. One that is open has a WAL.
+// The listing of the database's log. One that is open has a WAL.
 fn list<S: Alter + Drop>(
     alloc: Global,
-    mut store: Store<S>,
+    conn: Connection<S>,
     has_wal: bool,
 ) -> Result<LogListing, DatabaseFault> {
+    let mut store = Store::over(conn);
     let Some(head) = store.head()? else {
         return Err(DatabaseFault::NoLog);
     };

@@ -1,7 +1,7 @@
 -- Seats, receipts and what is shared may cross to another thread.
 use denote.Param.Send.{sendable}
 use Rattle.argus_guardian.proofs.Crossing.{crosses}
-use Rattle.argus_embedding_example.proofs.pay_from_threads.Goals as goal
+use Rattle.guardian_tests.proofs.two_threads.pay_from_threads.Goals as goal
 
 pub join-one-requires-send-F : goal.join-one-requires-send-F
 join-one-requires-send-F g c κs within = search (sendable, crosses) depth 40

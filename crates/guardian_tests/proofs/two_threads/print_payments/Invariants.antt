@@ -1,7 +1,7 @@
 -- Which sharing this is.
 use Rattle.argus_guardian.specs.Starting.{board_with}
 use Rattle.argus_journal.specs.JournalView.{next_entry}
-use Rattle.argus_embedding_example.proofs.main.Given as goal
+use Rattle.guardian_tests.proofs.two_threads.print_payments.Given as goal
 
 abbrev pub ghosts-pay_from_threads-N-Ledger : goal.ghosts-pay_from_threads-N-Ledger
 ghosts-pay_from_threads-N-Ledger g a = record { name = a.blank.name; parts = a.blank.parts }

@@ -1,10 +1,10 @@
-//! Two threads pay into one account of a guardian that they share.
-#![tactic(auto)]
+//! Two threads pay into one account of a guardian that they share. docs/RATTLE.md shows it.
 
 ghost use Rattle.std.specs.Prelude.{◌≡◌};
 ghost use Rattle.argus_guardian.specs.Starting.{StartsWith};
 
-use anyhow::{Result, anyhow};
+use crate::host::Host;
+use crate::row_fault::RowFault;
 use argus_actions::ActionId;
 use argus_guardian::{Guardian, Keeper, Parts, Receipt, Seat, Shared, Sharing};
 use argus_journal::{Call, Reply};
@@ -17,16 +17,18 @@ use std::thread::{Threads, join};
 
 const ACCOUNT: ObjId = ObjId(0);
 
-fn main(rt: HostRuntime) -> Result<()> {
-    let heap = Heap::new(rt.alloc())?;
+/// Prints how many payments two threads have made, and how many entries the journal has then.
+pub(crate) fn print_payments<R: Host>(rt: R, heap: Heap) -> Result<(), RowFault> {
     let mut guardian = Guardian::new(heap);
     let items = VecDeque::new(heap.room());
     let empty = Change::create(heap, Content::Arr { low: 1, items })?;
-    guardian.call(Call::Declare(Shape::arr(Ty::Int)?))?;
+    if let Ok(shape) = Shape::arr(Ty::Int) {
+        guardian.call(Call::Declare(shape))?;
+    }
     guardian.call(Call::BeginTop)?;
     guardian.call(Call::Alter(ActionId(0), ACCOUNT, empty))?;
     guardian.call(Call::Commit(ActionId(0)))?;
-    let guardian = pay_from_threads::<Brand, _>(rt, heap, guardian, Blank::new(2), Keeper::new())?;
+    let guardian = pay_from_threads::<Brand, R>(rt, heap, guardian, Blank::new(2), Keeper::new())?;
     let entries = guardian.journal().journal().len();
     if let Some(Some(Content::Arr { items, .. })) = guardian.base(ACCOUNT) {
         println!(rt; "settled: {} payments, {entries} entries", items.len())?;
@@ -41,7 +43,7 @@ fn pay_from_threads<N: Sharing + Send + Sync, R: Threads + Wait + Copy + Drop + 
     guardian: Guardian,
     blank: Blank,
     keeper: Keeper,
-) -> Result<Guardian>
+) -> Result<Guardian, RowFault>
     requires name { blank.name ≡ N.name }
     requires parts { (blank.parts ≡ N.parts) × (blank.parts ≡ 2) }
     requires places { N.places ≡ 0 }
@@ -65,7 +67,7 @@ fn pay_from_threads<N: Sharing + Send + Sync, R: Threads + Wait + Copy + Drop + 
     seats.push(first)?;
     seats.push(second)?;
     let settled = shared.settle(seats, receipts.as_slice());
-    settled.map_err(|unsettled| anyhow!("{}", unsettled.fault))
+    settled.map_err(|_| RowFault::Other)
 }
 
 // A topaction that adds a payment. Each call that was made has a receipt.
