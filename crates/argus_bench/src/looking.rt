@@ -52,6 +52,13 @@ pub(crate) fn time_lookers<N: Sharing + Send + Sync, R: Host>(
             commits
         },
     );
+    outcome_of(looked, commits)
+}
+
+fn outcome_of(
+    looked: Result<Vec<Looks, Room>, AllocError>,
+    commits: Result<Figure, BenchError>,
+) -> Result<Outcome, BenchError> {
     let (looks, commits) = (added_up(looked?.as_slice()), commits?);
     let first = Figure {
         part: "looks",

@@ -144,13 +144,22 @@ fn run_words<R: Host + Print + Env + AllocGlobal>(rt: R) -> Result<(), BenchErro
     let heap = Heap::new(rt.alloc())?;
     let mut words = env::args(&rt)?;
     let _program = words.next();
-    let Some(turns) = words.next() else {
-        return tell(rt, heap);
-    };
-    let Ok(turns) = turns.as_str().parse::<u32>() else {
+    match words.next() {
+        Some(turns) => time_each(rt, heap, turns.as_str(), words),
+        None => tell(rt, heap),
+    }
+}
+
+fn time_each<R: Host + Print>(
+    rt: R,
+    heap: Heap,
+    turns: &str,
+    works: env::Args,
+) -> Result<(), BenchError> {
+    let Ok(turns) = turns.parse::<u32>() else {
         return Ok(rt.println(HELP)?);
     };
-    for word in words {
+    for word in works {
         time(rt, heap, word.as_str(), turns)?;
     }
     Ok(())

@@ -17,21 +17,12 @@ ghost use Rattle.argus_embed.specs.Embedded.{IsAbortedInPart, IsBusy, after_abor
 ghost use Rattle.argus_embed.specs.Requests.{IsRead, LacksPart};
 ghost use Rattle.argus_embed.specs.declared.kinds.TheConstants.{CHANGE_TAG_BOOL};
 
-mod held;
-mod held_parsed;
-mod held_ready;
-mod opening;
-mod parsed_slot;
 mod parsing;
-mod raw_box;
-mod ready_guardian;
-mod ready_slot;
 mod readying;
-mod slot;
 
-use argus_embed::{CallsMade, EmbedError, ListEnd, ListedCall, Question, Request};
-use opening::opened_beside;
-use slot::Slot;
+use argus_embed::{
+    CallsMade, EmbedError, ListEnd, ListedCall, Question, Request, Slot, opened_beside,
+};
 use std::alloc::Global;
 use std::str::from_utf8;
 

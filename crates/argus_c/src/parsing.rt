@@ -6,10 +6,8 @@ ghost use Rattle.argus_c.specs.ParsedSlots.{HasParsed, IsMadeFrom, IsStatusOfDro
 ghost use Rattle.argus_c.specs.{ParsedSlots.IsStatusOfParsed, Slots.{Becomes, IsUncalled, request_of}};
 ghost use Rattle.argus_embed.specs.{ParsedCall.IsParsed, Requests.IsUnread};
 
-use crate::parsed_slot::ParsedSlot;
-use crate::slot::Slot;
 use crate::{DONE, NO_MEMORY, NOT_OPEN, NOT_THERE, NOT_UTF8};
-use argus_embed::{EmbedError, Embedded, ParsedCall, Request};
+use argus_embed::{EmbedError, Embedded, ParsedCall, ParsedSlot, Request, Slot};
 use std::alloc::Global;
 use std::str::from_utf8;
 

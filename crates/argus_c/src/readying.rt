@@ -6,10 +6,8 @@ ghost use Rattle.argus_c.specs.ReadySlots.{IsStatusOfLine, IsStatusOfMake, IsSta
 ghost use Rattle.argus_c.specs.Slots.{IsFront, IsPast};
 ghost use Rattle.argus_embed.specs.ReadyEmbedded.{commit_line};
 
-use crate::ready_guardian::ReadyGuardian;
-use crate::ready_slot::ReadySlot;
-use crate::slot::Slot;
 use crate::{DONE, NO_MEMORY, NOT_OPEN, TOO_SMALL};
+use argus_embed::{ReadyGuardian, ReadySlot, Slot};
 use std::alloc::Global;
 
 // The slot that a guardian should go to has one already.

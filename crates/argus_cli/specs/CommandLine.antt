@@ -13,15 +13,13 @@ use Rattle.clap.specs.{declared.builder.command.Command.Command, declared.builde
 use Rattle.clap.specs.{declared.builder.value_parser.ValueParser.ValueParser, declared.error.kind.ErrorKind.ErrorKind}
 use Rattle.clap.specs.declared.builder.value_parser.ValueParser.TheVariants as vp
 
+-- an option with a value that may be any text, and has no default
+abbrev pub text_option_of : Text → Rule
+text_option_of name = record (new_rule name) { long = Some name; action = Some Set; value_names = 1 }
+
 -- an option with a value: this parser takes it, and this value is its default
 abbrev pub option_of : Text → Text → ValueParser → Rule
-option_of name default parser = record (new_rule name) {
-  long = Some name;
-  action = Some Set;
-  value_names = 1;
-  defaults = default ∷ [];
-  parser = Some parser;
-}
+option_of name default parser = record (text_option_of name) { defaults = default ∷ []; parser = Some parser }
 
 -- an option without a value
 abbrev pub flag_of : Text → Rule

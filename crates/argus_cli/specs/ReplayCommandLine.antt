@@ -1,22 +1,14 @@
 -- What the command line of a replay asks for.
 use Rattle.std.specs.{Borrow.Bor, Prelude.{List, [], Some, codes, false, option_map, string_bytes, ◌∷◌, ◌≡◌}}
-use Rattle.argus_cli.specs.CommandLine.{NamesListings, flag_of, is_given, listing_or_bases, option_of}
+use Rattle.argus_cli.specs.CommandLine.{NamesListings, flag_of, is_given, listing_or_bases, option_of, text_option_of}
 use Rattle.argus_cli.specs.declared.replay_options.ReplayRequest.{ReplayRequest}
 use Rattle.argus_cli.specs.{Usage.{IsStatusOf, named_program}, declared.no_options.NoOptions.NoOptions}
 use Rattle.argus_cli.specs.declared.no_options.NoOptions.TheVariants as no
-use Rattle.clap.specs.Words.{App, IsAmong, IsPlain, Row, Rule, Text, app_of, fault_of, first_of, matches_of, new_rule}
-use Rattle.clap.specs.{Words.{one_of, with_rule}, declared.builder.action.ArgAction.TheVariants.Set}
+use Rattle.clap.specs.Words.{App, IsAmong, IsPlain, Row, Text, app_of, fault_of, first_of, matches_of}
+use Rattle.clap.specs.{Words.{one_of, with_rule}}
 use Rattle.clap.specs.declared.builder.command.Command.{Command}
 use Rattle.clap.specs.{declared.builder.command.Command.TheViews.out-Command, declared.error.kind.ErrorKind.ErrorKind}
 use Rattle.clap.specs.declared.builder.value_parser.ValueParser.TheVariants as vp
-
--- an option with a value that may be any text, and has no default
-abbrev pub text_option_of : Text → Rule
-text_option_of name = record (new_rule name) {
-  long = Some name;
-  action = Some Set;
-  value_names = 1;
-}
 
 -- the program's command line: it has a version, and `--list` takes these names
 abbrev pub replay_program : Bor (List (Bor Text)) → App

@@ -1,15 +1,15 @@
 //! `options`: what a command line asks for.
 
-ghost use Rattle.std.specs.{Borrow.Bor, Prelude.{◌⊎◌}};
-ghost use Rattle.std.specs.Prelude.{IfErr, IfOk, List, codes, false, map, pos, string_bytes, ◌≡◌};
+ghost use Rattle.std.specs.Prelude.{IfErr, IfOk, codes, false, map, pos, string_bytes, ◌≡◌, ◌⊎◌};
 ghost use Rattle.argus_cli.specs.CommandLine.{AskNothing, Asks, IsProgram, IsRefused};
-ghost use Rattle.argus_cli.specs.CommandLine.{NamesListings, flag_of, listing_named, option_of};
+ghost use Rattle.argus_cli.specs.CommandLine.{listing_named, option_of};
 ghost use Rattle.argus_cli.specs.Ranges.{KeepsRanges};
 ghost use Rattle.argus_cli.specs.declared.limits.TheConstants.{MAX_PATIENCE, MAX_WORKERS};
 ghost use Rattle.argus_cli.specs.Usage.{EndsWith0Or2};
-ghost use Rattle.clap.specs.Words.{IsPlainArg, Text, kind_of, rule_of};
+ghost use Rattle.clap.specs.Words.{IsPlainArg, kind_of, rule_of};
 ghost use Rattle.clap.specs.declared.builder.value_parser.ValueParser.TheVariants as vp;
 
+use crate::arguments::{flag, list_option, text_option};
 use crate::command::{new_command, usage};
 use crate::limits::{MAX_PATIENCE, MAX_WORKERS};
 use crate::no_options::NoOptions;
@@ -17,7 +17,7 @@ use crate::run_options::Options;
 use crate::words::with_name;
 use argus_guardian::Listing;
 use clap::error::ErrorKind;
-use clap::{Arg, ArgAction, Command, Error, value_parser};
+use clap::{Arg, Command, Error, value_parser};
 use std::alloc::{AllocError, Global};
 
 const ABOUT: &str =
@@ -33,6 +33,13 @@ Exit status:
   3  the script is refused: `line N: KIND` on standard error
   4  out of memory, or a worker couldn't be started
   5  a read or a write failed";
+
+const WORKERS_HELP: &str = "How many workers run the arms of coenters, 8 at most";
+
+const PATIENCE_HELP: &str =
+    "With several workers: how many wake-ups an access waits for its lock, 1000 at most";
+
+const CHECKPOINT_HELP: &str = "Folds the journal into its opening before it is listed";
 
 /// What the words after the program's name ask for. Without any, one worker runs the script, the
 /// bases are listed and no checkpoint is made.
@@ -102,7 +109,7 @@ fn command<'a>(alloc: Global) -> Result<Command<'a>, AllocError>
         .arg(workers_option(alloc))?
         .arg(patience_option(alloc))?
         .arg(list_option(alloc))?
-        .arg(checkpoint_option(alloc))
+        .arg(flag(alloc, "checkpoint", CHECKPOINT_HELP))
 }
 
 fn workers_option<'a>(alloc: Global) -> Arg<'a>
@@ -110,13 +117,9 @@ fn workers_option<'a>(alloc: Global) -> Arg<'a>
         ≡ option_of (codes "workers") (codes "1") (vp.Signed (pos 1) (pos MAX_WORKERS)) }
     ensures plain { IsPlainArg result × (result.global ≡ false) }
 {
-    Arg::new(alloc, "workers")
-        .long("workers")
-        .action(ArgAction::Set)
-        .value_name("N")
+    text_option(alloc, "workers", "N", WORKERS_HELP)
         .value_parser(value_parser!(u32).range(1..=i64::from(MAX_WORKERS)))
         .default_value("1")
-        .help("How many workers run the arms of coenters, 8 at most")
 }
 
 fn patience_option<'a>(alloc: Global) -> Arg<'a>
@@ -124,35 +127,7 @@ fn patience_option<'a>(alloc: Global) -> Arg<'a>
         ≡ option_of (codes "patience") (codes "0") (vp.Signed (pos 0) (pos MAX_PATIENCE)) }
     ensures plain { IsPlainArg result × (result.global ≡ false) }
 {
-    Arg::new(alloc, "patience")
-        .long("patience")
-        .action(ArgAction::Set)
-        .value_name("N")
+    text_option(alloc, "patience", "N", PATIENCE_HELP)
         .value_parser(value_parser!(u32).range(0..=i64::from(MAX_PATIENCE)))
         .default_value("0")
-        .help("With several workers: how many wake-ups an access waits for its lock, 1000 at most")
-}
-
-pub(crate) fn list_option<'a>(alloc: Global) -> Arg<'a>
-    ensures rule { (listings : Bor (List (Bor Text))) × NamesListings listings
-        × (rule_of result ≡ option_of (codes "list") (codes "bases") (vp.Names listings)) }
-    ensures plain { IsPlainArg result × (result.global ≡ false) }
-{
-    Arg::new(alloc, "list")
-        .long("list")
-        .action(ArgAction::Set)
-        .value_name("LISTING")
-        .value_parser(["bases", "stacks", "journal", "audit"].as_slice())
-        .default_value("bases")
-        .help("What is listed after the run")
-}
-
-fn checkpoint_option<'a>(alloc: Global) -> Arg<'a>
-    ensures rule { rule_of result ≡ flag_of (codes "checkpoint") }
-    ensures plain { IsPlainArg result × (result.global ≡ false) }
-{
-    Arg::new(alloc, "checkpoint")
-        .long("checkpoint")
-        .action(ArgAction::SetTrue)
-        .help("Folds the journal into its opening before it is listed")
 }

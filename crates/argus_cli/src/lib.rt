@@ -7,6 +7,7 @@
 //! [`options_for_replay`] reads the command line of the program `replay`.
 #![tactic(auto)]
 
+mod arguments;
 mod cli_fault;
 mod command;
 mod command_line;

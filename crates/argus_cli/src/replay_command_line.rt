@@ -1,20 +1,19 @@
 //! `options_for_replay`: what the command line of a replay asks for.
 
 ghost use Rattle.std.specs.Prelude.{IfErr, IfOk, map, option_map, string_bytes, ◌≡◌, ◌⊎◌};
-ghost use Rattle.std.specs.Prelude.{codes, false};
 ghost use Rattle.argus_cli.specs.ReplayCommandLine.{AskNoReplay, AsksReplay, IsReplayRefused};
-ghost use Rattle.argus_cli.specs.ReplayCommandLine.{IsReplayProgram, text_option_of};
-ghost use Rattle.argus_cli.specs.CommandLine.{flag_of};
+ghost use Rattle.argus_cli.specs.ReplayCommandLine.{IsReplayProgram};
 ghost use Rattle.argus_cli.specs.Usage.{EndsWith0Or2};
-ghost use Rattle.clap.specs.Words.{IsPlainArg, kind_of, rule_of};
+ghost use Rattle.clap.specs.Words.{kind_of};
 
+use crate::arguments::{flag, list_option, text_option};
 use crate::command::{new_command, usage};
-use crate::command_line::{list_option, listing_named};
+use crate::command_line::listing_named;
 use crate::no_options::NoOptions;
 use crate::replay_options::{ReplayOptions, ReplayRequest};
 use crate::words::with_name;
 use clap::error::ErrorKind;
-use clap::{Arg, ArgAction, Command, Error};
+use clap::{Command, Error};
 use std::alloc::{AllocError, Global};
 
 const ABOUT: &str = "Checks a journal's listing from standard input, as `argus --list journal` \
@@ -35,6 +34,10 @@ Exit status:
      `table TABLE, row N: KIND`, `table TABLE, row N, line N: KIND` or `database: KIND`
   4  out of memory
   5  a read or a write failed, or there is no such file";
+
+const PREFIX_HELP: &str = "Lists what a torn or faulty text gives up to its first faulty line";
+
+const DATABASE_HELP: &str = "Reads the log in this SQLite database instead of standard input";
 
 /// What the words after the program's name ask for. Without any, the bases are listed, and the text
 /// has to be a listing to its end.
@@ -94,27 +97,6 @@ fn command<'a>(alloc: Global) -> Result<Command<'a>, AllocError>
 {
     new_command(alloc, "replay", ABOUT, DETAILS)
         .arg(list_option(alloc))?
-        .arg(prefix_option(alloc))?
-        .arg(database_option(alloc))
-}
-
-fn prefix_option<'a>(alloc: Global) -> Arg<'a>
-    ensures rule { rule_of result ≡ flag_of (codes "prefix") }
-    ensures plain { IsPlainArg result × (result.global ≡ false) }
-{
-    Arg::new(alloc, "prefix")
-        .long("prefix")
-        .action(ArgAction::SetTrue)
-        .help("Lists what a torn or faulty text gives up to its first faulty line")
-}
-
-fn database_option<'a>(alloc: Global) -> Arg<'a>
-    ensures rule { rule_of result ≡ text_option_of (codes "database") }
-    ensures plain { IsPlainArg result × (result.global ≡ false) }
-{
-    Arg::new(alloc, "database")
-        .long("database")
-        .action(ArgAction::Set)
-        .value_name("FILE")
-        .help("Reads the log in this SQLite database instead of standard input")
+        .arg(flag(alloc, "prefix", PREFIX_HELP))?
+        .arg(text_option(alloc, "database", "FILE", DATABASE_HELP))
 }

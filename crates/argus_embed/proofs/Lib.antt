@@ -9,3 +9,7 @@ pub mod KeptObjects
 pub mod Quiet
 pub mod Told
 pub mod Listings
+pub mod Steps
+pub mod Handles
+pub mod Boxes
+pub mod HandleCrossing

@@ -10,3 +10,6 @@ pub mod Resuming
 pub mod Listed
 pub mod ReadyEmbedded
 pub mod ParsedCall
+pub mod Held
+pub mod HeldReady
+pub mod HeldParsed

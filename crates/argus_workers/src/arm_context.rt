@@ -39,9 +39,9 @@ impl<N: Sharing, R: Wait + Drop, G: Gate> ArmContext<'_, N, R, G> {
     ) -> Result<(), Stopped> {
         let mut worker = self.worker_at(seat, receipts);
         let mut outcome = Ok(());
-        for (k, (arm, action)) in self.arms.iter().zip(self.begun).enumerate() {
+        for k in 0..self.arms.len() {
             if self.has(number, k) {
-                if self.run_one(&mut worker, arm, *action, k).is_err() {
+                if self.run_one(&mut worker, k).is_err() {
                     outcome = Err(Stopped);
                 }
                 ends.push(worker.receipts.len())?;
@@ -84,17 +84,11 @@ impl<N: Sharing, R: Wait + Drop, G: Gate> ArmContext<'_, N, R, G> {
         }
     }
 
-    // Runs an arm, if it was begun.
-    fn run_one(
-        &self,
-        worker: &mut Worker<N, R>,
-        arm: &Step,
-        action: Option<ActionId>,
-        k: usize,
-    ) -> Result<(), Stopped> {
-        if let (Step::Block(BlockKind::Arm(_), body), Some(action), Ok(arm)) = (
-            arm,
-            action,
+    // Runs arm k, if it was begun.
+    fn run_one(&self, worker: &mut Worker<N, R>, k: usize) -> Result<(), Stopped> {
+        if let (Some(Step::Block(BlockKind::Arm(_), body)), Some(Some(action)), Ok(arm)) = (
+            self.arms.get(k),
+            self.begun.get(k),
             u32::try_from(k),
         ) {
             let done = run_arm(
@@ -103,13 +97,13 @@ impl<N: Sharing, R: Wait + Drop, G: Gate> ArmContext<'_, N, R, G> {
                 self.gate,
                 self.numbers,
                 body,
-                action,
+                *action,
                 arm,
             );
             if done.is_err() {
                 // Others may wait for its locks. If there is no memory for this either, they go on
                 // waiting.
-                let _ = worker.call(Call::Abort(action));
+                let _ = worker.call(Call::Abort(*action));
                 return Err(Stopped);
             }
         }

@@ -8,6 +8,8 @@ use std::alloc::AllocError;
 /// The receipts that one worker's arms leave.
 #[derive(Drop)]
 pub(crate) struct ArmReceipts {
+    /// The worker's number.
+    pub(crate) worker: usize,
     /// The receipts of its first arm, of its second one, and so on.
     pub(crate) receipts: Vec<Receipt, Room>,
     /// For each arm that it has come to, how many receipts there were after it. There is room for
@@ -19,8 +21,9 @@ pub(crate) struct ArmReceipts {
 
 impl ArmReceipts {
     /// Those of a worker that hasn't run, with room for the ends of this many arms.
-    pub(crate) fn new(heap: Heap, arms: usize) -> Result<ArmReceipts, AllocError> {
+    pub(crate) fn new(heap: Heap, worker: usize, arms: usize) -> Result<ArmReceipts, AllocError> {
         Ok(ArmReceipts {
+            worker,
             receipts: Vec::new(heap.room()),
             ends: Vec::with_capacity(heap.room(), arms)?,
             outcome: Err(Stopped),

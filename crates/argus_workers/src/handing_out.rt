@@ -94,8 +94,8 @@ fn rooms_for(
     arms: usize,
 ) -> Result<Vec<ArmReceipts, Room>, AllocError> {
     let mut rooms = Vec::with_capacity(heap.room(), workers)?;
-    for _ in 0..workers {
-        rooms.push(ArmReceipts::new(heap, arms)?)?;
+    for worker in 0..workers {
+        rooms.push(ArmReceipts::new(heap, worker, arms)?)?;
     }
     Ok(rooms)
 }
@@ -106,12 +106,21 @@ fn run_all<N: Sharing + Send + Sync, R: Threads + Wait + Drop + Send + Sync, G: 
     seats: &mut [Seat<N>],
     left: &mut [ArmReceipts],
 ) -> Result<(), AllocError> {
-    let mut jobs = Vec::with_capacity(handed.heap.room(), left.len())?;
-    for (number, (seat, left)) in seats.iter_mut().zip(left.iter_mut()).enumerate() {
-        jobs.push(Job { number, seat, left })?;
-    }
+    let jobs = jobs_for(handed.heap, seats, left)?;
     do_all(handed.rt, handed, jobs);
     Ok(())
+}
+
+fn jobs_for<'a, N: Sharing>(
+    heap: Heap,
+    seats: &'a mut [Seat<N>],
+    left: &'a mut [ArmReceipts],
+) -> Result<Vec<Job<'a, N>, Room>, AllocError> {
+    let mut jobs = Vec::with_capacity(heap.room(), left.len())?;
+    for (seat, left) in seats.iter_mut().zip(left) {
+        jobs.push(Job { seat, left })?;
+    }
+    Ok(jobs)
 }
 
 // Aborts the actions of the arms of workers that weren't started, since others may wait for what
@@ -121,10 +130,10 @@ fn abort_unrun<N: Sharing, R: Wait + Drop, G: Gate>(
     seats: &mut [Seat<N>],
     left: &[ArmReceipts],
 ) {
-    for (number, (seat, left)) in seats.iter_mut().zip(left).enumerate() {
+    for (seat, left) in seats.iter_mut().zip(left) {
         // A worker that ran has come to at least one arm.
         if left.ends.is_empty() {
-            handed.abort_arms(number, seat);
+            handed.abort_arms(left.worker, seat);
         }
     }
 }

@@ -7,10 +7,9 @@ use crate::gate::Gate;
 use argus_sharing::{Seat, Sharing};
 use std::sync::Wait;
 
-/// What one worker gets: its number, its seat, and where its arms' receipts go.
+/// What one worker gets: its seat, and where its arms' receipts go.
 #[derive(Drop)]
 pub(crate) struct Job<'a, N: Sharing> {
-    pub(crate) number: usize,
     pub(crate) seat: &'a mut Seat<N>,
     pub(crate) left: &'a mut ArmReceipts,
 }
@@ -18,8 +17,8 @@ pub(crate) struct Job<'a, N: Sharing> {
 impl<'a, N: Sharing, R: Wait + Drop, G: Gate> Crew<Job<'a, N>> for ArmContext<'_, N, R, G> {
     // Runs one worker's arms, and notes what each left.
     fn work(&self, job: Job<'a, N>) {
-        let Job { number, seat, left } = job;
-        left.outcome = self.run_arms(number, seat, &mut left.receipts, &mut left.ends);
+        let Job { seat, left } = job;
+        left.outcome = self.run_arms(left.worker, seat, &mut left.receipts, &mut left.ends);
         self.shared.lose_caller(self.rt);
     }
 

@@ -121,24 +121,48 @@ impl<N: Sharing + Send + Sync, R: Host> Session<N, R> {
         let (word, rest) = first_word(asked);
         match word {
             "while" => self.wait(rt, setting, rest, out),
+            "run" => self.run(&rt, setting, rest, out),
             "look" => look(setting, &mut self.lookers, rest, out),
             "brief" => self.brief(&rt, rest, out),
             "refresh" => self.refresh(&rt, out),
-            "checkpoint" => self.fold(&rt, out),
+            _ => self.answer_other(&rt, setting, asked, out),
+        }
+    }
+
+    // A row of which nobody waits or looks.
+    fn answer_other(
+        &mut self,
+        rt: &R,
+        setting: Setting<'_>,
+        asked: &str,
+        out: &mut String<Room>,
+    ) -> Result<()> {
+        let (word, rest) = first_word(asked);
+        match word {
+            "checkpoint" => self.fold(rt, out),
             "forge" => forge(setting, &mut self.receipts, rest, out),
             "made" => tell_made(self.seats.as_slice(), rest, out),
-            "drop" => {
-                self.shared = None;
-                tell("done", out)
-            }
-            "run" => self.run(&rt, setting, rest, out),
-            "settle" => self.settle(setting, rest, out),
-            "settle_short" => {
-                self.left_out = self.seats.pop();
-                self.settle(setting, rest, out)
-            }
-            _ => self.call(&rt, setting, asked, out),
+            "drop" | "settle" | "settle_short" => self.end(setting, word, rest, out),
+            _ => self.call(rt, setting, asked, out),
         }
+    }
+
+    // The guardian is dropped, or settled, perhaps without a seat.
+    fn end(
+        &mut self,
+        setting: Setting<'_>,
+        word: &str,
+        rest: &str,
+        out: &mut String<Room>,
+    ) -> Result<()> {
+        if word == "drop" {
+            self.shared = None;
+            return tell("done", out);
+        }
+        if word == "settle_short" {
+            self.left_out = self.seats.pop();
+        }
+        self.settle(setting, rest, out)
     }
 
     // `3 commit a3, abort a4`: seat 1 waits for so many wake-ups, and seat 0 makes the others.

@@ -18,7 +18,7 @@ returns c = IfOk-weaker c.arg-4.result _ _ (λ made last.
     record {
       listings = c.list_option.ensures.rule.0;
       named = c.list_option.ensures.rule.1;
-      app = last.shape (search rules) ∙ ap₂ with_rule app_3 c.checkpoint_option.ensures.rule;
+      app = last.shape (search rules) ∙ ap₂ with_rule app_3 c.flag.ensures.rule;
       plain = added_plain _ _ _ last (added_plain _ _ _ third (added_plain _ _ _ second
           (added_plain _ _ _ first start (search rules)) (search rules)) (search rules)) (search rules);
       no_globals = search rules;

@@ -13,11 +13,11 @@ returns c = IfOk-weaker c.arg-3.result _ _ (λ made last.
     let start : IsPlain c.new_command.result =
     (subst (All IsPlainArg) (sym bare.no_args) (All-nil IsPlainArg), bare.no_groups) in
     let app_1 = first.shape (search rules) ∙ ap₂ with_rule bare.app c.list_option.ensures.rule.2 in
-    let app_2 = second.shape (search rules) ∙ ap₂ with_rule app_1 c.prefix_option.ensures.rule in
+    let app_2 = second.shape (search rules) ∙ ap₂ with_rule app_1 c.flag.ensures.rule in
     record {
       listings = c.list_option.ensures.rule.0;
       named = c.list_option.ensures.rule.1;
-      app = last.shape (search rules) ∙ ap₂ with_rule app_2 c.database_option.ensures.rule;
+      app = last.shape (search rules) ∙ ap₂ with_rule app_2 c.text_option.ensures.rule;
       plain = added_plain _ _ _ last (added_plain _ _ _ second (added_plain _ _ _ first start (search rules))
           (search rules)) (search rules);
       no_globals = search rules;

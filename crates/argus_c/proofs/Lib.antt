@@ -1,4 +1,0 @@
-pub mod Steps
-pub mod Handles
-pub mod Boxes
-pub mod Crossing

@@ -1,0 +1,6 @@
+-- As that of each handle.
+use Rattle.argus_embed.proofs.{Boxes.guardian_handle, Handles.into_raw_box_meets, held.Held.into_raw_box.Statement.statement}
+use Rattle.argus_embed.proofs.held.Held.into_raw_box.Code as code
+
+pub into_raw_box_spec : {M : Type 1} → statement M
+into_raw_box_spec 𝓤 𝓛 𝓜 𝓡 wired = into_raw_box_meets guardian_handle 𝓛 𝓜 𝓡 _ (code.unfolded 𝓤 𝓛.H 𝓜 𝓡 wired)
