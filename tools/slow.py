@@ -6,10 +6,12 @@
     (cd crates/CRATE && rt check --jobs 1)
     tools/slow.py CRATE [MOST]
 
-A check saves each module when it is done, so the time between two files is the later one's. These are seconds on
-the clock: run nothing beside. Where a function is slow, count its locals that own memory: each way out of it drops
-them. One with six parts took 197 seconds, and as six functions 20. What has a large type that isn't generic, such as
-a connection to a database, is handed to a generic function at once: 106 seconds, and then 27.
+A check saves each module when it is done, so the time between two files is the later one's. These are seconds on the
+clock: run nothing beside. Where a function is slow, count its locals that own memory: each way out of it drops them.
+One with six parts took 197 seconds, and as six functions 20. What has a large type that isn't generic, such as a
+connection to a database, is handed to a generic function at once: 106 seconds, and then 27. A method that lends a
+field, and may return early, puts all fields together again at each way out: 30 seconds, and 7 as a function of two
+fields.
 """
 
 import collections

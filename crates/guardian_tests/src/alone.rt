@@ -44,13 +44,14 @@ fn answer_at_last(
     told: &mut String<Room>,
 ) -> Result<()> {
     told.clear();
-    let answered = answer(guardian, setting, asked, told);
-    if !matches!(answered, Err(RowFault::OutOfMemory)) {
-        return answered;
+    match answer(guardian, setting, asked, told) {
+        Err(RowFault::OutOfMemory) => {
+            setting.budget.lift();
+            told.clear();
+            answer(guardian, setting, asked, told)
+        }
+        answered => answered,
     }
-    setting.budget.lift();
-    told.clear();
-    answer(guardian, setting, asked, told)
 }
 
 fn answer(
@@ -67,30 +68,15 @@ fn answer(
             tell("done", out)
         }
         "times" => call_often(guardian, setting, rest, out),
-        "script" => run_alone(guardian, setting, out),
-        "receipts" => tell_shown(setting, out),
-        "base" | "effect" | "first_entry" | "length" | "owner" | "replay" => {
-            tell_journal(guardian, setting, word, rest, out)
-        }
-        _ => answer_call(guardian, setting, asked, out),
-    }
-}
-
-// What is asked of the journal, or follows from it.
-fn tell_journal(
-    guardian: &Guardian,
-    setting: Setting<'_>,
-    word: &str,
-    rest: &str,
-    out: &mut String<Room>,
-) -> Result<()> {
-    match word {
         "length" => tell(guardian.journal().journal().len(), out),
         "first_entry" => tell(guardian.journal().journal().first_entry(), out),
         "base" => tell_base(guardian, rest, out),
         "owner" => tell_owner(guardian, rest, out),
         "effect" => tell_effect(guardian.effect(action(rest)?)?, out),
-        _ => tell_replay(guardian, setting, rest, out),
+        "replay" => tell_replay(guardian, setting, rest, out),
+        "script" => run_alone(guardian, setting, out),
+        "receipts" => tell_shown(setting, out),
+        _ => answer_call(guardian, setting, asked, out),
     }
 }
 

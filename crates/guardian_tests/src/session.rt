@@ -99,16 +99,12 @@ impl<N: Sharing + Send + Sync, R: Host> Session<N, R> {
             return answered;
         }
         setting.budget.lift();
-        if !self.is_as_before(setting.texts)? {
+        let is_new = self.receipts.len() > self.before;
+        if !is_new && !is_seen(setting.texts, &mut self.lookers, self.seen.as_str())? {
             return Err(RowFault::Changed);
         }
         told.clear();
         self.answer(rt, setting, asked, told)
-    }
-
-    fn is_as_before(&mut self, texts: Heap) -> Result<bool> {
-        let seen = sight(texts, &mut self.lookers)?;
-        Ok(seen.as_str() == self.seen.as_str() || self.receipts.len() > self.before)
     }
 
     fn answer(
@@ -120,39 +116,33 @@ impl<N: Sharing + Send + Sync, R: Host> Session<N, R> {
     ) -> Result<()> {
         let (word, rest) = first_word(asked);
         match word {
-            "while" => self.wait(rt, setting, rest, out),
-            "run" => self.run(&rt, setting, rest, out),
             "look" => look(setting, &mut self.lookers, rest, out),
-            "brief" => self.brief(&rt, rest, out),
-            "refresh" => self.refresh(&rt, out),
-            _ => self.answer_other(&rt, setting, asked, out),
-        }
-    }
-
-    // A row of which nobody waits or looks.
-    fn answer_other(
-        &mut self,
-        rt: &R,
-        setting: Setting<'_>,
-        asked: &str,
-        out: &mut String<Room>,
-    ) -> Result<()> {
-        let (word, rest) = first_word(asked);
-        match word {
-            "checkpoint" => self.fold(rt, out),
             "forge" => forge(setting, &mut self.receipts, rest, out),
             "made" => tell_made(self.seats.as_slice(), rest, out),
             "drop" | "settle" | "settle_short" => self.end(setting, word, rest, out),
-            _ => self.call(rt, setting, asked, out),
+            _ => match &self.shared {
+                Some(shared) => answer_by(
+                    &rt,
+                    setting,
+                    shared,
+                    &mut self.seats,
+                    &mut self.lookers,
+                    &mut self.receipts,
+                    self.before,
+                    asked,
+                    out,
+                ),
+                None => Err(RowFault::NotSpelled),
+            },
         }
     }
 
-    // The guardian is dropped, or settled, perhaps without a seat.
+    // The guardian is dropped; or it is settled with all receipts, or those of these numbers, perhaps without a seat.
     fn end(
         &mut self,
         setting: Setting<'_>,
         word: &str,
-        rest: &str,
+        numbers: &str,
         out: &mut String<Room>,
     ) -> Result<()> {
         if word == "drop" {
@@ -162,105 +152,21 @@ impl<N: Sharing + Send + Sync, R: Host> Session<N, R> {
         if word == "settle_short" {
             self.left_out = self.seats.pop();
         }
-        self.settle(setting, rest, out)
-    }
-
-    // `3 commit a3, abort a4`: seat 1 waits for so many wake-ups, and seat 0 makes the others.
-    fn wait(
-        &mut self,
-        rt: R,
-        setting: Setting<'_>,
-        text: &str,
-        out: &mut String<Room>,
-    ) -> Result<()> {
-        let (patience, others) = first_word(text);
-        let patience = patience.parse::<u32>()?;
-        let shared = self.shared.as_ref().ok_or(RowFault::NotSpelled)?;
-        let [first, second] = self.seats.as_mut_slice() else {
-            return Err(RowFault::NotSpelled);
-        };
-        let receipts = &mut self.receipts;
-        let waited = wait_meanwhile(
-            &rt, setting, shared, first, second, patience, others, receipts,
-        );
-        push_told(waited?, receipts, out)
-    }
-
-    // All seats run the test's script: `2 1000`.
-    fn run(
-        &mut self,
-        rt: &R,
-        setting: Setting<'_>,
-        words: &str,
-        out: &mut String<Room>,
-    ) -> Result<()> {
-        let shared = self.shared.as_ref().ok_or(RowFault::NotSpelled)?;
-        let seats = self.seats.as_mut_slice();
-        match run_by_seats(rt, setting, shared, seats, words)? {
-            Ok(report) => self.keep_report(report, out),
-            Err(fault) => tell(fault, out),
-        }
-    }
-
-    fn keep_report(&mut self, report: RunReport, out: &mut String<Room>) -> Result<()> {
-        let RunReport { outcomes, receipts } = report;
-        self.receipts = receipts;
-        tell_run(self.receipts.as_slice(), outcomes.as_slice(), out)
-    }
-
-    // What is pending is published, which the looker of this number sees then.
-    fn brief(&mut self, rt: &R, number: &str, out: &mut String<Room>) -> Result<()> {
-        let shared = self.shared.as_ref().ok_or(RowFault::NotSpelled)?;
-        let looker = self.lookers.get_mut(number.parse::<usize>()?);
-        tell_shown(shared.brief(rt, looker.ok_or(RowFault::NotSpelled)?), out)
-    }
-
-    // What is pending is published.
-    fn refresh(&self, rt: &R, out: &mut String<Room>) -> Result<()> {
-        let shared = self.shared.as_ref().ok_or(RowFault::NotSpelled)?;
-        tell_shown(shared.refresh(rt), out)
-    }
-
-    fn fold(&self, rt: &R, out: &mut String<Room>) -> Result<()> {
-        let shared = self.shared.as_ref().ok_or(RowFault::NotSpelled)?;
-        tell_checkpoint(shared.checkpoint(rt), out)
-    }
-
-    // `seat 1 CALL`, or by seat 0.
-    fn call(
-        &mut self,
-        rt: &R,
-        setting: Setting<'_>,
-        asked: &str,
-        out: &mut String<Room>,
-    ) -> Result<()> {
-        let (number, text) = match asked.strip_prefix("seat ") {
-            Some(rest) => first_word(rest),
-            None => ("0", asked),
-        };
-        let shared = self.shared.as_ref().ok_or(RowFault::NotSpelled)?;
-        let seat = self.seats.get_mut(number.parse::<usize>()?);
-        let seat = seat.ok_or(RowFault::NotSpelled)?;
-        let receipts = &mut self.receipts;
-        call_by_seat(rt, setting, shared, seat, text, self.before, receipts, out)
-    }
-
-    // With all receipts, or those of these numbers.
-    fn settle(&mut self, setting: Setting<'_>, words: &str, out: &mut String<Room>) -> Result<()> {
-        copy_named(
+        name_receipts(
             setting.texts,
             self.receipts.as_slice(),
-            words,
+            numbers,
             &mut self.named,
         )?;
-        let shared = self.shared.take().ok_or(RowFault::NotSpelled)?;
-        let seats = replace(&mut self.seats, Vec::new(setting.texts.room()));
-        let settled = if words == "all" {
-            shared.settle(seats, self.receipts.as_slice())
-        } else {
-            shared.settle(seats, self.named.as_slice())
+        self.settle(setting.texts, out)
+    }
+
+    fn settle(&mut self, texts: Heap, out: &mut String<Room>) -> Result<()> {
+        let Some(shared) = self.shared.take() else {
+            return Err(RowFault::NotSpelled);
         };
-        match settled {
+        let seats = replace(&mut self.seats, Vec::new(texts.room()));
+        match shared.settle(seats, self.named.as_slice()) {
             Ok(guardian) => {
                 self.guardian = guardian;
                 tell("done", out)
@@ -291,6 +197,109 @@ impl<N: Sharing + Send + Sync, R: Host> Session<N, R> {
     }
 }
 
+// A row that the shared guardian answers.
+fn answer_by<N: Sharing + Send + Sync, R: Host>(
+    rt: &R,
+    setting: Setting<'_>,
+    shared: &Shared<N, R>,
+    seats: &mut Vec<Seat<N>, Room>,
+    lookers: &mut Vec<Looker<N>, Room>,
+    receipts: &mut Vec<Receipt, Room>,
+    before: usize,
+    asked: &str,
+    out: &mut String<Room>,
+) -> Result<()> {
+    let (word, rest) = first_word(asked);
+    match word {
+        "while" => wait(rt, setting, shared, seats, receipts, rest, out),
+        "run" => run(rt, setting, shared, seats, receipts, rest, out),
+        "brief" => brief(rt, shared, lookers, rest, out),
+        "refresh" => tell_shown(shared.refresh(rt), out),
+        "checkpoint" => tell_checkpoint(shared.checkpoint(rt), out),
+        _ => call(rt, setting, shared, seats, receipts, before, asked, out),
+    }
+}
+
+// `3 commit a3, abort a4`: seat 1 waits for so many wake-ups, and seat 0 makes the others.
+fn wait<N: Sharing + Send + Sync, R: Host>(
+    rt: &R,
+    setting: Setting<'_>,
+    shared: &Shared<N, R>,
+    seats: &mut [Seat<N>],
+    receipts: &mut Vec<Receipt, Room>,
+    text: &str,
+    out: &mut String<Room>,
+) -> Result<()> {
+    let (patience, others) = first_word(text);
+    let patience = patience.parse::<u32>()?;
+    let [first, second] = seats else {
+        return Err(RowFault::NotSpelled);
+    };
+    let waited = wait_meanwhile(
+        rt, setting, shared, first, second, patience, others, receipts,
+    );
+    push_told(waited?, receipts, out)
+}
+
+// All seats run the test's script: `2 1000`.
+fn run<N: Sharing + Send + Sync, R: Host>(
+    rt: &R,
+    setting: Setting<'_>,
+    shared: &Shared<N, R>,
+    seats: &mut [Seat<N>],
+    receipts: &mut Vec<Receipt, Room>,
+    words: &str,
+    out: &mut String<Room>,
+) -> Result<()> {
+    match run_by_seats(rt, setting, shared, seats, words)? {
+        Ok(report) => keep_report(report, receipts, out),
+        Err(fault) => tell(fault, out),
+    }
+}
+
+fn keep_report(
+    report: RunReport,
+    kept: &mut Vec<Receipt, Room>,
+    out: &mut String<Room>,
+) -> Result<()> {
+    let RunReport { outcomes, receipts } = report;
+    *kept = receipts;
+    tell_run(kept.as_slice(), outcomes.as_slice(), out)
+}
+
+// What is pending is published, which the looker of this number sees then.
+fn brief<N: Sharing, R: Host>(
+    rt: &R,
+    shared: &Shared<N, R>,
+    lookers: &mut Vec<Looker<N>, Room>,
+    number: &str,
+    out: &mut String<Room>,
+) -> Result<()> {
+    let looker = lookers.get_mut(number.parse::<usize>()?);
+    let looker = looker.ok_or(RowFault::NotSpelled)?;
+    tell_shown(shared.brief(rt, looker), out)
+}
+
+// `seat 1 CALL`, or by seat 0.
+fn call<N: Sharing, R: Host>(
+    rt: &R,
+    setting: Setting<'_>,
+    shared: &Shared<N, R>,
+    seats: &mut Vec<Seat<N>, Room>,
+    receipts: &mut Vec<Receipt, Room>,
+    before: usize,
+    asked: &str,
+    out: &mut String<Room>,
+) -> Result<()> {
+    let (number, text) = match asked.strip_prefix("seat ") {
+        Some(rest) => first_word(rest),
+        None => ("0", asked),
+    };
+    let seat = seats.get_mut(number.parse::<usize>()?);
+    let seat = seat.ok_or(RowFault::NotSpelled)?;
+    call_by_seat(rt, setting, shared, seat, text, before, receipts, out)
+}
+
 // What all lookers see of the first three objects.
 fn sight<N: Sharing>(texts: Heap, lookers: &mut Vec<Looker<N>, Room>) -> Result<String<Room>> {
     let mut out = String::new(texts.room());
@@ -298,6 +307,16 @@ fn sight<N: Sharing>(texts: Heap, lookers: &mut Vec<Looker<N>, Room>) -> Result<
         tell_look(looker, texts, &[ObjId(0), ObjId(1), ObjId(2)], &mut out)?;
     }
     Ok(out)
+}
+
+// Whether they see this.
+fn is_seen<N: Sharing>(
+    texts: Heap,
+    lookers: &mut Vec<Looker<N>, Room>,
+    before: &str,
+) -> Result<bool> {
+    let seen = sight(texts, lookers)?;
+    Ok(seen.as_str() == before)
 }
 
 // `0 o0 o7`
@@ -361,20 +380,41 @@ fn tell_made<N: Sharing>(seats: &[Seat<N>], number: &str, out: &mut String<Room>
     tell(seat.ok_or(RowFault::NotSpelled)?.made(), out)
 }
 
-// Replaces the copies by those of the receipts of these numbers; by none for `all`.
-fn copy_named(
+// Replaces the copies by those of the receipts of these numbers, or of all.
+fn name_receipts(
     texts: Heap,
     receipts: &[Receipt],
-    words: &str,
+    numbers: &str,
     named: &mut Vec<Receipt, Room>,
 ) -> Result<()> {
     named.clear();
-    for word in words.split(' ') {
-        if word != "all" && !word.is_empty() {
-            let receipt = receipts.get(word.parse::<usize>()?);
-            let receipt = receipt.ok_or(RowFault::NotSpelled)?;
-            named.push(receipt_of(texts, receipt.at, &receipt.call, &receipt.reply)?)?;
-        }
+    match numbers {
+        "all" => copy_all(texts, receipts, named),
+        "" => Ok(()),
+        _ => copy_numbered(texts, receipts, numbers, named),
+    }
+}
+
+fn copy_all(texts: Heap, receipts: &[Receipt], named: &mut Vec<Receipt, Room>) -> Result<()> {
+    for receipt in receipts {
+        named.push(copy_of(texts, receipt)?)?;
     }
     Ok(())
+}
+
+fn copy_numbered(
+    texts: Heap,
+    receipts: &[Receipt],
+    numbers: &str,
+    named: &mut Vec<Receipt, Room>,
+) -> Result<()> {
+    for number in numbers.split(' ') {
+        let receipt = receipts.get(number.parse::<usize>()?);
+        named.push(copy_of(texts, receipt.ok_or(RowFault::NotSpelled)?)?)?;
+    }
+    Ok(())
+}
+
+fn copy_of(texts: Heap, receipt: &Receipt) -> Result<Receipt> {
+    receipt_of(texts, receipt.at, &receipt.call, &receipt.reply)
 }
