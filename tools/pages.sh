@@ -2,8 +2,8 @@
 # SPDX-License-Identifier: MIT
 # Looks at the pages of the repository, in a second: what they point to is there, they are no longer than
 # tools/budgets.txt allows, the picture of the design is as its script draws it, README.md and the pages of
-# tools/shown.py show the texts of files that are run, and the version is the same wherever it stands. Each line that
-# is printed but the count of links is a fault.
+# tools/shown.py show the texts of files that are run, the version is the same wherever it stands, and the unproved
+# library for C has each export. Each line that is printed but the count of links is a fault.
 #
 #   tools/pages.sh              the status tells whether all is well
 #   tools/pages.sh --write      first draws the picture anew
@@ -25,4 +25,5 @@ tools/design.py --check || status=1
 tools/readme.py --texts || status=1
 tools/shown.py || status=1
 tools/version.py || status=1
+tools/unproved.py --check || status=1
 exit "$status"
