@@ -4,7 +4,7 @@
 #
 #   tools/kept.sh CRATE..
 #
-# A CRATE is a program, or argus_c, whose build is libargus_c.a.
+# A CRATE is a program, a library with a function `run`, which becomes one, or argus_c, whose build is libargus_c.a.
 set -eu
 
 top=$(CDPATH='' cd -- "$(dirname -- "$0")/.." && pwd)

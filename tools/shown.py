@@ -24,7 +24,7 @@ SHOWN = [
         "rust",
         4,
         "crates/guardian_tests/src/two_threads.rt",
-        "crates/argus_store_example/src/main.rt",
+        "crates/argus_store_example/src/lib.rt",
     ),
 ]
 HEAD = re.compile(r"^//! ?", re.MULTILINE)

@@ -1,7 +1,8 @@
 """A log that Rattle's own store writes: that of argus_store_example, a bank. Its allocations and its files' calls fail in
 turn, and what a power cut may leave of its files is rebuilt.
 
-REPLAY and ARGUS_STORE_EXAMPLE name the programs, or .ci/run left them. tools/programs/failing.c stands before the C
+REPLAY names the program, or .ci/run left it; ARGUS_STORE_EXAMPLE names the bank, which tools/kept.sh compiles.
+tools/programs/failing.c stands before the C
 library's calls, so it needs a compiler. With ARGUS_EACH_CALL set each allocation fails in turn, and a bit of each byte
 is flipped, which takes an hour; else one of so many.
 """
@@ -26,7 +27,7 @@ from power_cuts import Disk, events_of, make_tracer  # noqa: E402
 
 from argus_guardian.log import Log  # noqa: E402
 
-BANK = os.environ.get("ARGUS_STORE_EXAMPLE", str(TOP / "crates/argus_store_example/out/argus_store_example"))
+BANK = os.environ.get("ARGUS_STORE_EXAMPLE", "")
 FAILING = TOP / "tools/programs/failing.c"
 SUFFIXES = "", "-wal"
 

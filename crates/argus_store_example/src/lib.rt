@@ -27,7 +27,8 @@ const ACCOUNT: ObjId = ObjId(0);
 // After so many payments the log begins again with what the account holds.
 const FOLDED: usize = 3;
 
-fn main(rt: HostRuntime) -> Result<(), KeepError> {
+/// Pays once, and prints how much is kept: what the program does.
+pub fn run(rt: HostRuntime) -> Result<(), KeepError> {
     let heap = Heap::new(rt.alloc()).map_err(|_| KeepError::OutOfMemory)?;
     make_log(&rt)?;
     print_payment(&rt, heap)
