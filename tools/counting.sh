@@ -34,6 +34,15 @@ count_status() {
     fi
 }
 
+# What guardian_tests prints, as this program of it: count_tests PROGRAM
+count_tests() {
+    count_status "guardian_tests:" prints_as_stored "$1"
+}
+
+prints_as_stored() {
+    (cd crates/guardian_tests/data && "$1") | diff - crates/guardian_tests/stdout
+}
+
 # The rows of the programs, and the launchers, over the programs that are proved, or that ARGUS and REPLAY name.
 count_programs() {
     tools/programs/run.py > "$room/programs" 2>&1 || true

@@ -5,6 +5,6 @@ use std::sync::Wait;
 use std::thread::Threads;
 
 /// What tests with threads need of the runtime.
-pub(crate) trait Host: Threads + Wait + Print + Copy + Drop + Send + Sync {}
+pub trait Host: Threads + Wait + Print + Copy + Drop + Send + Sync {}
 
 impl<R: Threads + Wait + Print + Copy + Drop + Send + Sync> Host for R {}

@@ -35,7 +35,8 @@ use std::rt::Files;
 use testing::test_rows;
 use two_threads::print_payments;
 
-fn main(rt: HostRuntime) -> ExitCode {
+/// Runs all tests. `FAILURE`: a row didn't get its answer, or a stream failed.
+pub fn run(rt: impl Host + Files + AllocGlobal) -> ExitCode {
     match test_all(rt) {
         Ok(true) => ExitCode::SUCCESS,
         Ok(false) => ExitCode::FAILURE,
