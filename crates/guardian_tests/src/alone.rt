@@ -5,13 +5,12 @@ use crate::row::{asked_in, compare, is_row};
 use crate::row_fault::{Result, RowFault};
 use crate::scripts::{run_alone, tell_shown};
 use crate::setting::Setting;
-use crate::telling::{tell, tell_checkpoint, tell_content, tell_effect, tell_reply};
+use crate::telling::{tell, tell_checkpoint, tell_content, tell_derived, tell_effect, tell_reply};
 use crate::word_reading::{action, first_word, object};
 use argus_guardian::resume_laws::calls_are_well_formed;
 use argus_guardian::{FailStop, Guardian, Resumed, replay_base, replay_for, resume};
 use argus_journal::owner_of;
 use argus_values::Room;
-use std::fmt::Write;
 use std::io::Print;
 
 // A guardian with as many entries before it as there can be.
@@ -109,7 +108,7 @@ fn tell_base(guardian: &Guardian, word: &str, out: &mut String<Room>) -> Result<
 
 fn tell_owner(guardian: &Guardian, word: &str, out: &mut String<Room>) -> Result<()> {
     match owner_of(guardian.journal().journal(), action(word)?) {
-        Some(owner) => Ok(write!(out, " {owner:?}")?),
+        Some(owner) => tell_derived(owner, out),
         None => tell("unbegun", out),
     }
 }

@@ -23,6 +23,11 @@ pub(crate) fn call_of(heap: Heap, text: &str) -> Result<Call> {
     Ok(replace(&mut entry.call, Call::BeginTop))
 }
 
+/// Whether the text spells a call.
+pub(crate) fn is_call(heap: Heap, text: &str) -> bool {
+    call_of(heap, text).is_ok()
+}
+
 /// The reply that is spelled: a number as `o0` or `a0`, `refused Over`, or an answer as `val 5`.
 pub(crate) fn reply_of(heap: Heap, text: &str) -> Result<Reply> {
     let line = format!(in heap.room(); "0 begin_top -> {text}")?;

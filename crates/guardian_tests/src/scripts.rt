@@ -6,7 +6,7 @@ use crate::call_reading::read_receipt;
 use crate::host::Host;
 use crate::row_fault::Result;
 use crate::setting::Setting;
-use crate::telling::{tell, tell_reply};
+use crate::telling::{tell, tell_derived, tell_reply};
 use crate::turns::Turns;
 use crate::word_reading::first_word;
 use argus_commands::{
@@ -14,7 +14,6 @@ use argus_commands::{
 };
 use argus_guardian::{Guardian, Receipt, Seat, Shared, Sharing};
 use argus_values::Room;
-use std::fmt::Write;
 use std::str::from_utf8;
 
 /// Runs the test's script on the guardian, and tells the lines that the run writes.
@@ -118,7 +117,7 @@ pub(crate) fn tell_run(
 
 fn tell_arms(outcomes: &[ArmOutcome], out: &mut String<Room>) -> Result<()> {
     for outcome in outcomes {
-        write!(out, " {:?}", outcome.ended)?;
+        tell_derived(outcome.ended, out)?;
     }
     Ok(())
 }

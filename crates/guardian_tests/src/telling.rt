@@ -4,11 +4,16 @@ use crate::row_fault::{Result, RowFault};
 use argus_guardian::CheckpointError;
 use argus_journal::{Reply, write_reply};
 use argus_values::{Content, ObjId, Room, write_content};
-use std::fmt::{Display, Write};
+use std::fmt::{Debug, Display, Write};
 
 /// Adds a word or a number.
 pub(crate) fn tell(item: impl Display + Drop, out: &mut String<Room>) -> Result<()> {
     Ok(write!(out, " {item}")?)
+}
+
+/// Adds a value as its derived form spells it.
+pub(crate) fn tell_derived(item: impl Debug + Drop, out: &mut String<Room>) -> Result<()> {
+    Ok(write!(out, " {item:?}")?)
 }
 
 /// Adds a content, or `absent`.
@@ -36,7 +41,7 @@ pub(crate) fn tell_checkpoint(
     match outcome {
         Ok(()) => tell("done", out),
         Err(CheckpointError::Memory) => Err(RowFault::OutOfMemory),
-        Err(error) => Ok(write!(out, " {error:?}")?),
+        Err(error) => tell_derived(error, out),
     }
 }
 

@@ -1,7 +1,7 @@
 //! Runs the tests of rows.
 
 use crate::alone::answer_rows;
-use crate::call_reading::call_of;
+use crate::call_reading::is_call;
 use crate::host::Host;
 use crate::row::asked_in;
 use crate::row_fault::{Result, RowFault};
@@ -116,7 +116,7 @@ fn rows_of(texts: Heap, before: &str, lines: &str, by_seat: Option<&str>) -> Res
     };
     let mut rows = String::from_str(texts.room(), "share 1 0\n")?;
     for row in before.lines().chain(lines.lines()) {
-        if call_of(texts, asked_in(row)).is_ok() {
+        if is_call(texts, asked_in(row)) {
             writeln!(rows, "{word}{row}")?;
         }
     }

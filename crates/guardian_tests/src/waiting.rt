@@ -1,6 +1,6 @@
 //! A call that waits in one thread, and what another thread does meanwhile.
 
-use crate::call_reading::call_of;
+use crate::calling::make_call;
 use crate::each_call::make_each;
 use crate::host::Host;
 use crate::row_fault::Result;
@@ -87,8 +87,8 @@ fn make_others<N: Sharing, R: Wait + Drop>(
         return Ok(());
     }
     for call in others.split(", ") {
-        let call = call_of(setting.heap, call)?;
-        receipts.push(shared.call(rt, seat, call)?)?;
+        let receipt = make_call(rt, setting, shared, seat, call)?;
+        receipts.push(receipt)?;
         take_turns(YIELDS);
     }
     Ok(())
