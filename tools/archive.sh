@@ -57,7 +57,7 @@ for crate in $below; do
     words+=(-L "dependency=$top/crates/$crate/out/rlib")
 done
 words+=(--antt-project "$kit/rattle/logic/antt-project.json" --logic-built "$kit/logic_built")
-words+=(--links "$name=" --crate-type staticlib --toolchain "$kit/toolchain" --backend llvm --jobs "$(nproc)")
+words+=(--links "$name=" --crate-type staticlib --toolchain "$kit/toolchain" --backend llvm)
 
 mkdir -p out
 "$kit/bin/rattle" build "${words[@]}" -o "out/lib$name.a"
