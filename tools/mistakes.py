@@ -11,9 +11,10 @@ without what is answered by hand in proofs/, since those answers name places tha
 an open goal counts only if its clause is proved without these answers where the mistake isn't made.
 
 It stands on what `.ci/run` or `rt lib` has just proved: the crates' libraries in crates/NAME/out. Edits of
-one crate that change different functions are tried together, in a copy of the crate that gets all of them. Of
-each other function only the contract is left: its proof is a hole and its body a loop without an end, since a
-check also reads what a function calls, and what that calls. One check then proves the functions with edits.
+one crate are tried together, in a copy of the crate that gets all of them; a second edit of a function changes a
+copy of that, of another name. Of each other function only the contract is left: its proof is a hole and its body a
+loop without an end, since a check also reads what a function calls, and what that calls. One check then proves the
+functions with edits.
 An edit is refused if its function isn't proved, and not only for a hole.
 
 With `--beside`, `rt ci` is still at work and writes LOG; the file ENDED is there once it has ended. The edits of
@@ -80,7 +81,8 @@ class Function(NamedTuple):
     path: str
     start: int
     end: int
-    is_bound: bool  # a method of a trait, or one of a circle: it is proved, and not held by a hole
+    is_bound: bool  # a method of a trait, or one of a circle: it can't be copied
+    is_proved: bool  # such a one, or one that may call itself: it is proved, and not held by a hole
 
 
 def read_edits():
@@ -118,7 +120,8 @@ def functions_of(text, module, homes):
             end = next((it for it in range(at, len(lines)) if lines[it] in ends), len(lines) - 1)
             calls_itself = any(re.search(rf"\b{head[2]}\(", it) for it in lines[at + 1 : end])
             path = [*homes.get(owner, module), owner, head[2]] if owner else [*module, head[2]]
-            found.append(Function("::".join(path), at, end, is_trait or in_circle or calls_itself))
+            is_bound = is_trait or in_circle
+            found.append(Function("::".join(path), at, end, is_bound, is_bound or calls_itself))
             in_circle = False
     return found
 
@@ -155,21 +158,31 @@ def changed_by(edit, crate):
 
 
 def groups_of(edits, crate, most):
-    """Lists of edits, each with its functions, no two of which are of one function; and why others can't be tried."""
+    """Lists of edits, each with its functions' paths and where the edit is made; and why others can't be tried.
+
+    That is the function, or a copy of it, where another edit of the group changes the function.
+    """
     groups, refused = [], {}
     for edit in edits:
         try:
-            functions = {it.path for it in changed_by(edit, crate)}
+            functions = changed_by(edit, crate)
         except NotTried as why:
             refused[edit] = str(why)
             continue
-        free = (it for it in groups if len(it) < most and not any(functions & other for other in it.values()))
-        group = next(free, None)
-        if group is None:
-            group = {}
+        may_copy = len(functions) == len(edit.files) == 1 and not functions[0].is_bound
+        for group in [it for it in groups if len(it) < most] + [{}]:
+            before = [path for places in group.values() for path in places]
+            if may_copy or not any(it.path in before for it in functions):
+                break
+        if not group:
             groups.append(group)
-        group[edit] = functions
+        group[edit] = {it.path: copy_name(it.path, before.count(it.path)) for it in functions}
     return groups, refused
+
+
+def copy_name(path, number):
+    """The path of a function's copy of this number; that of number 0 is the function itself."""
+    return f"{path}_copy_{number}" if number else path
 
 
 def take_answers(room, path):
@@ -212,13 +225,39 @@ def hold(room, crate, is_held):
             (folder / "Proof.antt").write_text(hole, encoding="utf-8")
 
 
+def changed(text, pairs):
+    """The text with an edit: what it looks for comes first in the function itself, before its copies."""
+    for old, new in pairs:
+        text = text.replace(old, new, 1)
+    return text
+
+
+def add_copy(edit, path, place, room):
+    """Puts a copy of a function with the edit behind it, with copies of its answers."""
+    [(file, pairs)] = edit.files.items()
+    texts, homes = sources_of(room)
+    function = next(it for it in functions_of(texts[file], module_of(file), homes) if it.path == path)
+    lines, names = texts[file].splitlines(), [it.rpartition("::")[2] for it in (path, place)]
+    copied = "\n".join(lines[function.start : function.end + 1]).replace(f"fn {names[0]}", f"fn {names[1]}", 1)
+    lines.insert(function.end + 1, changed(copied, pairs))
+    (room / file).write_text("\n".join(lines) + "\n", encoding="utf-8")
+    before, after = (f".proofs.{it.replace('::', '.')}." for it in (path, place))
+    for answers in (room / "proofs" / Path(*path.split("::"))).glob("*.antt"):
+        copy = room / "proofs" / Path(*place.split("::")) / answers.name
+        copy.parent.mkdir(parents=True, exist_ok=True)
+        copy.write_text(answers.read_text(encoding="utf-8").replace(before, after), encoding="utf-8")
+
+
 def apply(group, room):
-    for edit in group:
+    """Makes the edits of a group: first those of copies, while the functions are as they were."""
+    is_copied = {edit: [*places] != [*places.values()] for edit, places in group.items()}
+    for edit in filter(is_copied.get, group):
+        [(path, place)] = group[edit].items()
+        add_copy(edit, path, place, room)
+    for edit in (it for it in group if not is_copied[it]):
         for file, pairs in edit.files.items():
             text = (room / file).read_text(encoding="utf-8")
-            for old, new in pairs:
-                text = text.replace(old, new)
-            (room / file).write_text(text, encoding="utf-8")
+            (room / file).write_text(changed(text, pairs), encoding="utf-8")
 
 
 class Checker:
@@ -282,7 +321,7 @@ def is_bare(edit):
 
 def prepare(crate, room, asked, bare):
     """Holds all but these functions, some of which lose their answers."""
-    hold(room, crate, lambda it: it.path not in asked and not it.is_bound)
+    hold(room, crate, lambda it: it.path not in asked and not it.is_proved)
     for path in bare:
         take_answers(room, path)
 
@@ -303,14 +342,14 @@ def answers(checker, crate, group, usual):
     """What a check of the crate with the edits of a group comes to, by edit; without them these clauses are open."""
     with tempfile.TemporaryDirectory(prefix="mistakes-") as made:
         room = copy_of(crate, made)
-        asked = sorted({path for functions in group.values() for path in functions})
-        prepare(crate, room, asked, {path for edit, paths in group.items() if is_bare(edit) for path in paths})
+        paths = sorted({path for places in group.values() for path in places})
+        prepare(crate, room, paths, {path for edit, places in group.items() if is_bare(edit) for path in places})
         apply(group, room)
-        lines = checker.lines(crate, room, asked)
+        lines = checker.lines(crate, room, sorted({it for places in group.values() for it in places.values()}))
     if not any(it.startswith("only=") for it in lines):
         said = next((it for it in lines if re.search("error[:[]", it)), lines[-1] if lines else "nothing was said")
         return {edit: f"NOT TRIED: {said[:160]}" for edit in group}
-    return {edit: verdict(f"{crate}::", functions, usual, lines) for edit, functions in group.items()}
+    return {edit: verdict(f"{crate}::", places, usual, lines) for edit, places in group.items()}
 
 
 def told_of(prefix, functions, lines):
@@ -323,16 +362,17 @@ def told_of(prefix, functions, lines):
     return told
 
 
-def verdict(prefix, functions, usual, lines):
-    """What the check says of an edit of these functions, of which these clauses are open without it, too."""
-    told = told_of(prefix, functions, lines)
-    if set(told) != functions:
-        return f"NOT TRIED: nothing was said of {', '.join(sorted(functions - set(told)))}"
-    own = ("src/", "specs/", *(f"proofs/{it.replace('::', '/')}/" for it in functions))
+def verdict(prefix, places, usual, lines):
+    """What the check says of an edit in these places, by function, of which these clauses are open without it, too."""
+    made = set(places.values())
+    told = told_of(prefix, made, lines)
+    if set(told) != made:
+        return f"NOT TRIED: nothing was said of {', '.join(sorted(made - set(told)))}"
+    own = ("src/", "specs/", *(f"proofs/{it.replace('::', '/')}/" for it in made))
     unread = next((it for it in lines if it.removeprefix("./").startswith(own) and UNREAD.search(it)), None)
     if unread:
         return f"NOT TRIED: {unread[:160]}"
-    goals = [(path, goal) for path, rest in told.items() for goal in goals_of(path, rest)]
+    goals = [(path, goal) for path, place in places.items() for goal in goals_of(place, told[place])]
     goals = [goal for path, goal in goals if clause_of(goal) not in usual.get(path, ())]
     return f"refused at {', '.join(goals)}" if goals else f"NOT REFUSED: {'; '.join(told.values())[:160]}"
 
